@@ -1,0 +1,114 @@
+-- The small graphs of 01 that are marked to be proved, as one table: with the own roster, the saturation, the plain summary, the map and
+-- both clique lists of each.
+-- Assumes nothing.
+use Prim.Native.Nat.{ℕ}
+use mathlib.Core.Bool.{Bool, true, false, _&&_}
+use mathlib.Core.List.{List, [], _∷_}
+use lib.Dec.{eqb}
+use Rattle.model.specs.Codes.{absent, rdfs}
+use Rattle.model.specs.Lists.{all}
+use Rattle.model.specs.Triples.{triples, flat}
+use Rattle.model.specs.Roster.{ownRoster}
+use Rattle.model.specs.Saturation.{saturation}
+use Rattle.model.specs.Cliques.{source, target, cliques}
+use Rattle.model.specs.Classes.{mapOf}
+use Rattle.model.specs.Summary.{summary}
+
+unfoldable pub equal : List ℕ → List ℕ → Bool
+equal [] [] = true
+equal [] (y ∷ ys) = false
+equal (x ∷ xs) [] = false
+equal (x ∷ xs) (y ∷ ys) = eqb x y && equal xs ys
+
+-- a graph: the size, the table, and what is to come out with its own roster
+pub record Example : Type 0 where
+  pub size : ℕ
+  pub table : List ℕ
+  pub saturated : List ℕ
+  pub plain : List ℕ
+  pub representatives : List ℕ
+  pub sources : List ℕ
+  pub targets : List ℕ
+
+unfoldable pub right : Example → Bool
+right g =
+    let ts = triples (g .table) in
+    let own = ownRoster rdfs (g .size) ts in
+    equal (flat (saturation rdfs (g .size) ts)) (g .saturated)
+    && (equal (flat (summary rdfs own ts)) (g .plain)
+    && (equal (mapOf rdfs own ts) (g .representatives)
+    && (equal (cliques rdfs own source ts) (g .sources)
+    && equal (cliques rdfs own target ts) (g .targets))))
+
+unfoldable pub allRight : List Example → Bool
+allRight gs = all right gs
+
+abbrev pub graph : ℕ → List ℕ → List ℕ → List ℕ → List ℕ → List ℕ → List ℕ → Example
+graph n t s p m a b = record { size = n; table = t; saturated = s; plain = p; representatives = m; sources = a; targets = b }
+
+abbrev pub graphs : List Example
+graphs =
+    {- no triples -}
+    graph 5 []
+    []
+    []
+    (absent ∷ absent ∷ absent ∷ absent ∷ absent ∷ [])
+    (absent ∷ absent ∷ absent ∷ absent ∷ absent ∷ [])
+    (absent ∷ absent ∷ absent ∷ absent ∷ absent ∷ [])
+    ∷ {- the six triples of the site form -}
+    graph 14 (5 ∷ 2 ∷ 7 ∷ 6 ∷ 2 ∷ 7 ∷ 7 ∷ 3 ∷ 8 ∷ 8 ∷ 1 ∷ 9 ∷ 10 ∷ 5 ∷ 12 ∷ 11 ∷ 6 ∷ 13 ∷ [])
+    (5 ∷ 2 ∷ 7 ∷ 6 ∷ 2 ∷ 7 ∷ 7 ∷ 3 ∷ 8 ∷ 8 ∷ 1 ∷ 9 ∷ 10 ∷ 0 ∷ 8 ∷ 10 ∷ 0 ∷ 9 ∷ 10 ∷ 5 ∷ 12 ∷ 10 ∷ 7 ∷ 12 ∷ 11 ∷ 0 ∷ 8 ∷ 11 ∷ 0 ∷ 9 ∷ 11 ∷ 6 ∷ 13 ∷ 11 ∷ 7 ∷ 13 ∷ [])
+    (5 ∷ 2 ∷ 7 ∷ 6 ∷ 2 ∷ 7 ∷ 7 ∷ 3 ∷ 8 ∷ 8 ∷ 1 ∷ 9 ∷ 10 ∷ 5 ∷ 12 ∷ 11 ∷ 6 ∷ 13 ∷ [])
+    (absent ∷ absent ∷ absent ∷ absent ∷ absent ∷ 5 ∷ 6 ∷ 7 ∷ 8 ∷ 9 ∷ 10 ∷ 11 ∷ 12 ∷ 13 ∷ [])
+    (absent ∷ absent ∷ absent ∷ absent ∷ absent ∷ 5 ∷ 6 ∷ absent ∷ absent ∷ absent ∷ absent ∷ absent ∷ absent ∷ absent ∷ [])
+    (absent ∷ absent ∷ absent ∷ absent ∷ absent ∷ 5 ∷ 6 ∷ absent ∷ absent ∷ absent ∷ absent ∷ absent ∷ absent ∷ absent ∷ [])
+    ∷ {- a loop -}
+    graph 11 (10 ∷ 5 ∷ 10 ∷ [])
+    (10 ∷ 5 ∷ 10 ∷ [])
+    (10 ∷ 5 ∷ 10 ∷ [])
+    (absent ∷ absent ∷ absent ∷ absent ∷ absent ∷ absent ∷ absent ∷ absent ∷ absent ∷ absent ∷ 10 ∷ [])
+    (absent ∷ absent ∷ absent ∷ absent ∷ absent ∷ 5 ∷ absent ∷ absent ∷ absent ∷ absent ∷ absent ∷ [])
+    (absent ∷ absent ∷ absent ∷ absent ∷ absent ∷ 5 ∷ absent ∷ absent ∷ absent ∷ absent ∷ absent ∷ [])
+    ∷ {- a chain -}
+    graph 13 (10 ∷ 5 ∷ 11 ∷ 11 ∷ 5 ∷ 12 ∷ [])
+    (10 ∷ 5 ∷ 11 ∷ 11 ∷ 5 ∷ 12 ∷ [])
+    (10 ∷ 5 ∷ 10 ∷ [])
+    (absent ∷ absent ∷ absent ∷ absent ∷ absent ∷ absent ∷ absent ∷ absent ∷ absent ∷ absent ∷ 10 ∷ 10 ∷ 10 ∷ [])
+    (absent ∷ absent ∷ absent ∷ absent ∷ absent ∷ 5 ∷ absent ∷ absent ∷ absent ∷ absent ∷ absent ∷ absent ∷ absent ∷ [])
+    (absent ∷ absent ∷ absent ∷ absent ∷ absent ∷ 5 ∷ absent ∷ absent ∷ absent ∷ absent ∷ absent ∷ absent ∷ absent ∷ [])
+    ∷ {- types only -}
+    graph 12 (10 ∷ 0 ∷ 8 ∷ 11 ∷ 0 ∷ 9 ∷ [])
+    (10 ∷ 0 ∷ 8 ∷ 11 ∷ 0 ∷ 9 ∷ [])
+    (10 ∷ 0 ∷ 8 ∷ 10 ∷ 0 ∷ 9 ∷ [])
+    (absent ∷ absent ∷ absent ∷ absent ∷ absent ∷ absent ∷ absent ∷ absent ∷ 8 ∷ 9 ∷ 10 ∷ 10 ∷ [])
+    (absent ∷ absent ∷ absent ∷ absent ∷ absent ∷ absent ∷ absent ∷ absent ∷ absent ∷ absent ∷ absent ∷ absent ∷ [])
+    (absent ∷ absent ∷ absent ∷ absent ∷ absent ∷ absent ∷ absent ∷ absent ∷ absent ∷ absent ∷ absent ∷ absent ∷ [])
+    ∷ {- types with a data triple -}
+    graph 13 (10 ∷ 0 ∷ 8 ∷ 11 ∷ 0 ∷ 9 ∷ 11 ∷ 5 ∷ 12 ∷ [])
+    (10 ∷ 0 ∷ 8 ∷ 11 ∷ 0 ∷ 9 ∷ 11 ∷ 5 ∷ 12 ∷ [])
+    (10 ∷ 0 ∷ 8 ∷ 11 ∷ 0 ∷ 9 ∷ 11 ∷ 5 ∷ 12 ∷ [])
+    (absent ∷ absent ∷ absent ∷ absent ∷ absent ∷ absent ∷ absent ∷ absent ∷ 8 ∷ 9 ∷ 10 ∷ 11 ∷ 12 ∷ [])
+    (absent ∷ absent ∷ absent ∷ absent ∷ absent ∷ 5 ∷ absent ∷ absent ∷ absent ∷ absent ∷ absent ∷ absent ∷ absent ∷ [])
+    (absent ∷ absent ∷ absent ∷ absent ∷ absent ∷ 5 ∷ absent ∷ absent ∷ absent ∷ absent ∷ absent ∷ absent ∷ absent ∷ [])
+    ∷ {- one source clique -}
+    graph 24 (10 ∷ 5 ∷ 20 ∷ 10 ∷ 6 ∷ 21 ∷ 11 ∷ 6 ∷ 22 ∷ 11 ∷ 7 ∷ 23 ∷ [])
+    (10 ∷ 5 ∷ 20 ∷ 10 ∷ 6 ∷ 21 ∷ 11 ∷ 6 ∷ 22 ∷ 11 ∷ 7 ∷ 23 ∷ [])
+    (10 ∷ 5 ∷ 20 ∷ 10 ∷ 6 ∷ 21 ∷ 10 ∷ 7 ∷ 23 ∷ [])
+    (absent ∷ absent ∷ absent ∷ absent ∷ absent ∷ absent ∷ absent ∷ absent ∷ absent ∷ absent ∷ 10 ∷ 10 ∷ absent ∷ absent ∷ absent ∷ absent ∷ absent ∷ absent ∷ absent ∷ absent ∷ 20 ∷ 21 ∷ 21 ∷ 23 ∷ [])
+    (absent ∷ absent ∷ absent ∷ absent ∷ absent ∷ 5 ∷ 5 ∷ 5 ∷ absent ∷ absent ∷ absent ∷ absent ∷ absent ∷ absent ∷ absent ∷ absent ∷ absent ∷ absent ∷ absent ∷ absent ∷ absent ∷ absent ∷ absent ∷ absent ∷ [])
+    (absent ∷ absent ∷ absent ∷ absent ∷ absent ∷ 5 ∷ 6 ∷ 7 ∷ absent ∷ absent ∷ absent ∷ absent ∷ absent ∷ absent ∷ absent ∷ absent ∷ absent ∷ absent ∷ absent ∷ absent ∷ absent ∷ absent ∷ absent ∷ absent ∷ [])
+    ∷ {- a class links nothing -}
+    graph 14 (10 ∷ 0 ∷ 8 ∷ 8 ∷ 5 ∷ 12 ∷ 8 ∷ 6 ∷ 13 ∷ [])
+    (8 ∷ 5 ∷ 12 ∷ 8 ∷ 6 ∷ 13 ∷ 10 ∷ 0 ∷ 8 ∷ [])
+    (8 ∷ 5 ∷ 12 ∷ 8 ∷ 6 ∷ 13 ∷ 10 ∷ 0 ∷ 8 ∷ [])
+    (absent ∷ absent ∷ absent ∷ absent ∷ absent ∷ absent ∷ absent ∷ absent ∷ 8 ∷ absent ∷ 10 ∷ absent ∷ 12 ∷ 13 ∷ [])
+    (absent ∷ absent ∷ absent ∷ absent ∷ absent ∷ absent ∷ absent ∷ absent ∷ absent ∷ absent ∷ absent ∷ absent ∷ absent ∷ absent ∷ [])
+    (absent ∷ absent ∷ absent ∷ absent ∷ absent ∷ 5 ∷ 6 ∷ absent ∷ absent ∷ absent ∷ absent ∷ absent ∷ absent ∷ absent ∷ [])
+    ∷ {- a cycle of subclasses -}
+    graph 10 (8 ∷ 1 ∷ 9 ∷ 9 ∷ 1 ∷ 8 ∷ [])
+    (8 ∷ 1 ∷ 8 ∷ 8 ∷ 1 ∷ 9 ∷ 9 ∷ 1 ∷ 8 ∷ 9 ∷ 1 ∷ 9 ∷ [])
+    (8 ∷ 1 ∷ 9 ∷ 9 ∷ 1 ∷ 8 ∷ [])
+    (absent ∷ absent ∷ absent ∷ absent ∷ absent ∷ absent ∷ absent ∷ absent ∷ 8 ∷ 9 ∷ [])
+    (absent ∷ absent ∷ absent ∷ absent ∷ absent ∷ absent ∷ absent ∷ absent ∷ absent ∷ absent ∷ [])
+    (absent ∷ absent ∷ absent ∷ absent ∷ absent ∷ absent ∷ absent ∷ absent ∷ absent ∷ absent ∷ [])
+    ∷ []

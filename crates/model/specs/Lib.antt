@@ -1,0 +1,12 @@
+pub mod Codes
+pub mod Lists
+pub mod Triples
+pub mod Roster
+pub mod Rules
+pub mod Saturation
+pub mod Partition
+pub mod Cliques
+pub mod Classes
+pub mod Summary
+pub mod Graphs
+pub mod Outcomes

@@ -1,0 +1,57 @@
+-- What a call returns and what it leaves in the lists that it was lent: 01, "Refused calls, in order of checking".
+-- Assumes nothing.
+use Prim.Native.Nat.{ℕ, _%_, _*_}
+use mathlib.Core.Bool.{Bool, cond, not, _||_}
+use mathlib.Core.List.{List, [], _∷_}
+use lib.Dec.{eqb, ltb}
+use lib.ListN.{length}
+use Rattle.model.specs.declared.Refusal.{Refusal}
+use Rattle.model.specs.declared.Refusal.the-variants.{Length, Roster, Code, Cover, Slots, Query, Full, Form}
+use Rattle.model.specs.Codes.{smallestSize, largestSize, mostTriples}
+use Rattle.model.specs.Lists.{zeros}
+
+-- a refusal by its number in 01's table, or the values that an accepted call returns
+pub data Outcome (A : Type 0) : Type 0 where
+  refused : ℕ → Outcome A
+  accepted : A → Outcome A
+
+-- 01's number of each refusal that the code can give
+unfoldable pub number : Refusal → ℕ
+number Length = 1
+number Roster = 2
+number Code = 3
+number Cover = 4
+number Slots = 5
+number Query = 6
+number Full = 7
+number Form = 8
+
+-- 01: "Each check runs over all its input before the next"
+pub record Check : Type 0 where
+  pub returns : ℕ
+  pub fails : Bool
+
+abbrev pub check : ℕ → Bool → Check
+check r b = record { returns = r; fails = b }
+
+-- the first check that fails decides; where none does, the call is accepted
+unfoldable pub checked : {A : Type 0} → List Check → A → Outcome A
+checked [] x = accepted x
+checked (c ∷ cs) x = cond (c .fails) (refused (c .returns)) (checked cs x)
+
+-- 01, the column "left behind": after 5 and 8 the lists are zero, after any other refusal nothing is altered
+unfoldable pub zeroed : ℕ → Bool
+zeroed r = eqb r 5 || eqb r 8
+
+-- what a call leaves in a list: its contents at the call, and what it holds where the call is accepted
+unfoldable pub left : {A : Type 0} → Outcome A → List ℕ → List ℕ → List ℕ
+left (refused r) entry after = cond (zeroed r) (zeros (length entry)) entry
+left (accepted x) entry after = after
+
+-- 01, refusal 1: N is not 5 to 65,536
+unfoldable pub wrongSize : ℕ → Bool
+wrongSize n = ltb n smallestSize || ltb largestSize n
+
+-- 01, refusal 1: "a table, or list looked up in, not a multiple of 3 or too long"
+unfoldable pub wrongLength : ℕ → Bool
+wrongLength l = not (eqb (l % 3) 0) || ltb (3 * mostTriples) l

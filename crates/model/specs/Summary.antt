@@ -1,0 +1,24 @@
+-- The summary.
+-- 01: "The summary is the set of triples with each subject and object replaced by its representative"
+-- Assumes nothing.
+use Prim.Native.Nat.{ℕ}
+use mathlib.Core.Path.{_≡_}
+use mathlib.Core.List.{List, map}
+use Rattle.model.specs.declared.Triple.{Triple}
+use Rattle.model.specs.Codes.{Vocabulary}
+use Rattle.model.specs.Triples.{triple, sorted}
+use Rattle.model.specs.Partition.{label}
+use Rattle.model.specs.Cliques.{Graph}
+use Rattle.model.specs.Classes.{mapOf}
+
+-- a triple with its two ends replaced
+abbrev pub moved : (ℕ → ℕ) → Triple → Triple
+moved f t = triple (f (t .subject)) (t .property) (f (t .object))
+
+-- the set of images
+abbrev pub Image : (ℕ → ℕ) → Graph → Graph
+Image f G t = (u : Triple) × G u × (t ≡ moved f u)
+
+-- the summary of the table as it is given: 01's "plain summary"
+unfoldable pub summary : Vocabulary → List ℕ → List Triple → List Triple
+summary v roster ts = sorted (map (moved (label (mapOf v roster ts))) ts)

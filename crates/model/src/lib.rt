@@ -1,0 +1,54 @@
+// The types that every crate shares, and the constant rule table.
+// What they mean is defined in specs/.
+
+ghost use mathlib.Core.Path.{_≡_};
+ghost use Rattle.model.specs.Rules.{rules};
+
+// Subject, property, object.
+pub struct Triple {
+    pub subject: u32,
+    pub property: u32,
+    pub object: u32,
+}
+
+// One inference rule: the kind of its first premise and of its second (5: any), the two places of the premises that hold one
+// code, and the places that give the conclusion's subject, property and object.
+// Places: 0, 1, 2 are the first premise's subject, property, object; 3, 4, 5 the second's; 6 stands for the code of type.
+pub struct Rule {
+    pub first: u32,
+    pub second: u32,
+    pub left: u32,
+    pub right: u32,
+    pub subject: u32,
+    pub property: u32,
+    pub object: u32,
+}
+
+// The six rules of RDFS that saturation walks: rdfs2, rdfs3, rdfs5, rdfs7, rdfs9, rdfs11.
+pub const RULES: [Rule; 6] = [
+    Rule { first: 3, second: 5, left: 0, right: 4, subject: 3, property: 6, object: 2 },
+    Rule { first: 4, second: 5, left: 0, right: 4, subject: 5, property: 6, object: 2 },
+    Rule { first: 2, second: 2, left: 2, right: 3, subject: 0, property: 1, object: 5 },
+    Rule { first: 2, second: 5, left: 0, right: 4, subject: 3, property: 2, object: 5 },
+    Rule { first: 1, second: 0, left: 0, right: 5, subject: 3, property: 4, object: 2 },
+    Rule { first: 1, second: 1, left: 2, right: 3, subject: 0, property: 1, object: 5 },
+];
+
+// The table as a value: the constant is the definitions' table.
+pub fn rule_table() -> [Rule; 6]
+    ensures { λ r. ⌜ r ≡ rules ⌝ }
+{
+    RULES
+}
+
+// The eight refusals; `number` in specs/Outcomes.antt gives the number of each.
+pub enum Refusal {
+    Length,
+    Roster,
+    Code,
+    Cover,
+    Slots,
+    Query,
+    Full,
+    Form,
+}
