@@ -13,13 +13,7 @@ use Rattle.model.specs.Lists.{collect, when, tabulate}
 use Rattle.model.specs.Triples.{isData}
 use Rattle.model.specs.Roster.{unmarked, isNode}
 use Rattle.model.specs.Partition.{label, pairs, merged}
-use Rattle.model.specs.Cliques.{Graph, Side, source, target, Has, Clique, cliques}
-
--- 01: "A node is a code that is subject or object of a triple."
-pub record Node (G : Graph) (n : ℕ) : Type 0 where
-  pub by : Triple
-  pub held : G by
-  pub end : (by .subject ≡ n) ⊎ (by .object ≡ n)
+use Rattle.model.specs.Cliques.{Graph, Side, source, target, end, Node, Has, Clique, cliques}
 
 -- a data node with its two cliques, each by its smallest property, or absent
 pub record Placed : Type 0 where
@@ -40,15 +34,15 @@ module _ (v : Vocabulary) (roster : List ℕ) where
     pub node : Node G n
     pub plain : unmarked roster n ≡ true
 
-  abbrev pub NoClique : Graph → Side → ℕ → Type 0
-  NoClique G e n = (p : ℕ) → Has v roster G e n p → ⊥
+  -- no clique at all, neither source nor target
+  abbrev pub NoClique : Graph → ℕ → Type 0
+  NoClique G n = (e : Side) (p : ℕ) → Has v roster G e n p → ⊥
 
   -- 01: "Data nodes are weakly equivalent if they have the same non-empty source or target clique, or both have no clique at all,
   -- or a chain of such pairs joins them."
   pub data Weakly (G : Graph) : ℕ → ℕ → Type 0 where
-    same-source : {n m p q : ℕ} → Has v roster G source n p → Has v roster G source m q → Clique v roster G source p q → Weakly G n m
-    same-target : {n m p q : ℕ} → Has v roster G target n p → Has v roster G target m q → Clique v roster G target p q → Weakly G n m
-    no-clique : {n m : ℕ} → DataNode G n → DataNode G m → NoClique G source n → NoClique G target n → NoClique G source m → NoClique G target m → Weakly G n m
+    same-clique : {e : Side} {n m p q : ℕ} → Has v roster G e n p → Has v roster G e m q → Clique v roster G e p q → Weakly G n m
+    no-clique : {n m : ℕ} → DataNode G n → DataNode G m → NoClique G n → NoClique G m → Weakly G n m
     chain : {n k m : ℕ} → Weakly G n k → Weakly G k m → Weakly G n m
 
   -- 01: "A representative is the smallest code of its class; a marked node represents itself."
@@ -65,7 +59,7 @@ module _ (v : Vocabulary) (roster : List ℕ) where
   -- the clique of a data node at a side: that of its first data triple there
   unfoldable pub cliqueOf : Side → List ℕ → ℕ → List Triple → ℕ
   cliqueOf e cs c [] = absent
-  cliqueOf e cs c (t ∷ ts) = cond (isData v t && eqb (e t) c) (label cs (t .property)) (cliqueOf e cs c ts)
+  cliqueOf e cs c (t ∷ ts) = cond (isData v t && eqb (end e t) c) (label cs (t .property)) (cliqueOf e cs c ts)
 
   -- the data nodes with their cliques, given the two clique lists
   abbrev pub placedAt : List ℕ → List ℕ → List Triple → ℕ → Placed

@@ -19,24 +19,29 @@ use Rattle.model.specs.Partition.{pairs, merged}
 abbrev pub Graph : Type 1
 Graph = Triple → Type 0
 
--- an end of a triple: its subject for sources, its object for targets
-abbrev pub Side : Type 0
-Side = Triple → ℕ
+-- the two sides: a triple's end is its subject at the source side and its object at the target side
+pub data Side : Type 0 where
+  source target : Side
 
-abbrev pub source : Side
-source t = t .subject
+abbrev pub end : Side → Triple → ℕ
+end source t = t .subject
+end target t = t .object
 
-abbrev pub target : Side
-target t = t .object
+-- 01: "A node is a code that is subject or object of a triple."
+pub record Node (G : Graph) (n : ℕ) : Type 0 where
+  pub by : Triple
+  pub held : G by
+  pub side : Side
+  pub is-end : end side by ≡ n
 
 module _ (v : Vocabulary) (roster : List ℕ) where
-  -- the property has the data node at this side, in a data triple
+  -- the data node n is at this side of a data triple with the property p
   pub record Has (G : Graph) (e : Side) (n p : ℕ) : Type 0 where
     pub by : Triple
     pub held : G by
     pub is-data : isData v by ≡ true
-    pub end : e by ≡ n
-    pub data-node : unmarked roster n ≡ true
+    pub is-end : end e by ≡ n
+    pub plain : unmarked roster n ≡ true
     pub property : by .property ≡ p
 
   -- "share a source if some data node is subject of both in data triples"
@@ -53,10 +58,10 @@ module _ (v : Vocabulary) (roster : List ℕ) where
   -- ── computed ──
   -- a data triple with a data node at this side
   unfoldable pub links : Side → Triple → Bool
-  links e t = isData v t && unmarked roster (e t)
+  links e t = isData v t && unmarked roster (end e t)
 
   unfoldable pub shares : Side → Triple → Triple → Bool
-  shares e a b = links e a && (links e b && eqb (e a) (e b))
+  shares e a b = links e a && (links e b && eqb (end e a) (end e b))
 
   unfoldable pub hasClique : Side → List Triple → ℕ → Bool
   hasClique e ts p = any (λ t. eqb p (t .property) && links e t) ts

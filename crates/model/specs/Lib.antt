@@ -1,6 +1,7 @@
 pub mod Codes
 pub mod Lists
 pub mod Triples
+pub mod Order
 pub mod Roster
 pub mod Rules
 pub mod Saturation

@@ -22,31 +22,36 @@ isProperty m = eqb m 2 || eqb m 3
 unfoldable pub unmarked : List ℕ → ℕ → Bool
 unmarked roster c = eqb (mark roster c) 0
 
-module _ (v : Vocabulary) where
-  -- 01's table of roles, a line for each kind: type, subclass, subproperty, domain, range, and data after them.
-  -- The column "class":
-  unfoldable pub classRoles : Triple → List ℕ
-  classRoles t =
-      getD
-      ((t .object ∷ [])
-      ∷ (t .subject ∷ t .object ∷ [])
-      ∷ []
-      ∷ (t .object ∷ [])
-      ∷ (t .object ∷ [])
-      ∷ [])
-      (kind v (t .property)) []
+-- 01's table of roles: for each kind, type, subclass, subproperty, domain, range, and data after them, the codes that stand in a
+-- class role and in a property role
+abbrev pub classRow : Triple → ℕ → List ℕ
+classRow t k =
+    getD
+    ((t .object ∷ [])
+    ∷ (t .subject ∷ t .object ∷ [])
+    ∷ []
+    ∷ (t .object ∷ [])
+    ∷ (t .object ∷ [])
+    ∷ [])
+    k []
 
-  -- The column "property":
+abbrev pub propertyRow : Triple → ℕ → List ℕ
+propertyRow t k =
+    getD
+    ([]
+    ∷ []
+    ∷ (t .subject ∷ t .object ∷ [])
+    ∷ (t .subject ∷ [])
+    ∷ (t .subject ∷ [])
+    ∷ [])
+    k (t .property ∷ [])
+
+module _ (v : Vocabulary) where
+  unfoldable pub classRoles : Triple → List ℕ
+  classRoles t = classRow t (kind v (t .property))
+
   unfoldable pub propertyRoles : Triple → List ℕ
-  propertyRoles t =
-      getD
-      ([]
-      ∷ []
-      ∷ (t .subject ∷ t .object ∷ [])
-      ∷ (t .subject ∷ [])
-      ∷ (t .subject ∷ [])
-      ∷ [])
-      (kind v (t .property)) (t .property ∷ [])
+  propertyRoles t = propertyRow t (kind v (t .property))
 
   -- 01: "It covers a table if each role below is marked, and may mark more."
   unfoldable pub coversTriple : List ℕ → Triple → Bool

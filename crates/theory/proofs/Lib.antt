@@ -1,0 +1,9 @@
+pub mod Tests
+pub mod Lists
+pub mod Order
+pub mod Covered
+pub mod RuleLaws
+pub mod Saturated
+pub mod Weak
+pub mod Images
+pub mod Quotient
