@@ -7,3 +7,5 @@ pub mod Saturated
 pub mod Weak
 pub mod Images
 pub mod Quotient
+pub mod Partition
+pub mod Mapped
