@@ -11,3 +11,5 @@ pub mod Classes
 pub mod Summary
 pub mod Graphs
 pub mod Outcomes
+pub mod Calls
+pub mod Intake

@@ -1,14 +1,15 @@
 -- What a call returns and what it leaves in the lists that it was lent: 01, "Refused calls, in order of checking".
 -- Assumes nothing.
 use Prim.Native.Nat.{ℕ, _%_, _*_}
-use mathlib.Core.Bool.{Bool, cond, not, _||_}
+use mathlib.Core.Path.{_≡_}
+use mathlib.Core.Bool.{Bool, false, cond, not, _||_}
 use mathlib.Core.List.{List, [], _∷_}
 use lib.Dec.{eqb, ltb}
 use lib.ListN.{length}
 use Rattle.model.specs.declared.Refusal.{Refusal}
 use Rattle.model.specs.declared.Refusal.the-variants.{Length, Roster, Code, Cover, Slots, Query, Full, Form}
 use Rattle.model.specs.Codes.{smallestSize, largestSize, mostTriples}
-use Rattle.model.specs.Lists.{zeros}
+use Rattle.model.specs.Lists.{any, zeros}
 
 -- a refusal by its number in 01's table, or the values that an accepted call returns
 pub data Outcome (A : Type 0) : Type 0 where
@@ -34,10 +35,18 @@ pub record Check : Type 0 where
 abbrev pub check : ℕ → Bool → Check
 check r b = record { returns = r; fails = b }
 
--- the first check that fails decides; where none does, the call is accepted
-unfoldable pub checked : {A : Type 0} → List Check → A → Outcome A
-checked [] x = accepted x
-checked (c ∷ cs) x = cond (c .fails) (refused (c .returns)) (checked cs x)
+-- the first check that fails decides; where none does, the rest of the call
+unfoldable pub decided : {A : Type 0} → List Check → Outcome A → Outcome A
+decided [] rest = rest
+decided (c ∷ cs) rest = cond (c .fails) (refused (c .returns)) (decided cs rest)
+
+-- a call that is accepted where no check fails
+abbrev pub checked : {A : Type 0} → List Check → A → Outcome A
+checked cs x = decided cs (accepted x)
+
+-- no check fails
+abbrev pub Passes : List Check → Type 0
+Passes cs = any (λ (c : Check). c .fails) cs ≡ false
 
 -- 01, the column "left behind": after 5 and 8 the lists are zero, after any other refusal nothing is altered
 unfoldable pub zeroed : ℕ → Bool
@@ -55,3 +64,7 @@ wrongSize n = ltb n smallestSize || ltb largestSize n
 -- 01, refusal 1: "a table, or list looked up in, not a multiple of 3 or too long"
 unfoldable pub wrongLength : ℕ → Bool
 wrongLength l = not (eqb (l % 3) 0) || ltb (3 * mostTriples) l
+
+-- 01: summarise "borrows a work list of 2 × N u32"
+unfoldable pub wrongWork : ℕ → ℕ → Bool
+wrongWork n work = not (eqb work (2 * n))

@@ -9,3 +9,6 @@ pub mod Images
 pub mod Quotient
 pub mod Partition
 pub mod Mapped
+pub mod Summaries
+pub mod OwnRoster
+pub mod Accepted

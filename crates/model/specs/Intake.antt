@@ -1,0 +1,138 @@
+-- The intake: the plain intake that 01 sets it against, and what opening and feeding return and leave.
+-- Assumes nothing.
+use Prim.Native.Nat.{ℕ, _≤_}
+use mathlib.Core.Path.{_≡_}
+use mathlib.Core.Bool.{Bool, true, false, cond, not, _||_}
+use mathlib.Core.List.{List, [], _∷_}
+use lib.Dec.{eqb, leb, ltb}
+use lib.ListN.{length, replicate}
+use Rattle.model.specs.declared.Triple.{Triple}
+use Rattle.model.specs.Codes.{Vocabulary, absent, mostTriples}
+use Rattle.model.specs.Lists.{any, zeros}
+use Rattle.model.specs.Triples.{slots, holds, insert, listed}
+use Rattle.model.specs.Order.{Rising}
+use Rattle.model.specs.Roster.{coversTriple, covers, wrongRoster, wrongTriple, wrongCodes}
+use Rattle.model.specs.Classes.{mapOf}
+use Rattle.model.specs.Summary.{summary}
+use Rattle.model.specs.Outcomes.{Outcome, refused, accepted, Check, check, decided, checked, left, wrongSize, wrongWork}
+
+-- what is lent to every call of an intake: two triple lists, the map and the record of two counts
+pub record State : Type 0 where
+  pub triples : List ℕ
+  pub summary : List ℕ
+  pub map : List ℕ
+  pub held : ℕ
+  pub summarised : ℕ
+
+-- 01: "each feed's triple and work list length"
+pub record Feed : Type 0 where
+  pub triple : Triple
+  pub work : ℕ
+
+module _ (v : Vocabulary) (roster : List ℕ) where
+  -- ── the plain intake ──
+  -- 01: "the triple in H, "not new"; H as large as the slots, 7; else the triple joins H, "new""
+  -- (accepted true is "new", accepted false is "not new"; H is kept in rising order)
+  unfoldable pub judged : ℕ → List Triple → Triple → Outcome Bool
+  judged room H t = cond (holds t H) (accepted false) (cond (leb room (length H)) (refused 7) (accepted true))
+
+  -- 01: "A feed is judged in this order: work list length not 2 × N, answer 1; a code not below N, or reserved as subject or object, 3;
+  -- the triple not covered, 4; .."
+  unfoldable pub answer : ℕ → List Triple → Feed → Outcome Bool
+  answer room H f =
+      decided
+      (check 1 (wrongWork (length roster) (f .work))
+      ∷ check 3 (wrongTriple v (length roster) (f .triple))
+      ∷ check 4 (not (coversTriple v roster (f .triple)))
+      ∷ [])
+      (judged room H (f .triple))
+
+  -- 01: "else the triple joins H, .. Every other feed leaves H alone."
+  unfoldable pub joins : Outcome Bool → Triple → List Triple → List Triple
+  joins (refused r) t H = H
+  joins (accepted false) t H = H
+  joins (accepted true) t H = insert t H
+
+  -- the answers to a list of feeds, and what is held after it
+  unfoldable pub answers : ℕ → List Feed → List Triple → List (Outcome Bool)
+  answers room [] H = []
+  answers room (f ∷ fs) H = answer room H f ∷ answers room fs (joins (answer room H f) (f .triple) H)
+
+  unfoldable pub heldAfter : ℕ → List Feed → List Triple → List Triple
+  heldAfter room [] H = H
+  heldAfter room (f ∷ fs) H = heldAfter room fs (joins (answer room H f) (f .triple) H)
+
+  -- ── the lists and the record of an intake that holds H ──
+  -- 01: "the triple list is H in rising order, the summary list H's summary, both zero beyond, the map is H's, and the record's two
+  -- counts are the sizes of H and of its summary"
+  unfoldable pub stateOf : ℕ → ℕ → List Triple → State
+  stateOf a b H =
+      record {
+        triples = listed a H;
+        summary = listed b (summary v roster H);
+        map = mapOf v roster H;
+        held = length H;
+        summarised = length (summary v roster H);
+      }
+
+  -- 01, refusal 1: "intake lists of unequal slots or over 1,048,576", and N and the map's size
+  unfoldable pub wrongLists : State → Bool
+  wrongLists s =
+      wrongSize (length roster)
+      || (not (eqb (length (s .map)) (length roster))
+      || (not (eqb (slots (s .triples)) (slots (s .summary))) || ltb mostTriples (slots (s .triples))))
+
+  -- ── opening: 01, "opening 1 and 2" ──
+  unfoldable pub openOutcome : State → Outcome (Unit {0})
+  openOutcome s = checked (check 1 (wrongLists s) ∷ check 2 (wrongRoster v roster) ∷ []) tt
+
+  -- 01: "Opening zeroes the lists and makes the map absent"
+  unfoldable pub opened : State → State
+  opened s =
+      record {
+        triples = zeros (length (s .triples));
+        summary = zeros (length (s .summary));
+        map = replicate (length (s .map)) absent;
+        held = 0;
+        summarised = 0;
+      }
+
+  unfoldable pub openLeaves : Outcome (Unit {0}) → State → State
+  openLeaves (refused r) s = s
+  openLeaves (accepted x) s = opened s
+
+  -- ── feeding: 01, "feeding 1 to 4 and 7" ──
+  unfoldable pub feedChecks : State → Feed → List Check
+  feedChecks s f =
+      check 1 (wrongLists s || wrongWork (length roster) (f .work))
+      ∷ check 2 (wrongRoster v roster)
+      ∷ check 3 (wrongTriple v (length roster) (f .triple))
+      ∷ check 4 (not (coversTriple v roster (f .triple)))
+      ∷ []
+
+  -- the state is the one that opening with this roster and feeds leave, and it holds H
+  pub record Valid (s : State) (H : List Triple) : Type 0 where
+    pub rising : Rising H
+    pub fits : length H ≤ slots (s .triples)
+    pub codes : wrongCodes v (length roster) H ≡ false
+    pub covered : covers v roster H ≡ true
+    pub is-state : s ≡ stateOf (length (s .triples)) (length (s .summary)) H
+
+  -- What a feed promises: of its outcome, the state after it and the work list after it.
+  pub record Fed (s : State) (work : List ℕ) (t : Triple) (outcome : Outcome Bool) (after : State) (work-after : List ℕ) : Type 0 where
+    -- the refusals 1 to 4, for every state
+    pub refuses : any (λ (c : Check). c .fails) (feedChecks s (record { triple = t; work = length work })) ≡ true
+        → (outcome ≡ decided (feedChecks s (record { triple = t; work = length work })) (accepted false)) × (after ≡ s) × (work-after ≡ work)
+    -- everything else for a state that holds H
+    pub steps : (H : List Triple) → Valid s H
+        → (outcome ≡ decided (feedChecks s (record { triple = t; work = length work })) (judged (slots (s .triples)) H t))
+        × (after ≡ stateOf (length (s .triples)) (length (s .summary)) (joins outcome t H))
+        × (work-after ≡ left outcome work (zeros (length work)))
+    -- for an altered state: lists keep their lengths
+    pub kept : (length (after .triples) ≡ length (s .triples)) × (length (after .summary) ≡ length (s .summary)) × (length (after .map) ≡ length (s .map)) × (length work-after ≡ length work)
+
+  -- ── a list of feeds, each lent what the call before left ──
+  pub data Run : State → List Feed → List (Outcome Bool) → State → Type 0 where
+    none : {s : State} → Run s [] [] s
+    then-fed : {s after end : State} {t : Triple} {outcome : Outcome Bool} {fs : List Feed} {os : List (Outcome Bool)} (work work-after : List ℕ)
+        → Fed s work t outcome after work-after → Run after fs os end → Run s (record { triple = t; work = length work } ∷ fs) (outcome ∷ os) end

@@ -1,0 +1,193 @@
+-- What acceptance says, and that the saturation and the summary of an accepted table are accepted with the same roster.
+-- Assumes nothing.
+use Prim.Native.Nat.{ℕ, zero, suc, _≤_, _<_, _+_, _*_, _%_}
+use mathlib.Core.Path.{_≡_, refl, sym, subst, _∙_, ap}
+use mathlib.Core.Logic.{_⊎_, inl, inr, ⊎-elim, _↔_}
+use mathlib.Core.Bool.{Bool, true, false, cond, not, _&&_, _||_}
+use mathlib.Core.List.{List, [], _∷_, List·Memᴰ as Mem, List·Memᴰ·head as here, List·Memᴰ·tail as there, List·Memᴰ·not-nil as no-mem}
+use native.Mathlib.Omega.{arith}
+use lib.Dec.{eqb, leb, ltb}
+use lib.ListN.{length}
+use borrow.Author.Tests.{ltb-false, le-ltb, eq-eqb, not-false, eqb-true}
+use Rattle.model.specs.declared.Triple.{Triple}
+use Rattle.model.specs.Codes.{Vocabulary, rdfs, absent, mostTriples, kind}
+use Rattle.model.specs.Lists.{any}
+use Rattle.model.specs.Triples.{triple, triples, flat}
+use Rattle.model.specs.Order.{Rising}
+use Rattle.model.specs.Roster.{classRow, propertyRow, covers, wrongRoster, wrongCodes}
+use Rattle.model.specs.Rules.{Derives}
+use Rattle.model.specs.Saturation.{saturation}
+use Rattle.model.specs.Partition.{label}
+use Rattle.model.specs.Cliques.{Graph, source, target, Node}
+use Rattle.model.specs.Classes.{mapOf}
+use Rattle.model.specs.Summary.{moved, Image, summary}
+use Rattle.model.specs.Outcomes.{Check, check, Passes, wrongSize, wrongLength}
+use Rattle.model.specs.Calls.{tableChecks, Accepted}
+use Rattle.theory.proofs.Tests.{or-false, or-neither}
+use Rattle.theory.proofs.Covered.{Below, AllBelow, Codes, Covered, Class, Property, Marked, class-marked, property-marked, one-of, two-of, all-codes, codes-all, all-covered, covered-all, covered-at}
+use Rattle.theory.proofs.Saturated.{In, saturation-exact, saturation-below}
+use Rattle.theory.proofs.Weak.{Reps}
+use Rattle.theory.proofs.Images.{Covers, derives-covered}
+use Rattle.theory.proofs.Mapped.{node-below, map-reps, map-node}
+use Rattle.theory.proofs.Summaries.{summary-exact, summary-below}
+
+-- ── flat lists of triples ──
+pub triples-flat : (ts : List Triple) → triples (flat ts) ≡ ts
+unfolding triples flat
+triples-flat [] = refl
+triples-flat (t ∷ ts) = ap (λ (l : List Triple). t ∷ l) (triples-flat ts)
+
+pub length-flat : (ts : List Triple) → length (flat ts) ≡ 3 * length ts
+unfolding flat
+length-flat [] = refl
+length-flat (t ∷ ts) = omega (arith, length-flat ts)
+
+-- a roster and triples that pass the checks 2, 3 and 4, in a site of right size
+pub record Right (v : Vocabulary) (roster : List ℕ) (ts : List Triple) : Type 0 where
+  pub size : wrongSize (length roster) ≡ false
+  pub marks : wrongRoster v roster ≡ false
+  pub codes : wrongCodes v (length roster) ts ≡ false
+  pub cover : covers v roster ts ≡ true
+  pub type-below : v .type < length roster
+
+pub passes-first : (c : Check) (cs : List Check) → Passes (c ∷ cs) → (c .fails ≡ false) × Passes cs
+unfolding any
+passes-first c cs h = or-false (c .fails) _ h
+
+pub first-passes : (c : Check) (cs : List Check) → c .fails ≡ false → Passes cs → Passes (c ∷ cs)
+unfolding any
+first-passes c cs e h = or-neither (c .fails) _ e h
+
+pub no-checks : Passes []
+unfolding any
+no-checks = refl
+
+-- 01's sizes
+pub size-bounds : (n : ℕ) → wrongSize n ≡ false → (5 ≤ n) × (n ≤ 65536)
+unfolding wrongSize
+size-bounds n h = let x = or-false (ltb n 5) _ h in (ltb-false n 5 (x .0), ltb-false 65536 n (x .1))
+
+pub accepted-right : (v : Vocabulary) (table roster : List ℕ) → v .type < length roster → Accepted v table roster → Right v roster (triples table)
+unfolding tableChecks
+accepted-right v table roster w h =
+    let a = passes-first _ _ h in
+    let b = passes-first _ _ (a .1) in
+    let c = passes-first _ _ (b .1) in
+    let d = passes-first _ _ (c .1) in
+    record { size = (or-false (wrongSize (length roster)) _ (a .0)) .0; marks = b .0; codes = c .0; cover = not-false _ (d .0); type-below = w }
+
+pub rdfs-right : (table roster : List ℕ) → Accepted rdfs table roster → Right rdfs roster (triples table)
+unfolding tableChecks
+rdfs-right table roster h =
+    accepted-right rdfs table roster (omega (arith, size-bounds (length roster) ((or-false (wrongSize (length roster)) _ ((passes-first _ _ h) .0)) .0))) h
+
+-- a flat list of so many triples is a table's length, unless there are too many
+flat-length : (ts : List Triple) → length ts ≤ mostTriples → wrongLength (length (flat ts)) ≡ false
+unfolding wrongLength
+flat-length ts h =
+    let e = length-flat ts in
+    let r : length (flat ts) % 3 ≡ 0 = omega arith in
+    or-neither (not (eqb (length (flat ts) % 3) 0)) _ (ap not (eq-eqb _ _ r)) (le-ltb (3 * mostTriples) (length (flat ts)) (omega arith))
+
+pub right-accepted : (v : Vocabulary) (roster : List ℕ) (ts : List Triple) → Right v roster ts → length ts ≤ mostTriples → Accepted v (flat ts) roster
+unfolding tableChecks
+right-accepted v roster ts R l =
+    first-passes _ _ (or-neither (wrongSize (length roster)) _ (R .size) (or-neither (wrongLength (length (flat ts))) _ (flat-length ts l) refl))
+    (first-passes _ _ (R .marks)
+    (first-passes _ _ (subst (λ (us : List Triple). wrongCodes v (length roster) us ≡ false) (sym (triples-flat ts)) (R .codes))
+    (first-passes _ _ (ap not (subst (λ (us : List Triple). covers v roster us ≡ true) (sym (triples-flat ts)) (R .cover))) no-checks)))
+
+module _ (v : Vocabulary) (roster : List ℕ) (ts : List Triple) (R : Right v roster ts) where
+  pub room : length roster ≤ absent
+  room = omega (arith, size-bounds (length roster) (R .size))
+
+  pub in-codes : (t : Triple) → Mem t ts → Codes v (length roster) t
+  in-codes = all-codes v (length roster) ts (R .codes)
+
+  pub below : AllBelow (length roster) ts
+  below t m = (in-codes t m) .below
+
+  pub covered : Covers v roster (In ts)
+  covered t m = all-covered v roster (length roster) ts (R .codes) (R .cover) t m
+
+  abbrev f : ℕ → ℕ
+  f = label (mapOf v roster ts)
+
+  reps : Reps v roster (In ts) f
+  reps = map-reps v roster ts below room
+
+  -- ── the saturation ──
+  pub saturation-right : Right v roster (saturation v (length roster) ts)
+  saturation-right =
+      let exact = saturation-exact v (length roster) (R .type-below) ts below in
+      record {
+        size = R .size;
+        marks = R .marks;
+        codes = codes-all v (length roster) (saturation v (length roster) ts)
+            (λ t m.
+            let k = derives-covered v roster (In ts) covered ((exact t) .0 m) in
+            record { below = saturation-below v (length roster) (R .type-below) ts below t m; subject-free = k .subject-free; object-free = k .object-free });
+        cover = covered-all v roster (saturation v (length roster) ts) (λ t m. derives-covered v roster (In ts) covered ((exact t) .0 m));
+        type-below = R .type-below;
+      }
+
+  -- ── the summary ──
+  node-free : (c : ℕ) → Node (In ts) c → 5 ≤ kind v c
+  node-free c x = at (x .side) (x .is-end)
+    where
+      at : (e : Rattle.model.specs.Cliques.Side) → Rattle.model.specs.Cliques.end e (x .by) ≡ c → 5 ≤ kind v c
+      at source q = subst (λ (z : ℕ). 5 ≤ kind v z) q ((in-codes (x .by) (x .held)) .subject-free)
+      at target q = subst (λ (z : ℕ). 5 ≤ kind v z) q ((in-codes (x .by) (x .held)) .object-free)
+
+  -- a marked end represents itself, so that it keeps its mark
+  class-kept : (c : ℕ) → Node (In ts) c → Class roster c → Class roster (f c)
+  class-kept c x h = subst (Class roster) (sym (reps .of-marked c x (class-marked roster c h))) h
+
+  property-kept : (c : ℕ) → Node (In ts) c → Property roster c → Property roster (f c)
+  property-kept c x h = subst (Property roster) (sym (reps .of-marked c x (property-marked roster c h))) h
+
+  image-covered : (u : Triple) → Mem u ts → Covered roster v (moved f u)
+  image-covered u m =
+      let s : Node (In ts) (u .subject) = record { by = u; held = m; side = source; is-end = refl } in
+      let o : Node (In ts) (u .object) = record { by = u; held = m; side = target; is-end = refl } in
+      let k = covered u m in
+      record {
+        subject-free = node-free (f (u .subject)) (map-node v roster ts below room (u .subject) s);
+        object-free = node-free (f (u .object)) (map-node v roster ts below room (u .object) o);
+        classes = classes s o (kind v (u .property)) (k .classes);
+        properties = properties s o (kind v (u .property)) (k .properties);
+      }
+    where
+      classes : Node (In ts) (u .subject) → Node (In ts) (u .object) → (k : ℕ) → ((c : ℕ) → Mem c (classRow u k) → Class roster c) → (c : ℕ) → Mem c (classRow (moved f u) k) → Class roster c
+      classes s o zero h c n = one-of (λ e. subst (Class roster) (sym e) (class-kept _ o (h _ (here refl)))) n
+      classes s o (suc zero) h c n =
+          two-of (λ e. subst (Class roster) (sym e) (class-kept _ s (h _ (here refl)))) (λ e. subst (Class roster) (sym e) (class-kept _ o (h _ (there (here refl))))) n
+      classes s o (suc (suc zero)) h c n = absurd (no-mem n)
+      classes s o (suc (suc (suc zero))) h c n = one-of (λ e. subst (Class roster) (sym e) (class-kept _ o (h _ (here refl)))) n
+      classes s o (suc (suc (suc (suc zero)))) h c n = one-of (λ e. subst (Class roster) (sym e) (class-kept _ o (h _ (here refl)))) n
+      classes s o (suc (suc (suc (suc (suc k))))) h c n = absurd (no-mem n)
+
+      properties : Node (In ts) (u .subject) → Node (In ts) (u .object) → (k : ℕ) → ((c : ℕ) → Mem c (propertyRow u k) → Property roster c) → (c : ℕ) → Mem c (propertyRow (moved f u) k) → Property roster c
+      properties s o zero h c n = absurd (no-mem n)
+      properties s o (suc zero) h c n = absurd (no-mem n)
+      properties s o (suc (suc zero)) h c n =
+          two-of (λ e. subst (Property roster) (sym e) (property-kept _ s (h _ (here refl)))) (λ e. subst (Property roster) (sym e) (property-kept _ o (h _ (there (here refl))))) n
+      properties s o (suc (suc (suc zero))) h c n = one-of (λ e. subst (Property roster) (sym e) (property-kept _ s (h _ (here refl)))) n
+      properties s o (suc (suc (suc (suc zero)))) h c n = one-of (λ e. subst (Property roster) (sym e) (property-kept _ s (h _ (here refl)))) n
+      properties s o (suc (suc (suc (suc (suc k))))) h c n = h c n
+
+  summary-covered : (t : Triple) → Mem t (summary v roster ts) → Covered roster v t
+  summary-covered t m = let w = (summary-exact v roster ts t) .0 m in subst (Covered roster v) (sym (w .2)) (image-covered (w .0) (w .1))
+
+  pub summary-right : Right v roster (summary v roster ts)
+  summary-right =
+      record {
+        size = R .size;
+        marks = R .marks;
+        codes = codes-all v (length roster) (summary v roster ts)
+            (λ t m.
+            let k = summary-covered t m in
+            record { below = summary-below v roster ts below room t m; subject-free = k .subject-free; object-free = k .object-free });
+        cover = covered-all v roster (summary v roster ts) summary-covered;
+        type-below = R .type-below;
+      }
