@@ -42,6 +42,20 @@ unfolding flat
 length-flat [] = refl
 length-flat (t ∷ ts) = omega (arith, length-flat ts)
 
+-- a table of right length has at most so many triples
+length-triples : (l : List ℕ) → 3 * length (triples l) ≤ length l
+unfolding triples
+length-triples [] = omega arith
+length-triples (s ∷ []) = omega arith
+length-triples (s ∷ p ∷ []) = omega arith
+length-triples (s ∷ p ∷ o ∷ l) = omega (arith, length-triples l)
+
+pub few-triples : (table : List ℕ) → wrongLength (length table) ≡ false → length (triples table) ≤ mostTriples
+unfolding wrongLength
+few-triples table h =
+    let x = or-false (not (eqb (length table % 3) 0)) _ h in
+    omega (arith, ltb-false (3 * mostTriples) (length table) (x .1), length-triples table)
+
 -- a roster and triples that pass the checks 2, 3 and 4, in a site of right size
 pub record Right (v : Vocabulary) (roster : List ℕ) (ts : List Triple) : Type 0 where
   pub size : wrongSize (length roster) ≡ false

@@ -12,3 +12,6 @@ pub mod Mapped
 pub mod Summaries
 pub mod OwnRoster
 pub mod Accepted
+pub mod Shortcut
+pub mod Feeding
+pub mod Theorems

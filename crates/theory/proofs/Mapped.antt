@@ -155,6 +155,10 @@ module _ (v : Vocabulary) (roster : List ℕ) (ts : List Triple) (below : AllBel
       ∙ ap (label C) (b .property)
   clique-agrees e (linked k l) = clique-agrees e k ∙ clique-agrees e l
 
+  pub clique-cliqued : (e : Side) {p q : ℕ} → Clique v roster G e p q → Cliqued e q
+  clique-cliqued e (shared s) = record { node = s .node; has = s .two }
+  clique-cliqued e (linked k l) = clique-cliqued e l
+
   -- ── the clique of a data node ──
   abbrev Found : Side → ℕ → List Triple → ℕ → Type 0
   Found e c xs l =

@@ -1,1 +1,132 @@
--- Statements.
+-- What is shown of the definitions, each statement under its own name; `proofs/Theorems.antt` proves each.
+-- Assumes nothing.
+use Prim.Native.Nat.{ℕ, _≤_, _<_, _*_}
+use mathlib.Core.Path.{_≡_}
+use mathlib.Core.Logic.{_↔_}
+use mathlib.Core.Bool.{Bool, true, false}
+use mathlib.Core.List.{List, [], map, List·Memᴰ as Mem}
+use lib.ListN.{length}
+use Rattle.model.specs.declared.Triple.{Triple}
+use Rattle.model.specs.Codes.{absent, rdfs, mostTriples}
+use Rattle.model.specs.Triples.{triples, flat, slots, sorted}
+use Rattle.model.specs.Order.{Rising}
+use Rattle.model.specs.Roster.{mark, isClass, isProperty, unmarked, covers, ownRoster, wrongRoster, wrongCodes}
+use Rattle.model.specs.Rules.{Derives}
+use Rattle.model.specs.Saturation.{saturation}
+use Rattle.model.specs.Partition.{label}
+use Rattle.model.specs.Cliques.{Graph, Side, Node, Has, Clique, cliques}
+use Rattle.model.specs.Classes.{DataNode, Weakly, Represents, mapOf}
+use Rattle.model.specs.Summary.{Image, summary}
+use Rattle.model.specs.Outcomes.{Outcome, accepted}
+use Rattle.model.specs.Calls.{Accepted}
+use Rattle.model.specs.Intake.{State, Feed, answers, heldAfter, stateOf, openOutcome, opened, Run}
+
+-- the triples of a table, as a set
+abbrev pub TriplesOf : List ℕ → Graph
+TriplesOf table t = Mem t (triples table)
+
+abbrev pub saturationOf : List ℕ → List ℕ → List Triple
+saturationOf table roster = saturation rdfs (length roster) (triples table)
+
+abbrev pub summaryOf : List ℕ → List ℕ → List Triple
+summaryOf table roster = summary rdfs roster (triples table)
+
+-- the representative that the map of these triples gives a code
+abbrev pub representative : List ℕ → List Triple → ℕ → ℕ
+representative roster ts c = label (mapOf rdfs roster ts) c
+
+-- ── demand 2 ──
+-- "Saturation holds a triple exactly if the six RDFS rules give it"
+pub record Saturation (table roster : List ℕ) : Type 0 where
+  pub rising : Rising (saturationOf table roster)
+  pub exact : (t : Triple) → Mem t (saturationOf table roster) ↔ Derives rdfs (TriplesOf table) t
+
+abbrev pub SaturationExact : Type 0
+SaturationExact = (table roster : List ℕ) → Accepted rdfs table roster → Saturation table roster
+
+-- per property with a clique at a side, the smallest property of that clique; for any other code, absent
+pub record CliqueList (table roster : List ℕ) (e : Side) : Type 0 where
+  pub one-clique : (n m p q : ℕ) → Has rdfs roster (TriplesOf table) e n p → Has rdfs roster (TriplesOf table) e m q
+      → (label (cliques rdfs roster e (triples table)) p ≡ label (cliques rdfs roster e (triples table)) q) ↔ Clique rdfs roster (TriplesOf table) e p q
+  pub member : (n p : ℕ) → Has rdfs roster (TriplesOf table) e n p → Clique rdfs roster (TriplesOf table) e p (label (cliques rdfs roster e (triples table)) p)
+  pub smallest : (p q : ℕ) → Clique rdfs roster (TriplesOf table) e p q → label (cliques rdfs roster e (triples table)) p ≤ q
+  pub no-clique : (p : ℕ) → ((n : ℕ) → Has rdfs roster (TriplesOf table) e n p → ⊥) → label (cliques rdfs roster e (triples table)) p ≡ absent
+  pub size : length (cliques rdfs roster e (triples table)) ≡ length roster
+
+abbrev pub CliquesExact : Type 0
+CliquesExact = (table roster : List ℕ) → Accepted rdfs table roster → (e : Side) → CliqueList table roster e
+
+-- "two data nodes share a representative exactly if they are weakly equivalent"; the representative is the smallest code of its class,
+-- a marked node's is itself, and a code that is no node is absent
+pub record Representatives (table roster : List ℕ) : Type 0 where
+  pub shared : (c d : ℕ) → DataNode rdfs roster (TriplesOf table) c → DataNode rdfs roster (TriplesOf table) d
+      → (representative roster (triples table) c ≡ representative roster (triples table) d) ↔ Weakly rdfs roster (TriplesOf table) c d
+  pub represents : Represents rdfs roster (TriplesOf table) (representative roster (triples table))
+  pub no-node : (c : ℕ) → (Node (TriplesOf table) c → ⊥) → representative roster (triples table) c ≡ absent
+  pub size : length (mapOf rdfs roster (triples table)) ≡ length roster
+
+abbrev pub RepresentativesExact : Type 0
+RepresentativesExact = (table roster : List ℕ) → Accepted rdfs table roster → Representatives table roster
+
+-- "a triple is in the summary exactly if it is an image"
+pub record Summary (table roster : List ℕ) : Type 0 where
+  pub rising : Rising (summaryOf table roster)
+  pub exact : (t : Triple) → Mem t (summaryOf table roster) ↔ Image (representative roster (triples table)) (TriplesOf table) t
+
+abbrev pub SummaryExact : Type 0
+SummaryExact = (table roster : List ℕ) → Accepted rdfs table roster → Summary table roster
+
+-- "the smallest roster covering a table"
+pub record OwnRoster (n : ℕ) (ts : List Triple) : Type 0 where
+  pub size : length (ownRoster rdfs n ts) ≡ n
+  pub right : wrongRoster rdfs (ownRoster rdfs n ts) ≡ false
+  pub covering : covers rdfs (ownRoster rdfs n ts) ts ≡ true
+  pub least : (roster : List ℕ) → covers rdfs roster ts ≡ true → (c : ℕ) → c < n
+      → (isClass (mark (ownRoster rdfs n ts) c) ≡ true → isClass (mark roster c) ≡ true)
+      × (isProperty (mark (ownRoster rdfs n ts) c) ≡ true → isProperty (mark roster c) ≡ true)
+
+abbrev pub OwnRosterLeast : Type 0
+OwnRosterLeast = (n : ℕ) (ts : List Triple) → wrongCodes rdfs n ts ≡ false → OwnRoster n ts
+
+-- ── demand 3, what needs no query ──
+-- "the shortcut holds, triples and maps": saturating the summary and summarising again ends where summarising the saturation ends
+pub record Shortcut (table roster : List ℕ) : Type 0 where
+  pub triples : summary rdfs roster (saturationOf table roster) ≡ summary rdfs roster (saturation rdfs (length roster) (summaryOf table roster))
+  pub maps : (c : ℕ) → Node (TriplesOf table) c
+      → representative roster (saturation rdfs (length roster) (summaryOf table roster)) (representative roster (Rattle.model.specs.Triples.triples table) c)
+      ≡ representative roster (saturationOf table roster) c
+
+abbrev pub ShortcutHolds : Type 0
+ShortcutHolds = (table roster : List ℕ) → Accepted rdfs table roster → Shortcut table roster
+
+-- no check before 5 refuses a table on either route, unless the saturation is longer than a table may be
+pub record Routes (table roster : List ℕ) : Type 0 where
+  pub summary-accepted : Accepted rdfs (flat (summaryOf table roster)) roster
+  pub saturation-accepted : length (saturationOf table roster) ≤ mostTriples → Accepted rdfs (flat (saturationOf table roster)) roster
+  pub second-accepted : length (saturation rdfs (length roster) (summaryOf table roster)) ≤ mostTriples
+      → Accepted rdfs (flat (saturation rdfs (length roster) (summaryOf table roster))) roster
+
+abbrev pub RoutesAccepted : Type 0
+RoutesAccepted = (table roster : List ℕ) → Accepted rdfs table roster → Routes table roster
+
+-- "feeding in any order, with repeats, ends in the plain summary"
+pub record Collected (table roster : List ℕ) (H : List Triple) : Type 0 where
+  pub held : H ≡ sorted (triples table)
+  pub summarised : summary rdfs roster H ≡ summaryOf table roster
+  pub mapped : mapOf rdfs roster H ≡ mapOf rdfs roster (triples table)
+
+abbrev pub AnyOrder : Type 0
+AnyOrder =
+    (table roster : List ℕ) → Accepted rdfs table roster → (space : ℕ) → length (sorted (triples table)) ≤ space
+    → (fs : List Feed) → ((f : Feed) → Mem f fs → f .work ≡ 2 * length roster) → ((t : Triple) → Mem t (map (λ (f : Feed). f .triple) fs) ↔ Mem t (triples table))
+    → Collected table roster (heldAfter rdfs roster space fs [])
+
+-- "every list of feeds, refusals and repeats included, gives the plain intake's answers and state, as one claim about the whole list"
+pub record Plain (roster : List ℕ) (s : State) (fs : List Feed) (os : List (Outcome Bool)) (end : State) : Type 0 where
+  pub answered : os ≡ answers rdfs roster (slots (s .triples)) fs []
+  pub state : end ≡ stateOf rdfs roster (length (s .triples)) (length (s .summary)) (heldAfter rdfs roster (slots (s .triples)) fs [])
+
+abbrev pub WholeList : Type 0
+WholeList =
+    (roster : List ℕ) (s end : State) (fs : List Feed) (os : List (Outcome Bool)) → openOutcome rdfs roster s ≡ accepted tt
+    → Run rdfs roster (opened rdfs roster s) fs os end → Plain roster s fs os end

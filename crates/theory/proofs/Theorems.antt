@@ -1,0 +1,117 @@
+-- The theorems that specs/Theorems.antt states.
+-- Assumes nothing.
+use Prim.Native.Nat.{ℕ, _≤_, _<_}
+use mathlib.Core.Path.{_≡_, refl, sym, subst, _∙_, ap}
+use mathlib.Core.Logic.{_↔_}
+use mathlib.Core.Bool.{Bool, true, false}
+use mathlib.Core.List.{List, [], map, List·Memᴰ as Mem}
+use native.Mathlib.Omega.{arith}
+use native.Mathlib.Nat.{le-antisymm}
+use lib.ListN.{length}
+use Rattle.model.specs.declared.Triple.{Triple}
+use Rattle.model.specs.Codes.{rdfs, mostTriples}
+use Rattle.model.specs.Triples.{triples, flat, slots, sorted}
+use Rattle.model.specs.Saturation.{saturation}
+use Rattle.model.specs.Partition.{label}
+use Rattle.model.specs.Cliques.{Side, Node, Has, Clique, linked, cliques}
+use Rattle.model.specs.Classes.{DataNode, Weakly, mapOf}
+use Rattle.model.specs.Summary.{summary}
+use Rattle.model.specs.Calls.{Accepted, tableChecks}
+use Rattle.model.specs.Outcomes.{wrongLength, wrongSize}
+use Rattle.theory.specs.Theorems.{TriplesOf, SaturationExact, CliquesExact, CliqueList, RepresentativesExact, SummaryExact, OwnRosterLeast, ShortcutHolds, RoutesAccepted, AnyOrder, WholeList}
+use Rattle.theory.proofs.Tests.{or-false}
+use Rattle.theory.proofs.Covered.{all-codes}
+use Rattle.theory.proofs.Saturated.{In}
+use Rattle.theory.proofs.Weak.{Weak, weakly-weak, weak-weakly, turned, chained, clique-sym, reps-represents}
+use Rattle.theory.proofs.Saturated as saturated
+use Rattle.theory.proofs.Mapped as mapped
+use Rattle.theory.proofs.Summaries as summaries
+use Rattle.theory.proofs.OwnRoster as own
+use Rattle.theory.proofs.Accepted as accept
+use Rattle.theory.proofs.Shortcut as shortcut
+use Rattle.theory.proofs.Feeding as feeding
+
+pub saturation-exact : SaturationExact
+saturation-exact table roster h =
+    let R = accept.rdfs-right table roster h in
+    let b = accept.below rdfs roster (triples table) R in
+    record { rising = saturated.saturation-rising rdfs (length roster) (R .type-below) (triples table) b; exact = saturated.saturation-exact rdfs (length roster) (R .type-below) (triples table) b }
+
+pub cliques-exact : CliquesExact
+cliques-exact table roster h e =
+    let R = accept.rdfs-right table roster h in
+    let b = accept.below rdfs roster (triples table) R in
+    let l = accept.room rdfs roster (triples table) R in
+    let L = mapped.clique-labels rdfs roster (triples table) b l e in
+    record {
+      one-clique = λ n m p q x y. (
+        λ k. linked (L .related p (record { node = n; has = x }))
+            (subst (λ (z : ℕ). Clique rdfs roster (TriplesOf table) e z q) (sym k) (clique-sym rdfs roster (L .related q (record { node = m; has = y })))),
+        λ k. mapped.clique-agrees rdfs roster (triples table) b l e k,
+      );
+      member = λ n p x. L .related p (record { node = n; has = x });
+      smallest = λ p q k.
+          subst (λ (z : ℕ). z ≤ q) (sym (mapped.clique-agrees rdfs roster (triples table) b l e k)) (L .low q (mapped.clique-cliqued rdfs roster (triples table) b l e k));
+      no-clique = λ p f. L .silent p (λ c. f (c .node) (c .has));
+      size = mapped.length-cliques rdfs roster e (triples table);
+    }
+
+pub representatives-exact : RepresentativesExact
+representatives-exact table roster h =
+    let R = accept.rdfs-right table roster h in
+    let b = accept.below rdfs roster (triples table) R in
+    let l = accept.room rdfs roster (triples table) R in
+    let F = mapped.map-reps rdfs roster (triples table) b l in
+    let d = mapped.data-or rdfs (triples table) in
+    record {
+      shared = λ c k x y. (
+        λ e. weak-weakly rdfs roster d (chained (F .of-data c x) (turned (subst (Weak rdfs roster (In (triples table)) k) (sym e) (F .of-data k y)))),
+        λ w. mapped.map-agrees rdfs roster (triples table) b l (weakly-weak rdfs roster w),
+      );
+      represents = reps-represents rdfs roster d F;
+      no-node = mapped.map-absent rdfs roster (triples table) b l;
+      size = mapped.length-map-of rdfs roster (triples table);
+    }
+
+pub summary-exact : SummaryExact
+summary-exact table roster h = record { rising = summaries.summary-rising rdfs roster (triples table); exact = summaries.summary-exact rdfs roster (triples table) }
+
+pub own-roster-least : OwnRosterLeast
+own-roster-least n ts h =
+    let c = all-codes rdfs n ts h in
+    record {
+      size = own.own-length rdfs n ts;
+      right = own.own-right rdfs n ts c;
+      covering = own.own-covers rdfs n ts (λ t m. (c t m) .below);
+      least = own.own-least rdfs n ts;
+    }
+
+pub shortcut-holds : ShortcutHolds
+shortcut-holds table roster h =
+    let R = accept.rdfs-right table roster h in
+    record { triples = shortcut.shortcut-summary rdfs roster (triples table) R; maps = shortcut.shortcut-map rdfs roster (triples table) R }
+
+-- a table's length is that of at most so many triples
+table-few : (table roster : List ℕ) → Accepted rdfs table roster → length (triples table) ≤ mostTriples
+unfolding tableChecks
+table-few table roster h = accept.few-triples table ((or-false (wrongLength (length table)) _ ((or-false (wrongSize (length roster)) _ ((accept.passes-first _ _ h) .0)) .1)) .0)
+
+pub routes-accepted : RoutesAccepted
+routes-accepted table roster h =
+    let R = accept.rdfs-right table roster h in
+    let S = accept.summary-right rdfs roster (triples table) R in
+    record {
+      summary-accepted = accept.right-accepted rdfs roster (summary rdfs roster (triples table)) S (omega (arith, feeding.summary-length rdfs roster (triples table), table-few table roster h));
+      saturation-accepted = λ l. accept.right-accepted rdfs roster (saturation rdfs (length roster) (triples table)) (accept.saturation-right rdfs roster (triples table) R) l;
+      second-accepted = λ l.
+          accept.right-accepted rdfs roster (saturation rdfs (length roster) (summary rdfs roster (triples table))) (accept.saturation-right rdfs roster (summary rdfs roster (triples table)) S) l;
+    }
+
+pub any-order : AnyOrder
+any-order table roster h space few fs work same =
+    let R = accept.rdfs-right table roster h in
+    let c = feeding.any-order rdfs roster (triples table) R space fs few work same in
+    record { held = c .0; summarised = c .1; mapped = c .2 }
+
+pub whole-list : WholeList
+whole-list roster s end fs os h run = let w = feeding.whole-list rdfs roster s end fs os h run in record { answered = w .0; state = w .1 }
