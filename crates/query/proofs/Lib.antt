@@ -1,0 +1,5 @@
+pub mod Lists
+pub mod Laws
+pub mod Steps
+pub mod Exact
+pub mod Carried
