@@ -40,6 +40,22 @@ pub and-false : (a b : Bool) → (a && b) ≡ false → a ≡ true → b ≡ fal
 and-false true b e p = e
 and-false false b e p = absurd (true≢false (sym p))
 
+pub and-left : (a b : Bool) → (a && b) ≡ true → a ≡ true
+and-left a b e = (and-true a b e) .0
+
+pub and-right : (a b : Bool) → (a && b) ≡ true → b ≡ true
+and-right a b e = (and-true a b e) .1
+
+pub neither-left : (a b : Bool) → (a || b) ≡ false → a ≡ false
+neither-left a b e = (or-false a b e) .0
+
+pub neither-right : (a b : Bool) → (a || b) ≡ false → b ≡ false
+neither-right a b e = (or-false a b e) .1
+
+pub not-true-false : (t : Bool) → (t ≡ true → ⊥) → t ≡ false
+not-true-false true h = absurd (h refl)
+not-true-false false h = refl
+
 pub bool-cases : (b : Bool) → (b ≡ true) ⊎ (b ≡ false)
 bool-cases true = inl refl
 bool-cases false = inr refl

@@ -1,0 +1,168 @@
+-- Ask answers maybe exactly if some choice of nodes for the variables puts every counted pattern in the table, else none.
+-- Assumes nothing.
+use Prim.Native.Nat.{ℕ, zero, suc, _+_, _<_, _≤_}
+use native.Mathlib.Nat.{eq-or-lt-of-le}
+use native.Mathlib.Omega.{arith}
+use mathlib.Core.Path.{_≡_, refl, sym, ap, subst, _∙_}
+use mathlib.Core.Logic.{⊎-elim}
+use mathlib.Core.List.{List, List·Memᴰ as Mem, Memᴰ·cast}
+use mathlib.Core.Bool.{Bool, true, false, cond, _||_, true≢false}
+use lib.ListN.{length, getD, length-replicate, getD-replicate}
+use lib.Dec.{eqb, leb, ltb}
+use borrow.Author.Tests.{ne-eqb, eqb-false, ltb-false, leb-false}
+use Rattle.model.specs.declared.Triple.{Triple}
+use Rattle.model.specs.Codes.{Vocabulary, absent}
+use Rattle.model.specs.Lists.{any}
+use Rattle.model.specs.Triples.{triples}
+use Rattle.model.specs.Roster.{wrongCodes, wrongTriple, wrongEnd as wrongCode}
+use Rattle.model.specs.Partition.{label}
+use Rattle.model.specs.Cliques.{source}
+use Rattle.model.specs.Outcomes.{Outcome, accepted, decided, wrongSize, wrongLength}
+use Rattle.query.specs.declared.Pattern.{Pattern}
+use Rattle.query.specs.declared.Query.{Query}
+use Rattle.query.specs.declared.Fit.{Fit}
+use Rattle.query.specs.Ask.{pattern, unbound, fitTriple, tried, search, stepOf, wrongQuery, askChecks, askOutcome}
+use Rattle.query.specs.Match.{NodeOf, put, Choice, Accepted, Exact, AskExact}
+use Rattle.theory.proofs.Tests.{and-left, and-right, neither-left, neither-right, not-true-false}
+use Rattle.theory.proofs.Lists.{any-holds, any-found, any-none}
+use Rattle.query.proofs.Steps.{GoodQuery, good-query, Extends, Bound, Fitting, triple-complete, Tried, triple-sound}
+
+-- ── the search ──
+module _ (ts : List Triple) (map : List ℕ) (q : Query) (g : GoodQuery (length map) q) where
+  At : (ℕ → ℕ) → ℕ → Type 0
+  At σ k = Mem (put (label map) σ (pattern q k)) ts
+
+  search-complete : (σ : ℕ → ℕ) (left k : ℕ) (b : List ℕ) → k + left ≡ q .count → ((j : ℕ) → j < q .count → At σ j) → length b ≡ 8 → Extends σ b
+      → search ts map (q .patterns) left k b ≡ true
+  unfolding search tried At
+  search-complete σ zero k b n m l h = refl
+  search-complete σ (suc left) k b n m l h =
+      let lk : k < q .count = omega arith in
+      let f : Fitting ts map σ (fitTriple map (pattern q k) (put (label map) σ (pattern q k)) b) = triple-complete ts map σ (pattern q k) b (g .subject k lk) (g .object k lk) l h in
+      any-holds (stepOf ts map (q .patterns) left k b) ts _ (m k lk)
+      (rw (f .fits) (search-complete σ left (k + 1) _ (omega arith) m (f .long) (f .extends)))
+
+  -- a choice for the patterns from the k-th on that agrees with the bindings
+  record Found (k : ℕ) (b : List ℕ) : Type 0 where
+    pub chosen : ℕ → ℕ
+    pub extends : Extends chosen b
+    pub nodes : (v : ℕ) → v < 8 → NodeOf ts (chosen v)
+    pub there : (j : ℕ) → k ≤ j → j < q .count → At chosen j
+
+  -- no end of a triple is the absent mark, and z is a node
+  module _ (present : (t : Triple) → Mem t ts → (t .subject ≡ absent → ⊥) × (t .object ≡ absent → ⊥)) (z : ℕ) (nz : NodeOf ts z) where
+    -- a variable that is left without a node takes z
+    search-sound : (left k : ℕ) (b : List ℕ) → k + left ≡ q .count → search ts map (q .patterns) left k b ≡ true → length b ≡ 8 → Bound ts b → Found k b
+    unfolding search tried At
+    search-sound zero k b n y l h = record {
+      chosen = λ v. cond (eqb (getD b v 0) absent) z (getD b v 0);
+      extends = λ v lv m. rw (ne-eqb _ _ m);
+      nodes = λ v lv. at-v v lv (eqb (getD b v 0) absent) refl;
+      there = λ j l₁ l₂. let o : ⊥ = omega arith in absurd o;
+    }
+      where
+        at-v : (v : ℕ) → v < 8 → (t : Bool) → eqb (getD b v 0) absent ≡ t → NodeOf ts (cond t z (getD b v 0))
+        at-v v lv true e = nz
+        at-v v lv false e = h v lv (eqb-false _ _ e)
+    search-sound (suc left) k b n y l h =
+        let lk : k < q .count = omega arith in
+        let p : Pattern = pattern q k in
+        let w = any-found (stepOf ts map (q .patterns) left k b) ts y in
+        let t : Triple = w .0 in
+        let e : Fit = fitTriple map p t b in
+        let f : Tried ts map p t b e = triple-sound ts map p t b (w .1) (and-left (e .fits) _ (w .2)) (present t (w .1) .0) (present t (w .1) .1) (g .subject k lk) (g .object k lk) l in
+        let r : Found (k + 1) (e .bindings) = search-sound left (k + 1) (e .bindings) (omega arith) (and-right (e .fits) _ (w .2)) (f .long) (f .bound h) in
+        let σ : ℕ → ℕ = r .chosen in
+        let here : At σ k = Memᴰ·cast {a = put (label map) σ p} (f .there σ (r .extends)) (w .1) in
+        record {
+          chosen = σ;
+          extends = f .back σ (r .extends);
+          nodes = r .nodes;
+          there = λ j l₁ l₂. ⊎-elim {C = At σ j} (λ i. subst (At σ) i here) (λ l₃. r .there j (omega arith) l₂) (eq-or-lt-of-le l₁);
+        }
+
+-- where a pattern is put in the triples, there is a triple
+some-triple : (ts : List Triple) (map : List ℕ) (ps : List Pattern) (left k : ℕ) (b : List ℕ) → 0 < left → search ts map ps left k b ≡ true
+    → (t : Triple) × Mem t ts
+unfolding search
+some-triple ts map ps zero k b l y = let o : ⊥ = omega arith in absurd o
+some-triple ts map ps (suc left) k b l y = let w = any-found (stepOf ts map ps left k b) ts y in (w .0, w .1)
+
+-- ── the checks ──
+-- no check of ask fails
+record Passed (v : Vocabulary) (table map : List ℕ) (q : Query) : Type 0 where
+  pub lengths : (wrongSize (length map) || wrongLength (length table)) ≡ false
+  pub codes : wrongCodes v (length map) (triples table) ≡ false
+  pub query : wrongQuery (length map) q ≡ false
+
+passed : (v : Vocabulary) (table map : List ℕ) (q : Query) → Accepted v table map q → Passed v table map q
+unfolding any askChecks
+passed v table map q a =
+    let one : Bool = wrongSize (length map) || wrongLength (length table) in
+    let three : Bool = wrongCodes v (length map) (triples table) in
+    let six : Bool = wrongQuery (length map) q in
+    record {
+      lengths = neither-left one (three || (six || false)) a;
+      codes = neither-left three (six || false) (neither-right one (three || (six || false)) a);
+      query = neither-left six false (neither-right three (six || false) (neither-right one (three || (six || false)) a));
+    }
+
+below : (v : Vocabulary) (n c : ℕ) → wrongCode v n c ≡ false → c < n
+unfolding wrongCode
+below v n c e = leb-false n c (neither-left (leb n c) _ e)
+
+module _ (v : Vocabulary) (table map : List ℕ) (q : Query) (a : Passed v table map q) where
+  ts : List Triple
+  ts = triples table
+
+  small : length map ≤ 65536
+  unfolding wrongSize
+  small = ltb-false 65536 (length map) (neither-right (ltb (length map) 5) _ (neither-left (wrongSize (length map)) _ (a .lengths)))
+
+  present : (t : Triple) → Mem t ts → (t .subject ≡ absent → ⊥) × (t .object ≡ absent → ⊥)
+  unfolding ts wrongCodes wrongTriple
+  present t m =
+      let e : wrongTriple v (length map) t ≡ false = any-none (wrongTriple v (length map)) ts (a .codes) t m in
+      let s : t .subject < length map = below v _ _ (neither-left (wrongCode v (length map) (t .subject)) _ e) in
+      let o : t .object < length map = below v _ _ (neither-right (leb (length map) (t .property)) _ (neither-right (wrongCode v (length map) (t .subject)) _ e)) in
+      (λ z. omega (arith, small), λ z. omega (arith, small))
+
+  answer : Bool
+  answer = search ts map (q .patterns) (q .count) 0 unbound
+
+  answered : askOutcome v table map q ≡ accepted answer
+  unfolding askOutcome askChecks decided answer ts
+  answered = simp (a .lengths, a .codes, a .query)
+
+  at-start : (w : ℕ) → w < 8 → getD unbound w 0 ≡ absent
+  at-start w l = getD-replicate 8 w absent 0 l
+
+  finds : Choice ts map q → answer ≡ true
+  unfolding answer At
+  finds c =
+      search-complete ts map q (good-query _ _ (a .query)) (c .chosen) (q .count) 0 unbound (omega arith)
+      (c .puts) (length-replicate 8 absent) (λ w l m. absurd (m (at-start w l)))
+
+  found : answer ≡ true → Choice ts map q
+  unfolding answer At
+  found y =
+      let g = good-query _ _ (a .query) in
+      let w = some-triple ts map (q .patterns) (q .count) 0 unbound (g .some) y in
+      let r = search-sound ts map q g present (w .0 .subject) (record { by = w .0; held = w .1; side = source; is-end = refl }) (q .count) 0 unbound (omega arith) y (length-replicate 8 absent) (λ w l m. absurd (m (at-start w l))) in
+      record { chosen = r .chosen; nodes = r .nodes; puts = λ j l. r .there j (omega arith) l }
+
+  exact : Exact v table map q
+  unfolding ts
+  exact = record {
+    maybe = (λ e. found (told true e), λ c. answered ∙ ap (λ (t : Bool). accepted t) (finds c));
+    none = (
+      λ e c. true≢false (sym (finds c) ∙ told false e),
+      λ h. answered ∙ ap (λ (t : Bool). accepted t) (not-true-false answer (λ y. h (found y))),
+    );
+  }
+    where
+      told : (t : Bool) → askOutcome v table map q ≡ accepted t → answer ≡ t
+      told t e = let e′ : _≡_ {A = Outcome Bool} (accepted answer) (accepted t) = sym answered ∙ e in cc
+
+pub ask-exact : AskExact
+ask-exact v table map q a = exact v table map q (passed v table map q a)
