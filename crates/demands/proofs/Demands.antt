@@ -22,9 +22,12 @@ use Rattle.query.proofs.Carried.{match-carried}
 use Rattle.theory.specs.Theorems.{saturationOf}
 use Rattle.theory.proofs.Theorems as theorems
 use Rattle.theory.proofs.Summaries as summaries
-use Rattle.theory.proofs.Accepted as accept
-use Rattle.theory.proofs.Feeding.{decided-cases, not-accepted}
-use Rattle.demands.specs.Demands.{NoneMeansNone, GraphsRight, Demand2, Demand3}
+use Rattle.theory.proofs.Checks.{passes-first, decided-cases, not-accepted}
+use Rattle.theory.proofs.Flat.{triples-flat}
+use Rattle.site_form.proofs.Whole.{reads-exactly}
+use Rattle.site_form.proofs.Back.{written-is-read}
+use Rattle.site_form.proofs.Example.{prints-example}
+use Rattle.demands.specs.Demands.{NoneMeansNone, GraphsRight, Demand2, Demand3, SiteForms}
 
 -- an ask that is answered passed its checks
 answered-passes : (table map : List ℕ) (q : Query) → askOutcome rdfs table map q ≡ accepted false → Passes (askChecks rdfs table map q)
@@ -35,7 +38,7 @@ answered-passes table map q h =
 
 query-right : (table map : List ℕ) (q : Query) → Passes (askChecks rdfs table map q) → wrongQuery (length map) q ≡ false
 unfolding askChecks
-query-right table map q h = (accept.passes-first _ _ ((accept.passes-first _ _ ((accept.passes-first _ _ h) .1)) .1)) .0
+query-right table map q h = (passes-first _ _ ((passes-first _ _ ((passes-first _ _ h) .1)) .1)) .0
 
 none-means-none : NoneMeansNone
 none-means-none table roster q h e m =
@@ -44,8 +47,8 @@ none-means-none table roster q h e m =
     let map = mapOf rdfs roster sat in
     let p = answered-passes (flat sum) map q e in
     let choice = match-carried (label map) sat sum map q
-        (λ t n. (summaries.summary-exact rdfs roster sat (moved (label map) t)) .1 (t, n, refl)) (λ c l n. refl) (query-right (flat sum) map q p) m in
-    (ask-exact rdfs (flat sum) map q p) .none .0 e (subst (λ (us : List Triple). Choice us map q) (sym (accept.triples-flat sum)) choice)
+    (λ t n. (summaries.summary-exact rdfs roster sat (moved (label map) t)) .1 (t, n, refl)) (λ c l n. refl) (query-right (flat sum) map q p) m in
+    (ask-exact rdfs (flat sum) map q p) .none .0 e (subst (λ (us : List Triple). Choice us map q) (sym (triples-flat sum)) choice)
 
 pub graphs-right : GraphsRight
 graphs-right = graphs.graphs-right
@@ -70,3 +73,6 @@ demand-3 =
       none-means-none = none-means-none;
       whole-list = theorems.whole-list;
     }
+
+pub site-forms : SiteForms
+site-forms = record { reads = reads-exactly; written-is-read = written-is-read; example = prints-example }

@@ -16,6 +16,9 @@ use Rattle.model.specs.Graphs.{graphs, allRight}
 use Rattle.query.specs.declared.Query.{Query}
 use Rattle.query.specs.Ask.{askOutcome}
 use Rattle.query.specs.Match.{Match, AskExact}
+use Rattle.site_form.specs.Reading.{ReadsExactly}
+use Rattle.site_form.specs.Writing.{WrittenIsRead}
+use Rattle.site_form.specs.Example.{PrintsExample}
 use Rattle.theory.specs.Theorems.{SaturationExact, CliquesExact, RepresentativesExact, SummaryExact, OwnRosterLeast, ShortcutHolds, RoutesAccepted, AnyOrder, WholeList, saturationOf}
 
 -- ""none" on the saturated table's summary means no match in the saturated table"
@@ -43,3 +46,9 @@ pub record Demand3 : Type 0 where
   pub any-order : AnyOrder
   pub none-means-none : NoneMeansNone
   pub whole-list : WholeList
+
+-- the site form: read exactly, read back as written, and 01's example printed
+pub record SiteForms : Type 0 where
+  pub reads : ReadsExactly
+  pub written-is-read : WrittenIsRead
+  pub example : PrintsExample

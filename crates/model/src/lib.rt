@@ -26,12 +26,60 @@ pub struct Rule {
 
 // The six rules of RDFS that saturation walks: rdfs2, rdfs3, rdfs5, rdfs7, rdfs9, rdfs11.
 pub const RULES: [Rule; 6] = [
-    Rule { first: 3, second: 5, left: 0, right: 4, subject: 3, property: 6, object: 2 },
-    Rule { first: 4, second: 5, left: 0, right: 4, subject: 5, property: 6, object: 2 },
-    Rule { first: 2, second: 2, left: 2, right: 3, subject: 0, property: 1, object: 5 },
-    Rule { first: 2, second: 5, left: 0, right: 4, subject: 3, property: 2, object: 5 },
-    Rule { first: 1, second: 0, left: 0, right: 5, subject: 3, property: 4, object: 2 },
-    Rule { first: 1, second: 1, left: 2, right: 3, subject: 0, property: 1, object: 5 },
+    Rule {
+        first: 3,
+        second: 5,
+        left: 0,
+        right: 4,
+        subject: 3,
+        property: 6,
+        object: 2,
+    },
+    Rule {
+        first: 4,
+        second: 5,
+        left: 0,
+        right: 4,
+        subject: 5,
+        property: 6,
+        object: 2,
+    },
+    Rule {
+        first: 2,
+        second: 2,
+        left: 2,
+        right: 3,
+        subject: 0,
+        property: 1,
+        object: 5,
+    },
+    Rule {
+        first: 2,
+        second: 5,
+        left: 0,
+        right: 4,
+        subject: 3,
+        property: 2,
+        object: 5,
+    },
+    Rule {
+        first: 1,
+        second: 0,
+        left: 0,
+        right: 5,
+        subject: 3,
+        property: 4,
+        object: 2,
+    },
+    Rule {
+        first: 1,
+        second: 1,
+        left: 2,
+        right: 3,
+        subject: 0,
+        property: 1,
+        object: 5,
+    },
 ];
 
 // The table as a value: the constant is the definitions' table.

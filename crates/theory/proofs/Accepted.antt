@@ -24,31 +24,14 @@ use Rattle.model.specs.Summary.{moved, Image, summary}
 use Rattle.model.specs.Outcomes.{Check, check, Passes, wrongSize, wrongLength}
 use Rattle.model.specs.Calls.{tableChecks, Accepted}
 use Rattle.theory.proofs.Tests.{or-false, or-neither}
+use Rattle.theory.proofs.Checks.{passes-first, first-passes, no-checks}
+use Rattle.theory.proofs.Flat.{triples-flat, length-flat, length-triples}
 use Rattle.theory.proofs.Covered.{Below, AllBelow, Codes, Covered, Class, Property, Marked, class-marked, property-marked, one-of, two-of, all-codes, codes-all, all-covered, covered-all, covered-at}
 use Rattle.theory.proofs.Saturated.{In, saturation-exact, saturation-below}
 use Rattle.theory.proofs.Weak.{Reps}
 use Rattle.theory.proofs.Images.{Covers, derives-covered}
 use Rattle.theory.proofs.Mapped.{node-below, map-reps, map-node}
 use Rattle.theory.proofs.Summaries.{summary-exact, summary-below}
-
--- ── flat lists of triples ──
-pub triples-flat : (ts : List Triple) → triples (flat ts) ≡ ts
-unfolding triples flat
-triples-flat [] = refl
-triples-flat (t ∷ ts) = ap (λ (l : List Triple). t ∷ l) (triples-flat ts)
-
-pub length-flat : (ts : List Triple) → length (flat ts) ≡ 3 * length ts
-unfolding flat
-length-flat [] = refl
-length-flat (t ∷ ts) = omega (arith, length-flat ts)
-
--- a table of right length has at most so many triples
-length-triples : (l : List ℕ) → 3 * length (triples l) ≤ length l
-unfolding triples
-length-triples [] = omega arith
-length-triples (s ∷ []) = omega arith
-length-triples (s ∷ p ∷ []) = omega arith
-length-triples (s ∷ p ∷ o ∷ l) = omega (arith, length-triples l)
 
 pub few-triples : (table : List ℕ) → wrongLength (length table) ≡ false → length (triples table) ≤ mostTriples
 unfolding wrongLength
@@ -63,18 +46,6 @@ pub record Right (v : Vocabulary) (roster : List ℕ) (ts : List Triple) : Type 
   pub codes : wrongCodes v (length roster) ts ≡ false
   pub cover : covers v roster ts ≡ true
   pub type-below : v .type < length roster
-
-pub passes-first : (c : Check) (cs : List Check) → Passes (c ∷ cs) → (c .fails ≡ false) × Passes cs
-unfolding any
-passes-first c cs h = or-false (c .fails) _ h
-
-pub first-passes : (c : Check) (cs : List Check) → c .fails ≡ false → Passes cs → Passes (c ∷ cs)
-unfolding any
-first-passes c cs e h = or-neither (c .fails) _ e h
-
-pub no-checks : Passes []
-unfolding any
-no-checks = refl
 
 -- 01's sizes
 pub size-bounds : (n : ℕ) → wrongSize n ≡ false → (5 ≤ n) × (n ≤ 65536)

@@ -31,44 +31,9 @@ use Rattle.theory.proofs.Covered.{AllBelow, Codes, all-codes}
 use Rattle.theory.proofs.Saturated.{In}
 use Rattle.theory.proofs.Mapped.{length-map-of, map-absent}
 use Rattle.theory.proofs.Summaries.{Same, same-map-of, same-summary-of, map-unique}
-use Rattle.theory.proofs.Accepted.{Right, below, room, passes-first, first-passes, no-checks, length-flat, size-bounds}
-
--- ── the checks of a feed ──
-pub decided-passes : {A : Type 0} (cs : List Check) (rest : Outcome A) → Passes cs → decided cs rest ≡ rest
-unfolding decided any
-decided-passes [] rest h = refl
-decided-passes (c ∷ cs) rest h = let x = or-false (c .fails) _ h in ap (λ (b : Bool). cond b (refused (c .returns)) (decided cs rest)) (x .0) ∙ decided-passes cs rest (x .1)
-
--- the first failing check decides, or none fails
-pub decided-cases : {A : Type 0} (cs : List Check) (rest : Outcome A) → ((r : ℕ) × (decided cs rest ≡ refused r)) ⊎ Passes cs
-unfolding decided any
-decided-cases [] rest = inr refl
-decided-cases (c ∷ cs) rest =
-    ⊎-elim (λ e. inl (c .returns, ap (λ (b : Bool). cond b (refused (c .returns)) (decided cs rest)) e))
-    (λ e. ⊎-elim (λ w. inl (w .0, ap (λ (b : Bool). cond b (refused (c .returns)) (decided cs rest)) e ∙ w .1)) (λ h. inr (or-neither (c .fails) _ e h)) (decided-cases cs rest))
-    (bool-cases (c .fails))
-
--- a check that passes makes no difference
-pub decided-skip : {A : Type 0} (c : Check) (cs : List Check) (rest : Outcome A) → c .fails ≡ false → decided (c ∷ cs) rest ≡ decided cs rest
-unfolding decided
-decided-skip c cs rest e = ap (λ (b : Bool). cond b (refused (c .returns)) (decided cs rest)) e
-
-isAccepted : {A : Type 0} → Outcome A → Type 0
-isAccepted (refused r) = ⊥
-isAccepted (accepted x) = Unit {0}
-
-pub not-accepted : {A : Type 0} {r : ℕ} {x : A} → _≡_ {A = Outcome A} (refused r) (accepted x) → ⊥
-unfolding isAccepted
-not-accepted e = subst isAccepted (sym e) tt
-
--- ── lists and their lengths ──
-length-padded : (n : ℕ) (xs : List ℕ) → length xs ≤ n → length (padded n xs) ≡ n
-unfolding padded zeros
-length-padded n xs h = length-append xs _ ∙ omega (arith, length-replicate {A = ℕ} (n - length xs) 0)
-
-pub length-listed : (n : ℕ) (ts : List Triple) → 3 * length ts ≤ n → length (listed n ts) ≡ n
-unfolding listed
-length-listed n ts h = length-padded n (flat ts) (omega (arith, length-flat ts))
+use Rattle.theory.proofs.Checks.{passes-first, first-passes, no-checks, decided-passes, decided-cases, not-accepted}
+use Rattle.theory.proofs.Flat.{length-listed}
+use Rattle.theory.proofs.Accepted.{Right, below, room, size-bounds}
 
 module _ (v : Vocabulary) (roster : List ℕ) where
   pub summary-length : (H : List Triple) → length (summary v roster H) ≤ length H
@@ -177,7 +142,7 @@ module _ (v : Vocabulary) (roster : List ℕ) where
         let w = g f (here refl) in
         let e = next-has H f (w .0) r u (w .1) in
         let rest = held-all fs (insert (f .triple) H) (λ k m. g k (there m)) (insert-rising (f .triple) H r)
-            (λ t n. ⊎-elim (λ (q : t ≡ f .triple). subst (λ (z : Triple). Mem z U) (sym q) (w .1)) (λ n. u t n) (insert-mem (f .triple) t H n)) in
+        (λ t n. ⊎-elim (λ (q : t ≡ f .triple). subst (λ (z : Triple). Mem z U) (sym q) (w .1)) (λ n. u t n) (insert-mem (f .triple) t H n)) in
         subst (λ (K : List Triple). Collected (f ∷ fs) H (heldAfter v roster space fs K)) (sym e)
         (record {
           rising = rest .rising;
@@ -304,7 +269,7 @@ module _ (v : Vocabulary) (roster : List ℕ) where
   opened-state s z l =
       let a = sym (empty-list (length (s .triples))) in
       let b : zeros (length (s .summary)) ≡ listed (length (s .summary)) (summary v roster []) =
-          sym (ap (listed (length (s .summary))) empty-summary ∙ empty-list (length (s .summary))) in
+      sym (ap (listed (length (s .summary))) empty-summary ∙ empty-list (length (s .summary))) in
       let m : replicate (length (s .map)) absent ≡ mapOf v roster [] = ap (λ (n : ℕ). replicate n absent) (z .map-size) ∙ sym (empty-map l) in
       let n : 0 ≡ length (summary v roster []) = ap {B = ℕ} (λ (ts : List Triple). length ts) (sym empty-summary) in
       λ i. record { triples = a i; summary = b i; map = m i; held = 0; summarised = n i }
@@ -361,9 +326,9 @@ module _ (v : Vocabulary) (roster : List ℕ) where
   unfolding wrongWork wrongCodes covers
   any-order ts R space fs few work same =
       let c = held-all space (sorted ts) few fs []
-          (λ f m. let k = (same (f .triple)) .0 (mem-map (λ (x : Feed). x .triple) fs f m refl) in (good f (work f m) k, mem-sorted (f .triple) ts k)) tt (λ t m. absurd (no-mem m)) in
+      (λ f m. let k = (same (f .triple)) .0 (mem-map (λ (x : Feed). x .triple) fs f m refl) in (good f (work f m) k, mem-sorted (f .triple) ts k)) tt (λ t m. absurd (no-mem m)) in
       let members : Same (In (heldAfter v roster space fs [])) (In ts) =
-          λ t. (λ m. ⊎-elim (λ n. absurd (no-mem n)) (λ n. (same t) .0 n) ((c .members t) .0 m), λ m. (c .members t) .1 (inr ((same t) .1 m))) in
+      λ t. (λ m. ⊎-elim (λ n. absurd (no-mem n)) (λ n. (same t) .0 n) ((c .members t) .0 m), λ m. (c .members t) .1 (inr ((same t) .1 m))) in
       let b : AllBelow (length roster) (heldAfter v roster space fs []) = λ t m. below v roster ts R t ((members t) .0 m) in (
         rising-unique _ (sorted ts) (c .rising) (sorted-rising ts) (λ t. (λ m. mem-sorted t ts ((members t) .0 m), λ m. (members t) .1 (sorted-mem t ts m))),
         same-summary-of v roster _ ts b (below v roster ts R) (room v roster ts R) members,

@@ -1,6 +1,8 @@
 pub mod Tests
 pub mod Lists
 pub mod Order
+pub mod Flat
+pub mod Checks
 pub mod Covered
 pub mod RuleLaws
 pub mod Saturated

@@ -305,7 +305,7 @@ module _ (v : Vocabulary) (roster : List ℕ) (ts : List Triple) (below : AllBel
       let x = placed-is (w .first) (w .first-in) in
       let y = placed-is (w .second) (w .second-in) in
       let t : together (at (x .code)) (at (y .code)) ≡ true =
-          subst (λ (z : Placed). together z (at (y .code)) ≡ true) (x .is-at) (subst (λ (z : Placed). together (w .first) z ≡ true) (y .is-at) (w .passes)) in
+      subst (λ (z : Placed). together z (at (y .code)) ≡ true) (x .is-at) (subst (λ (z : Placed). together (w .first) z ≡ true) (y .is-at) (w .passes)) in
       let r = together-weak (x .code) (y .code) (x .data-node) (y .data-node) t in
       let pair : p ≡ record { one = x .code; two = y .code } = w .is-pair ∙ (λ i. record { one = x .is-at i .node; two = y .is-at i .node }) in
       subst (Joins (Node G) Alike) (sym pair) (record { one = x .data-node .node; two = y .data-node .node; related = inr r })

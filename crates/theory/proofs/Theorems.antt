@@ -20,6 +20,7 @@ use Rattle.model.specs.Calls.{Accepted, tableChecks}
 use Rattle.model.specs.Outcomes.{wrongLength, wrongSize}
 use Rattle.theory.specs.Theorems.{TriplesOf, SaturationExact, CliquesExact, CliqueList, RepresentativesExact, SummaryExact, OwnRosterLeast, ShortcutHolds, RoutesAccepted, AnyOrder, WholeList}
 use Rattle.theory.proofs.Tests.{or-false}
+use Rattle.theory.proofs.Checks.{passes-first}
 use Rattle.theory.proofs.Covered.{all-codes}
 use Rattle.theory.proofs.Saturated.{In}
 use Rattle.theory.proofs.Weak.{Weak, weakly-weak, weak-weakly, turned, chained, clique-sym, reps-represents}
@@ -94,7 +95,7 @@ shortcut-holds table roster h =
 -- a table's length is that of at most so many triples
 table-few : (table roster : List ℕ) → Accepted rdfs table roster → length (triples table) ≤ mostTriples
 unfolding tableChecks
-table-few table roster h = accept.few-triples table ((or-false (wrongLength (length table)) _ ((or-false (wrongSize (length roster)) _ ((accept.passes-first _ _ h) .0)) .1)) .0)
+table-few table roster h = accept.few-triples table ((or-false (wrongLength (length table)) _ ((or-false (wrongSize (length roster)) _ ((passes-first _ _ h) .0)) .1)) .0)
 
 pub routes-accepted : RoutesAccepted
 routes-accepted table roster h =

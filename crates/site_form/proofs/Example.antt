@@ -1,0 +1,98 @@
+-- 01's example is printed as 01 says, by computation.
+-- Assumes nothing.
+use Prim.Native.Nat.{ℕ}
+use mathlib.Core.Path.{_≡_, refl, _∙_}
+use mathlib.Core.Bool.{Bool, true, false}
+use mathlib.Core.List.{List, [], _∷_, _++_}
+use mathlib.Core.Option.{some}
+use lib.Dec.{ltb}
+use lib.ListN.{length}
+use Rattle.model.specs.declared.Triple.{Triple}
+use Rattle.model.specs.Codes.{rdfs, kind, reserved}
+use Rattle.model.specs.Lists.{any, all, collect, among, tabulate}
+use Rattle.model.specs.Triples.{triples, flat, isData, before, same, insert, sorted}
+use Rattle.model.specs.Roster.{isClass, isProperty, unmarked, classRoles, propertyRoles, classIn, propertyIn, ownRoster, isNode, wrongEnd as wrongCode, wrongTriple, wrongCodes}
+use Rattle.model.specs.Rules.{place, fits, gives}
+use Rattle.model.specs.Saturation.{conclusions, round, rounds, saturation}
+use Rattle.model.specs.Partition.{union, merged, pairs}
+use Rattle.model.specs.Cliques.{links, shares, hasClique, cliques}
+use Rattle.model.specs.Classes.{together, cliqueOf, placed, mapOf}
+use Rattle.model.specs.Summary.{summary}
+use Rattle.model.specs.Outcomes.{Outcome, accepted, decided, wrongSize, wrongLength}
+use Rattle.query.specs.declared.Pattern.{Pattern}
+use Rattle.query.specs.Ask.{askOutcome, askChecks, wrongQuery, wrongPattern, wrongEnd, counted, search, tried, fitTriple, fitEnd}
+use Rattle.site_form.specs.Text.{digits, numeral, tripleLine}
+use Rattle.site_form.specs.Reading.{_>>=_, give, _or_, many, begins, word, end, digit, digitFirst, moreOf, numberOf, number, lineEnd, siteReader, tripleReader, endIn, endReader, patternReader, nextReader, askReader, forms, formsReader, readForms, queryOf}
+use Rattle.site_form.specs.Printing.{summaryLine, nodeLine, nodeLines, answerLine, report, shown, isRefused, printChecked, asked, printForms, printOutcome, printed}
+use Rattle.site_form.specs.Example.{SignBytes, lines, givenLines, askLines, printedLines, answerLines, exampleSummary, exampleMap, firstAsk, secondAsk, ExampleAnswers, PrintsGraph, PrintsExample}
+
+pub sign-bytes : SignBytes
+sign-bytes = refl
+
+-- the triples that the text gives
+given : List Triple
+unfolding triples
+given = triples (5 ∷ 2 ∷ 7 ∷ 6 ∷ 2 ∷ 7 ∷ 7 ∷ 3 ∷ 8 ∷ 8 ∷ 1 ∷ 9 ∷ 10 ∷ 5 ∷ 12 ∷ 11 ∷ 6 ∷ 13 ∷ [])
+
+-- ── reading ──
+read-graph : readForms (lines givenLines) ≡ some (forms 14 given [])
+unfolding lines collect given triples _>>=_ give many begins word end digit digitFirst moreOf numberOf number lineEnd siteReader tripleReader askReader formsReader readForms
+read-graph = refl
+
+read-example : readForms (lines (givenLines ++ askLines)) ≡ some (forms 14 given (firstAsk ∷ secondAsk ∷ []))
+unfolding lines collect given triples _>>=_ give _or_ many begins word end digit digitFirst moreOf numberOf number lineEnd siteReader tripleReader endIn endReader patternReader nextReader askReader formsReader readForms
+read-example = refl
+
+-- ── the graph ──
+own : List ℕ
+own = ownRoster rdfs 14 given
+
+saturated : List Triple
+saturated = saturation rdfs 14 given
+
+summarised : List Triple
+unfolding triples
+summarised = triples exampleSummary
+
+summary-is : summary rdfs own saturated ≡ summarised
+unfolding own saturated summarised given kind reserved any all collect among tabulate triples isData before same insert sorted isClass isProperty unmarked classRoles propertyRoles classIn propertyIn ownRoster isNode place fits gives conclusions round rounds saturation union merged pairs links shares hasClique cliques together cliqueOf placed mapOf summary
+summary-is = refl
+
+map-is : mapOf rdfs own saturated ≡ exampleMap
+unfolding own saturated given kind reserved any all collect among tabulate triples isData before same insert sorted isClass isProperty unmarked classRoles propertyRoles classIn propertyIn ownRoster isNode place fits gives conclusions round rounds saturation union merged pairs links shares hasClique cliques together cliqueOf placed mapOf
+map-is = refl
+
+-- ── printing ──
+report-is : (answers : List (Outcome Bool)) → any isRefused answers ≡ false → printChecked 14 given saturated summarised exampleMap answers ≡ accepted (report summarised exampleMap answers)
+unfolding printChecked decided wrongSize wrongCodes wrongTriple wrongCode any saturated given triples kind reserved collect before same insert sorted place fits gives conclusions round rounds saturation
+report-is answers e = rw e
+
+graph-report : report summarised exampleMap [] ≡ lines printedLines
+unfolding report lines collect tabulate summarised triples tripleLine summaryLine nodeLine nodeLines answerLine numeral digits
+graph-report = refl
+
+example-report : report summarised exampleMap (accepted true ∷ accepted false ∷ []) ≡ lines (printedLines ++ answerLines)
+unfolding report lines collect tabulate summarised triples tripleLine summaryLine nodeLine nodeLines answerLine numeral digits
+example-report = refl
+
+forms-printed : (qs : List (List Pattern)) → printForms (forms 14 given qs) ≡ printChecked 14 given saturated summarised exampleMap (asked summarised exampleMap qs)
+unfolding printForms own saturated
+forms-printed qs = rw (summary-is, map-is)
+
+text-printed : (text : List ℕ) (qs : List (List Pattern)) (answers : List (Outcome Bool)) → ltb 32768 (length text) ≡ false → readForms text ≡ some (forms 14 given qs) → asked summarised exampleMap qs ≡ answers → any isRefused answers ≡ false → printed text ≡ report summarised exampleMap answers
+unfolding printed printOutcome shown
+text-printed text qs answers short r a e = rw (short, r, forms-printed qs, a, report-is answers e)
+
+pub prints-graph : PrintsGraph
+unfolding asked any lines collect
+prints-graph = text-printed (lines givenLines) [] [] refl read-graph refl refl ∙ graph-report
+
+answers : ExampleAnswers
+unfolding askOutcome askChecks decided wrongSize wrongLength wrongCodes wrongTriple wrongCode any kind reserved triples wrongQuery wrongPattern wrongEnd counted tabulate queryOf search tried fitTriple fitEnd
+answers = record { first = refl; second = refl }
+
+pub prints-example : PrintsExample
+unfolding asked any lines collect summarised flat triples
+prints-example =
+    text-printed (lines (givenLines ++ askLines)) (firstAsk ∷ secondAsk ∷ []) (accepted true ∷ accepted false ∷ []) refl read-example (rw (answers .first, answers .second)) refl
+    ∙ example-report

@@ -1,0 +1,7 @@
+pub mod Readers
+pub mod Decimal
+pub mod Forms
+pub mod Whole
+pub mod Queries
+pub mod Back
+pub mod Example

@@ -1,0 +1,100 @@
+-- 01's example of the site printer.
+-- Assumes nothing.
+use Prim.Native.Nat.{ℕ}
+use Prim.Native.String.{String}
+use mathlib.Core.Path.{_≡_}
+use mathlib.Core.Bool.{true, false}
+use mathlib.Core.List.{List, [], _∷_, _++_}
+use Rattle.model.specs.Codes.{absent, rdfs}
+use Rattle.model.specs.Lists.{collect}
+use Rattle.model.specs.Outcomes.{accepted}
+use Rattle.query.specs.declared.End.the-variants.{Var}
+use Rattle.query.specs.declared.Pattern.{Pattern}
+use Rattle.query.specs.Ask.{askOutcome}
+use Rattle.site_form.specs.Text.{bytes}
+use Rattle.site_form.specs.Reading.{pattern, queryOf}
+use Rattle.site_form.specs.Printing.{printed}
+
+-- "each line ended by byte 10"
+unfoldable pub lines : List String → List ℕ
+lines ls = collect (λ l. bytes l ++ bytes "\n") ls
+
+-- the bytes of the signs that the site form uses
+abbrev pub SignBytes : Type 0
+SignBytes = bytes "() 09\n" ≡ 40 ∷ 41 ∷ 32 ∷ 48 ∷ 57 ∷ 10 ∷ []
+
+-- 01: "Given"
+abbrev pub givenLines : List String
+givenLines =
+    "(site 14)"
+    ∷ "(t 5 2 7)"
+    ∷ "(t 6 2 7)"
+    ∷ "(t 7 3 8)"
+    ∷ "(t 8 1 9)"
+    ∷ "(t 10 5 12)"
+    ∷ "(t 11 6 13)"
+    ∷ []
+
+abbrev pub askLines : List String
+askLines =
+    "(ask ((v 0) 5 (v 1)) ((v 0) 6 (v 2)))"
+    ∷ "(ask ((v 0) 7 (v 1)) ((v 1) 7 (v 2)))"
+    ∷ []
+
+-- 01: "it prints the triple count, the triples, for each node in rising order its code with its representative"
+abbrev pub printedLines : List String
+printedLines =
+    "(summary 9)"
+    ∷ "(t 5 2 7)"
+    ∷ "(t 6 2 7)"
+    ∷ "(t 7 3 8)"
+    ∷ "(t 8 1 9)"
+    ∷ "(t 10 0 8)"
+    ∷ "(t 10 0 9)"
+    ∷ "(t 10 5 12)"
+    ∷ "(t 10 6 12)"
+    ∷ "(t 10 7 12)"
+    ∷ "(rep 5 5)"
+    ∷ "(rep 6 6)"
+    ∷ "(rep 7 7)"
+    ∷ "(rep 8 8)"
+    ∷ "(rep 9 9)"
+    ∷ "(rep 10 10)"
+    ∷ "(rep 11 10)"
+    ∷ "(rep 12 12)"
+    ∷ "(rep 13 12)"
+    ∷ []
+
+-- 01: "and the answers in the queries' order"
+abbrev pub answerLines : List String
+answerLines = "(ask maybe)" ∷ "(ask none)" ∷ []
+
+-- the summary and the map of the example
+abbrev pub exampleSummary : List ℕ
+exampleSummary =
+    5 ∷ 2 ∷ 7 ∷ 6 ∷ 2 ∷ 7 ∷ 7 ∷ 3 ∷ 8 ∷ 8 ∷ 1 ∷ 9 ∷ 10 ∷ 0 ∷ 8 ∷ 10 ∷ 0 ∷ 9 ∷ 10 ∷ 5 ∷ 12 ∷ 10 ∷ 6 ∷ 12 ∷ 10 ∷ 7 ∷ 12 ∷ []
+
+abbrev pub exampleMap : List ℕ
+exampleMap = absent ∷ absent ∷ absent ∷ absent ∷ absent ∷ 5 ∷ 6 ∷ 7 ∷ 8 ∷ 9 ∷ 10 ∷ 10 ∷ 12 ∷ 12 ∷ []
+
+abbrev pub variables : ℕ → ℕ → ℕ → Pattern
+variables s p o = pattern (Var s) p (Var o)
+
+abbrev pub firstAsk : List Pattern
+firstAsk = variables 0 5 1 ∷ variables 0 6 2 ∷ []
+
+abbrev pub secondAsk : List Pattern
+secondAsk = variables 0 7 1 ∷ variables 1 7 2 ∷ []
+
+-- what ask says of the two queries
+pub record ExampleAnswers : Type 0 where
+  pub first : askOutcome rdfs exampleSummary exampleMap (queryOf firstAsk) ≡ accepted true
+  pub second : askOutcome rdfs exampleSummary exampleMap (queryOf secondAsk) ≡ accepted false
+
+-- 01's example without its queries
+abbrev pub PrintsGraph : Type 0
+PrintsGraph = printed (lines givenLines) ≡ lines printedLines
+
+-- 01's example
+abbrev pub PrintsExample : Type 0
+PrintsExample = printed (lines (givenLines ++ askLines)) ≡ lines (printedLines ++ answerLines)

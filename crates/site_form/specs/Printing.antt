@@ -1,0 +1,104 @@
+-- What the site printer prints of a text.
+-- Assumes nothing.
+use Prim.Native.Nat.{ℕ}
+use mathlib.Core.Bool.{Bool, true, false, cond, _||_}
+use mathlib.Core.List.{List, [], _∷_, _++_, map}
+use mathlib.Core.Option.{Option, none, some}
+use lib.Dec.{eqb, ltb}
+use lib.ListN.{length}
+use Rattle.model.specs.declared.Triple.{Triple}
+use Rattle.model.specs.Codes.{absent, rdfs}
+use Rattle.model.specs.Lists.{any, collect, tabulate}
+use Rattle.model.specs.Triples.{flat}
+use Rattle.model.specs.Roster.{ownRoster, wrongCodes}
+use Rattle.model.specs.Saturation.{saturation}
+use Rattle.model.specs.Partition.{label}
+use Rattle.model.specs.Classes.{mapOf}
+use Rattle.model.specs.Summary.{summary}
+use Rattle.model.specs.Outcomes.{Outcome, refused, accepted, check, checked, wrongSize}
+use Rattle.query.specs.declared.Pattern.{Pattern}
+use Rattle.query.specs.Ask.{askOutcome}
+use Rattle.site_form.specs.Text.{bytes, numeral, tripleLine}
+use Rattle.site_form.specs.Reading.{Forms, readForms, queryOf}
+
+-- 01: "reads at most 32,768 bytes from standard input (more is 8)"
+abbrev pub mostBytes : ℕ
+mostBytes = 32768
+
+-- 01: "N at most 512 (else 1)"
+abbrev pub largestPrinted : ℕ
+largestPrinted = 512
+
+-- 01: "saturates into 2,048 slots with the own roster"
+abbrev pub printerSlots : ℕ
+printerSlots = 2048
+
+-- ── lines ──
+-- 01: "it prints the triple count"
+unfoldable pub summaryLine : ℕ → List ℕ
+summaryLine count = bytes "(summary " ++ (numeral count ++ bytes ")\n")
+
+-- 01: "for each node in rising order its code with its representative"
+unfoldable pub nodeLine : List ℕ → ℕ → List ℕ
+nodeLine representatives c =
+    cond (eqb (label representatives c) absent) []
+    (bytes "(rep " ++ (numeral c ++ (bytes " " ++ (numeral (label representatives c) ++ bytes ")\n"))))
+
+unfoldable pub nodeLines : List ℕ → List ℕ
+nodeLines representatives = collect (nodeLine representatives) (tabulate (λ c. c) 0 (length representatives))
+
+-- 01: "The answer is "maybe" exactly if some choice of nodes for the variables puts every pattern in the table, else "none"."
+unfoldable pub answerLine : Outcome Bool → List ℕ
+answerLine (refused r) = []
+answerLine (accepted true) = bytes "(ask maybe)\n"
+answerLine (accepted false) = bytes "(ask none)\n"
+
+-- 01: "prints the summary, its map and the query answers"
+unfoldable pub report : List Triple → List ℕ → List (Outcome Bool) → List ℕ
+report triples representatives answers =
+    summaryLine (length triples) ++ (collect tripleLine triples ++ (nodeLines representatives ++ collect answerLine answers))
+
+-- 01: "or `(refused R)` alone"
+unfoldable pub shown : Outcome (List ℕ) → List ℕ
+shown (refused r) = bytes "(refused " ++ (numeral r ++ bytes ")\n")
+shown (accepted lines) = lines
+
+-- ── checks ──
+abbrev pub isRefused : Outcome Bool → Bool
+isRefused (refused r) = true
+isRefused (accepted b) = false
+
+-- 01: "It checks in the order 8, 1, 3, 5, 6."
+-- 1, 3, 5 and 6, with the saturation, its summary and map, and what ask says of each query
+unfoldable pub printChecked : ℕ → (triples saturated summarised : List Triple) → List ℕ → List (Outcome Bool) → Outcome (List ℕ)
+printChecked n triples saturated summarised representatives answers =
+    checked
+    (check 1 (wrongSize n || ltb largestPrinted n)
+    ∷ check 3 (wrongCodes rdfs n triples)
+    ∷ check 5 (ltb printerSlots (length saturated))
+    ∷ check 6 (any isRefused answers)
+    ∷ [])
+    (report summarised representatives answers)
+
+-- the queries are asked of the summary and its map
+unfoldable pub asked : List Triple → List ℕ → List (List Pattern) → List (Outcome Bool)
+asked summarised representatives qs = map (λ ps. askOutcome rdfs (flat summarised) representatives (queryOf ps)) qs
+
+unfoldable pub printForms : Forms → Outcome (List ℕ)
+printForms f =
+    let own = ownRoster rdfs (f .size) (f .triples) in
+    let saturated = saturation rdfs (f .size) (f .triples) in
+    let summarised = summary rdfs own saturated in
+    let representatives = mapOf rdfs own saturated in
+    printChecked (f .size) (f .triples) saturated summarised representatives (asked summarised representatives (f .asks))
+
+abbrev pub printRead : Option Forms → Outcome (List ℕ)
+printRead none = refused 8
+printRead (some f) = printForms f
+
+unfoldable pub printOutcome : List ℕ → Outcome (List ℕ)
+printOutcome text = cond (ltb mostBytes (length text)) (refused 8) (printRead (readForms text))
+
+-- what is printed of the text on standard input
+unfoldable pub printed : List ℕ → List ℕ
+printed text = shown (printOutcome text)

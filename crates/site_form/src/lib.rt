@@ -1,0 +1,24 @@
+// The site form: what the reader answers. What it means is defined in specs/.
+use model::Refusal;
+use query::Query;
+
+// A site that was read: its size, how many triples and queries the text has, and the queries.
+// The triples go to a lent list.
+pub struct Site {
+    pub size: u32,
+    pub count: usize,
+    pub asks: usize,
+    pub queries: [Query; 16],
+}
+
+// Whether the text was read.
+pub enum Form {
+    Read,
+    Refused(Refusal),
+}
+
+// The reader's answer. An enum can hold no array, so the site stands beside it.
+pub struct ReadAnswer {
+    pub form: Form,
+    pub site: Site,
+}
