@@ -1,0 +1,5 @@
+pub mod Codes
+pub mod Tests
+pub mod Compare
+pub mod Places
+pub mod Search

@@ -1,0 +1,109 @@
+-- Binary search over places in rising order, and clearing.
+-- Assumes nothing.
+use Prim.Native.Nat.{ℕ, _+_, _*_, _-_, _<_, _≤_}
+use mathlib.Core.Bool.{Bool, true, false, true≢false}
+use mathlib.Core.Path.{_≡_, refl, sym, _∙_, ap, subst}
+use mathlib.Core.Logic.{_⊎_, inl, inr, ⊎-elim}
+use mathlib.Core.List.{List, List·Memᴰ as Mem}
+use native.Mathlib.Omega.{arith}
+use lib.ListN.{length, getD, set, length-set}
+use lib.Seq.{getD-set-same, getD-set-other}
+use Rattle.model.specs.declared.Triple.{Triple}
+use Rattle.model.specs.Lists.{tabulate}
+use Rattle.model.specs.Triples.{before, same, holds}
+use Rattle.model.specs.Order.{Lt}
+use Rattle.theory.proofs.Tests.{bool-cases, not-true-false}
+use Rattle.theory.proofs.Lists.{tabulate-mem, mem-tabulate}
+use Rattle.theory.proofs.Order.{lt-trans, lt-irrefl, before-lt, lt-before, same-eq, same-refl, mem-holds, holds-mem}
+use Rattle.lists.specs.Flat.{RisingPart, Bound, Cleared}
+use Rattle.lists.proofs.Compare.{Cmp, lt, eq, gt, cmp}
+
+-- all before `low` comes before t, all from `high` on does not
+pub record Bracket (f : ℕ → Triple) (a b : ℕ) (t : Triple) (low high : ℕ) : Type 0 where
+  pub from : a ≤ low
+  pub within : low ≤ high
+  pub to : high ≤ b
+  pub below : (i : ℕ) → a ≤ i → i < low → Lt (f i) t
+  pub above : (i : ℕ) → high ≤ i → i < b → before (f i) t ≡ false
+
+pub bracket-start : (f : ℕ → Triple) (a b : ℕ) (t : Triple) → a ≤ b → Bracket f a b t a b
+bracket-start f a b t h =
+    record { from = omega arith; within = h; to = omega arith; below = λ i x y. absurd (omega arith); above = λ i x y. absurd (omega arith) }
+
+module _ (f : ℕ → Triple) (a b : ℕ) (t : Triple) (low high : ℕ) (r : RisingPart f a b) (w : Bracket f a b t low high) (m : ℕ) (x : low ≤ m) (y : m < high) where
+  pub bracket-up : before (f m) t ≡ true → Bracket f a b t (m + 1) high
+  bracket-up h = record { from = omega (arith, w .from); within = omega arith; to = w .to; below = λ i p q. go i p q (cmp i m); above = w .above }
+    where
+      go : (i : ℕ) → a ≤ i → i < m + 1 → Cmp i m → Lt (f i) t
+      go i p q (lt z) = lt-trans (r i m p z (omega (arith, w .to))) (before-lt (f m) t h)
+      go i p q (eq z) = subst (λ (k : ℕ). Lt (f k) t) (sym z) (before-lt (f m) t h)
+      go i p q (gt z) = absurd (omega arith)
+
+  pub bracket-down : before (f m) t ≡ false → Bracket f a b t low m
+  bracket-down h = record { from = w .from; within = x; to = omega (arith, w .to); below = w .below; above = λ i p q. go i p q (cmp m i) }
+    where
+      go : (i : ℕ) → m ≤ i → i < b → Cmp m i → before (f i) t ≡ false
+      go i p q (lt z) =
+          not-true-false (before (f i) t) (λ k. true≢false (sym (lt-before (f m) t (lt-trans (r m i (omega (arith, w .from)) z q) (before-lt (f i) t k))) ∙ h))
+      go i p q (eq z) = subst (λ (k : ℕ). before (f k) t ≡ false) z h
+      go i p q (gt z) = absurd (omega arith)
+
+pub bracket-end : (f : ℕ → Triple) (a b : ℕ) (t : Triple) (low high : ℕ) → Bracket f a b t low high → high ≤ low → Bound f a b t low
+bracket-end f a b t low high w e =
+    record { low = w .from; high = omega (arith, w .to, w .within); below = w .below; above = λ i p q. w .above i (omega (arith, w .within)) q }
+
+-- ── what the bound says of membership ──
+module _ (f : ℕ → Triple) (a b : ℕ) (t : Triple) (i : ℕ) (r : RisingPart f a b) (w : Bound f a b t i) where
+  -- a place that holds t is the bound
+  at-bound : (j : ℕ) → a ≤ j → j < b → t ≡ f j → j ≡ i
+  at-bound j x y e = go (cmp j i)
+    where
+      go : Cmp j i → j ≡ i
+      go (lt z) = absurd (lt-irrefl (subst (Lt (f j)) e (w .below j x z)))
+      go (eq z) = z
+      go (gt z) = absurd (true≢false (sym (lt-before (f i) t (subst (Lt (f i)) (sym e) (r i j (w .low) z y))) ∙ w .above i (omega arith) (omega arith)))
+
+  abbrev places : List Triple
+  places = tabulate f a (b - a)
+
+  found-at : Mem t places → t ≡ f i
+  found-at m =
+      let z = tabulate-mem f a (b - a) m in
+      z .3 ∙ ap f (at-bound (z .0) (z .1) (omega (arith, z .2, w .low, w .high)) (z .3))
+
+  pub bound-here : i < b → same t (f i) ≡ holds t places
+  bound-here h =
+      ⊎-elim
+      (λ e. e ∙ sym (mem-holds t places (subst (λ (z : Triple). Mem z places) (sym (same-eq t (f i) e)) (mem-tabulate f a (b - a) i (w .low) (omega (arith, w .low))))))
+      (λ e. e ∙ sym (not-true-false (holds t places) (λ k. true≢false (sym (same-refl t (f i) (found-at (holds-mem t places k))) ∙ e))))
+      (bool-cases (same t (f i)))
+
+  pub bound-past : b ≤ i → false ≡ holds t places
+  bound-past h =
+      sym (not-true-false (holds t places) (λ k. let z = tabulate-mem f a (b - a) (holds-mem t places k) in
+      absurd (lt-irrefl (subst (Lt (f (z .0))) (z .3) (w .below (z .0) (z .1) (omega (arith, z .1, z .2, w .low, w .high)))))))
+
+-- ── clearing ──
+pub cleared-start : (l : List ℕ) (a : ℕ) → Cleared l l a a
+cleared-start l a = record { size = refl; zeros = λ i x y. absurd (omega arith); rest = λ i h. refl }
+
+pub cleared-step : (l m : List ℕ) (a i : ℕ) → a ≤ i → i < length m → Cleared l m a i → Cleared l (set m i 0) a (i + 1)
+cleared-step l m a i h k c =
+    record {
+      size = length-set m i 0 ∙ c .size;
+      zeros = λ j x y. go j x y (cmp j i);
+      rest = λ j w. off j w (cmp j i);
+    }
+  where
+    go : (j : ℕ) → a ≤ j → j < i + 1 → Cmp j i → getD (set m i 0) j 0 ≡ 0
+    go j x y (lt z) = getD-set-other m i j 0 0 (omega arith) ∙ c .zeros j x z
+    go j x y (eq z) = rw z (getD-set-same m i 0 0 k)
+    go j x y (gt z) = absurd (omega arith)
+
+    off : (j : ℕ) → (a ≤ j → i + 1 ≤ j) → Cmp j i → getD (set m i 0) j 0 ≡ getD l j 0
+    off j w (lt z) = getD-set-other m i j 0 0 (omega arith) ∙ c .rest j (λ x. absurd (let q = w x in omega arith))
+    off j w (eq z) = absurd (let q = w (omega arith) in omega arith)
+    off j w (gt z) = getD-set-other m i j 0 0 (omega arith) ∙ c .rest j (λ x. omega arith)
+
+pub cleared-end : (l m : List ℕ) (a b i : ℕ) → Cleared l m a i → i ≡ b → Cleared l m a b
+cleared-end l m a b i c e = subst (Cleared l m a) e c
