@@ -1,17 +1,18 @@
 -- Laws of triples by their place in a flat list.
 -- Assumes nothing.
-use Prim.Native.Nat.{ℕ, zero, suc, _+_, _*_, _-_, _<_, _≤_}
+use Prim.Native.Nat.{ℕ, zero, suc, _+_, _*_, _-_, _/_, _<_, _≤_}
 use mathlib.Core.Path.{_≡_, refl, sym, _∙_, ap, subst}
 use mathlib.Core.Logic.{_⊎_, inl, inr, ⊎-elim, _↔_}
 use mathlib.Core.List.{List, [], _∷_, _++_, List·Memᴰ as Mem, List·Memᴰ·head as here, List·Memᴰ·tail as there, List·Memᴰ·not-nil as no-mem, List·Memᴰ·cases-cons as mem-cases}
+use mathlib.Core.Bool.{Bool, true, false}
 use native.Mathlib.Omega.{arith}
 use lib.ListN.{length, getD, set, take, drop, length-set, take-append-drop}
 use lib.Seq.{getD-set-same, getD-set-other, lt-length-set, length-take-le}
 use Rattle.model.specs.declared.Triple.{Triple}
-use Rattle.model.specs.Lists.{tabulate}
+use Rattle.model.specs.Lists.{any, tabulate}
 use Rattle.model.specs.Triples.{triple, triples, flat}
 use Rattle.model.specs.Order.{Lt, Rising}
-use Rattle.theory.proofs.Lists.{tabulate-mem, mem-tabulate}
+use Rattle.theory.proofs.Lists.{any-holds, none-any, tabulate-mem, mem-tabulate}
 use Rattle.theory.proofs.Flat.{flat-triples}
 use Rattle.lists.specs.Flat.{at, putAt, swapped, RisingPart}
 use Rattle.lists.proofs.Compare.{Cmp, lt, eq, gt, cmp}
@@ -127,3 +128,27 @@ rising-places f k (suc n) r i j a b d = go (λ h. rising-places f (suc k) n (r .
 -- ── exchanging two triples ──
 pub swap-is : (l m n : List ℕ) (i j : ℕ) (a b : Triple) → a ≡ at l i → b ≡ at l j → m ≡ putAt l i b → n ≡ putAt m j a → n ≡ swapped l i j
 swap-is l m n i j a b p q r s = s ∙ (λ k. putAt ((r ∙ ap (putAt l i) q) k) j (p k))
+
+-- ── the whole triples of a table ──
+pub triples-all : (l : List ℕ) (n : ℕ) → 3 * n ≤ length l → length l < 3 * n + 3 → triples l ≡ tabulate (at l) 0 n
+unfolding triples tabulate
+triples-all [] zero h k = refl
+triples-all [] (suc n) h k = absurd (omega arith)
+triples-all (s ∷ []) zero h k = refl
+triples-all (s ∷ []) (suc n) h k = absurd (omega arith)
+triples-all (s ∷ p ∷ []) zero h k = refl
+triples-all (s ∷ p ∷ []) (suc n) h k = absurd (omega arith)
+triples-all (s ∷ p ∷ o ∷ r) zero h k = absurd (omega arith)
+triples-all (s ∷ p ∷ o ∷ r) (suc n) h k =
+    rw (triples-all r n (omega arith) (omega arith), tabulate-shift (at (s ∷ p ∷ o ∷ r)) (at r) (at-cons s p o r) 0 n)
+    (ap (λ (t : Triple). t ∷ tabulate (at r) 0 n) (sym (at-first s p o r)))
+
+pub triples-table : (l : List ℕ) → triples l ≡ tabulate (at l) 0 (length l / 3)
+triples-table l = triples-all l (length l / 3) (omega arith) (omega arith)
+
+-- a loop over places that looks for a value that passes a test
+pub any-at : {A : Type 0} (f : A → Bool) (g : ℕ → A) (n i : ℕ) → i < n → f (g i) ≡ true → true ≡ any f (tabulate g 0 n)
+any-at f g n i h e = sym (any-holds f (tabulate g 0 n) (g i) (mem-tabulate g 0 n i (omega arith) (omega arith)) e)
+
+pub any-nowhere : {A : Type 0} (f : A → Bool) (g : ℕ → A) (n i : ℕ) → n ≤ i → ((k : ℕ) → k < i → f (g k) ≡ false) → false ≡ any f (tabulate g 0 n)
+any-nowhere f g n i h e = sym (none-any f (tabulate g 0 n) (λ x m. let w = tabulate-mem g 0 n m in ap f (w .3) ∙ e (w .0) (omega (arith, w .2))))

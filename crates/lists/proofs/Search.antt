@@ -6,10 +6,10 @@ use mathlib.Core.Path.{_≡_, refl, sym, _∙_, ap, subst}
 use mathlib.Core.Logic.{_⊎_, inl, inr, ⊎-elim}
 use mathlib.Core.List.{List, List·Memᴰ as Mem}
 use native.Mathlib.Omega.{arith}
-use lib.ListN.{length, getD, set, length-set}
-use lib.Seq.{getD-set-same, getD-set-other}
+use lib.ListN.{length, getD, set, length-set, replicate, length-replicate, getD-replicate}
+use lib.Seq.{getD-set-same, getD-set-other, ext-getD}
 use Rattle.model.specs.declared.Triple.{Triple}
-use Rattle.model.specs.Lists.{tabulate}
+use Rattle.model.specs.Lists.{tabulate, zeros}
 use Rattle.model.specs.Triples.{before, same, holds}
 use Rattle.model.specs.Order.{Lt}
 use Rattle.theory.proofs.Tests.{bool-cases, not-true-false}
@@ -107,3 +107,10 @@ cleared-step l m a i h k c =
 
 pub cleared-end : (l m : List ℕ) (a b i : ℕ) → Cleared l m a i → i ≡ b → Cleared l m a b
 cleared-end l m a b i c e = subst (Cleared l m a) e c
+
+-- a list that is all cleared
+pub cleared-all : (l m : List ℕ) (i : ℕ) → Cleared l m 0 i → length l ≤ i → m ≡ zeros (length l)
+unfolding zeros
+cleared-all l m i c h =
+    ext-getD 0 m (replicate (length l) 0) (c .size ∙ sym (length-replicate (length l) 0))
+    (λ k q. c .zeros k (omega arith) (omega (arith, c .size)) ∙ sym (getD-replicate (length l) k 0 0 (omega (arith, c .size))))

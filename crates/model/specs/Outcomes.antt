@@ -2,12 +2,18 @@
 -- Assumes nothing.
 use Prim.Native.Nat.{ℕ, _%_, _*_}
 use mathlib.Core.Path.{_≡_}
-use mathlib.Core.Bool.{Bool, false, cond, not, _||_}
+use mathlib.Core.Bool.{Bool, true, false, cond, not, _||_}
 use mathlib.Core.List.{List, [], _∷_}
 use lib.Dec.{eqb, ltb}
 use lib.ListN.{length}
 use Rattle.model.specs.declared.Refusal.{Refusal}
 use Rattle.model.specs.declared.Refusal.the-variants.{Length, Roster, Code, Cover, Slots, Query, Full, Form}
+use Rattle.model.specs.declared.Done.{Done}
+use Rattle.model.specs.declared.Done.the-variants.{Accepted, Refused as done-refused}
+use Rattle.model.specs.declared.Counted.{Counted}
+use Rattle.model.specs.declared.Counted.the-variants.{Count, Refused as counted-refused}
+use Rattle.model.specs.declared.Found.{Found}
+use Rattle.model.specs.declared.Found.the-variants.{Yes, No, Refused as found-refused}
 use Rattle.model.specs.Codes.{smallestSize, largestSize, mostTriples}
 use Rattle.model.specs.Lists.{any, zeros}
 
@@ -26,6 +32,20 @@ number Slots = 5
 number Query = 6
 number Full = 7
 number Form = 8
+
+-- the outcome that each case of an answer stands for
+unfoldable pub done : Done → Outcome (Unit {0})
+done Accepted = accepted tt
+done (done-refused r) = refused (number r)
+
+unfoldable pub counted : Counted → Outcome ℕ
+counted (Count n) = accepted n
+counted (counted-refused r) = refused (number r)
+
+unfoldable pub found : Found → Outcome Bool
+found Yes = accepted true
+found No = accepted false
+found (found-refused r) = refused (number r)
 
 -- 01: "Each check runs over all its input before the next"
 pub record Check : Type 0 where

@@ -100,3 +100,20 @@ pub enum Refusal {
     Full,
     Form,
 }
+
+// The answers of the calls; specs/Outcomes.antt gives the outcome that each case stands for.
+pub enum Done {
+    Accepted,
+    Refused(Refusal),
+}
+
+pub enum Counted {
+    Count(usize),
+    Refused(Refusal),
+}
+
+pub enum Found {
+    Yes,
+    No,
+    Refused(Refusal),
+}

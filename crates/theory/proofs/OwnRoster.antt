@@ -44,7 +44,7 @@ pub data Role (v : Vocabulary) (t : Triple) (c : ℕ) : Type 0 where
   as-property : 5 ≤ kind v (t .property) → c ≡ t .property → Role v t c
 
 module _ (v : Vocabulary) where
-  class-role : (t : Triple) (c : ℕ) → Mem c (classRoles v t) → Role v t c
+  pub class-role : (t : Triple) (c : ℕ) → Mem c (classRoles v t) → Role v t c
   unfolding classRoles
   class-role t c m = go (kind v (t .property)) m
     where
@@ -56,7 +56,7 @@ module _ (v : Vocabulary) where
       go (suc (suc (suc (suc zero)))) m = one-of (λ e. as-object e) m
       go (suc (suc (suc (suc (suc k))))) m = absurd (no-mem m)
 
-  property-role : (t : Triple) (c : ℕ) → Mem c (propertyRoles v t) → Role v t c
+  pub property-role : (t : Triple) (c : ℕ) → Mem c (propertyRoles v t) → Role v t c
   unfolding propertyRoles
   property-role t c m = go (kind v (t .property)) refl m
     where

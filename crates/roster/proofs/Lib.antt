@@ -1,0 +1,4 @@
+pub mod Covering
+pub mod Tables
+pub mod Values
+pub mod Marking

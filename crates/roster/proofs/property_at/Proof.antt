@@ -1,0 +1,27 @@
+use Prim.Native.Nat.{ℕ}
+use mathlib.Core.Path.{_∙_, ap}
+use lib.ListN.{getD}
+use Rattle.model.specs.Roster.{isProperty}
+use borrow.Author.Needs.{needs}
+use Rattle.roster.proofs.property_at.Statement.{statement}
+use Rattle.roster.proofs.property_at.Tie as tie
+use Rattle.roster.proofs.property_at.Reads as reads
+use Rattle.roster.proofs.property_at.Lts as lts
+use Rattle.roster.proofs.is_property.Reads as is-property-reads
+use Rattle.roster.proofs.wide.Reads as wide-reads
+
+wide-requires : tie.Need-wide-requires
+wide-requires c κs = search needs
+
+shared-slice-read-is-property : tie.Need-shared-slice-read-is-property
+shared-slice-read-is-property c = search needs
+
+is-property-requires : tie.Need-is-property-requires
+is-property-requires c κs = search needs
+
+returns : tie.Need-returns
+returns c = c .is-property .ensures ∙ ap (λ (i : ℕ). isProperty (getD (c .before .before .before .before .args .roster .now) i 0)) (c .before .before .wide .ensures)
+
+pub property-at-spec : {M : Type 1} → statement M
+property-at-spec =
+    tie.close (tie.spec wide-requires shared-slice-read-is-property is-property-requires returns)

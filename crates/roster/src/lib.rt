@@ -1,0 +1,264 @@
+// Rosters: the checks 2 and 4, and the own roster of a table.
+
+ghost use mathlib.Core.Path.{_≡_};
+ghost use mathlib.Core.Bool.{not, _&&_};
+ghost use Prim.Native.Nat.{ℕ, _+_, _*_, _<_, _≤_};
+ghost use lib.ListN.{length, getD, set};
+ghost use Rattle.model.specs.Codes.{rdfs};
+ghost use Rattle.model.specs.Lists.{zeros};
+ghost use Rattle.model.specs.Triples.{triples};
+ghost use Rattle.theory.proofs.Covered.{Below, AllBelow};
+ghost use Rattle.model.specs.Roster.{isClass, isProperty, wrongRoster, coversTriple, covers};
+ghost use Rattle.roster.specs.Marks.{withClass, withProperty, classMarked, propertyMarked, rolesMarked, tableMarked, overThree, marked};
+
+use lists::Code;
+use lists::triple_at;
+use model::Triple;
+
+pub fn wide(x: u32) -> usize
+    ensures { λ r. ⌜ r ≡ x ⌝ }
+{
+    x as usize
+}
+
+// Whether a mark says class.
+pub fn is_class(mark: u8) -> bool
+    ensures { λ r. ⌜ r ≡ isClass mark ⌝ }
+{
+    if mark == 1 {
+        return true;
+    }
+    mark == 3
+}
+
+// Whether a mark says property.
+pub fn is_property(mark: u8) -> bool
+    ensures { λ r. ⌜ r ≡ isProperty mark ⌝ }
+{
+    if mark == 2 {
+        return true;
+    }
+    mark == 3
+}
+
+fn class_at(roster: &[u8], c: u32) -> bool
+    requires { ⌜ c < length (now roster) ⌝ }
+    ensures { λ r. ⌜ r ≡ isClass (getD (now (roster .entry)) c 0) ⌝ }
+{
+    let i = wide(c);
+    is_class(roster[i])
+}
+
+fn property_at(roster: &[u8], c: u32) -> bool
+    requires { ⌜ c < length (now roster) ⌝ }
+    ensures { λ r. ⌜ r ≡ isProperty (getD (now (roster .entry)) c 0) ⌝ }
+{
+    let i = wide(c);
+    is_property(roster[i])
+}
+
+// The ends of a triple are classes.
+fn both_classes(roster: &[u8], t: Triple) -> bool
+    requires { ⌜ Below (length (now roster)) t ⌝ }
+    ensures { λ r. ⌜ r ≡ (isClass (getD (now (roster .entry)) (t .subject) 0) && isClass (getD (now (roster .entry)) (t .object) 0)) ⌝ }
+{
+    if class_at(roster, t.subject) {
+        return class_at(roster, t.object);
+    }
+    false
+}
+
+// The ends of a triple are properties.
+fn both_properties(roster: &[u8], t: Triple) -> bool
+    requires { ⌜ Below (length (now roster)) t ⌝ }
+    ensures { λ r. ⌜ r ≡ (isProperty (getD (now (roster .entry)) (t .subject) 0) && isProperty (getD (now (roster .entry)) (t .object) 0)) ⌝ }
+{
+    if property_at(roster, t.subject) {
+        return property_at(roster, t.object);
+    }
+    false
+}
+
+// A triple's object is a class and its subject a property.
+fn property_to_class(roster: &[u8], t: Triple) -> bool
+    requires { ⌜ Below (length (now roster)) t ⌝ }
+    ensures { λ r. ⌜ r ≡ (isClass (getD (now (roster .entry)) (t .object) 0) && isProperty (getD (now (roster .entry)) (t .subject) 0)) ⌝ }
+{
+    if class_at(roster, t.object) {
+        return property_at(roster, t.subject);
+    }
+    false
+}
+
+// Whether the roster marks each role of a triple.
+pub fn covers_triple(roster: &[u8], t: Triple) -> bool
+    requires { ⌜ Below (length (now roster)) t ⌝ }
+    ensures { λ r. ⌜ r ≡ coversTriple rdfs (now (roster .entry)) t ⌝ }
+{
+    let kind = Code(t.property).kind();
+    if kind == Code::DATA {
+        return property_at(roster, t.property);
+    }
+    if kind == Code::TYPE {
+        return class_at(roster, t.object);
+    }
+    if kind == Code::SUBCLASS {
+        return both_classes(roster, t);
+    }
+    if kind == Code::SUBPROPERTY {
+        return both_properties(roster, t);
+    }
+    property_to_class(roster, t)
+}
+
+// Check 4: some triple of the table is not covered.
+pub fn uncovered(table: &[u32], roster: &[u8]) -> bool
+    requires { ⌜ AllBelow (length (now roster)) (triples (now table)) ⌝ }
+    ensures { λ r. ⌜ r ≡ not (covers rdfs (now (roster .entry)) (triples (now (table .entry)))) ⌝ }
+{
+    let n = table.len() / 3;
+    let mut i = 0;
+    while i < n {
+        let t = triple_at(table, i);
+        if !covers_triple(roster, t) {
+            return true;
+        }
+        i += 1;
+    }
+    false
+}
+
+// Whether a value of the roster is over 3.
+fn value_wrong(roster: &[u8]) -> bool
+    ensures { λ r. ⌜ r ≡ overThree (now (roster .entry)) ⌝ }
+{
+    let n = roster.len();
+    let mut i = 0;
+    while i < n {
+        if 3 < roster[i] {
+            return true;
+        }
+        i += 1;
+    }
+    false
+}
+
+// Whether one of the reserved codes is marked.
+fn reserved_marked(roster: &[u8]) -> bool
+    requires { ⌜ 5 ≤ length (now roster) ⌝ }
+    ensures { λ r. ⌜ r ≡ marked rdfs (now (roster .entry)) ⌝ }
+{
+    let mut i = 0;
+    while i < 5 {
+        if roster[i] != 0 {
+            return true;
+        }
+        i += 1;
+    }
+    false
+}
+
+// Check 2: a value over 3, or a reserved code marked.
+pub fn roster_wrong(roster: &[u8]) -> bool
+    requires { ⌜ 5 ≤ length (now roster) ⌝ }
+    ensures { λ r. ⌜ r ≡ wrongRoster rdfs (now (roster .entry)) ⌝ }
+{
+    if value_wrong(roster) {
+        return true;
+    }
+    reserved_marked(roster)
+}
+
+// The mark that also says class.
+fn with_class(mark: u8) -> u8
+    ensures { λ r. ⌜ r ≡ withClass mark ⌝ }
+{
+    if mark == 0 {
+        return 1;
+    }
+    if mark == 2 {
+        return 3;
+    }
+    mark
+}
+
+// The mark that also says property.
+fn with_property(mark: u8) -> u8
+    ensures { λ r. ⌜ r ≡ withProperty mark ⌝ }
+{
+    if mark == 0 {
+        return 2;
+    }
+    if mark == 1 {
+        return 3;
+    }
+    mark
+}
+
+fn mark_class(roster: &mut [u8], c: u32)
+    requires { ⌜ c < length (now roster) ⌝ }
+    ensures { λ r. ⌜ now (roster .exit) ≡ classMarked (now (roster .entry)) c ⌝ }
+{
+    let i = wide(c);
+    roster[i] = with_class(roster[i]);
+}
+
+fn mark_property(roster: &mut [u8], c: u32)
+    requires { ⌜ c < length (now roster) ⌝ }
+    ensures { λ r. ⌜ now (roster .exit) ≡ propertyMarked (now (roster .entry)) c ⌝ }
+{
+    let i = wide(c);
+    roster[i] = with_property(roster[i]);
+}
+
+// Marks each role of a triple.
+fn mark_roles(roster: &mut [u8], t: Triple)
+    requires { ⌜ Below (length (now roster)) t ⌝ }
+    ensures { λ r. ⌜ now (roster .exit) ≡ rolesMarked (now (roster .entry)) t ⌝ }
+{
+    let kind = Code(t.property).kind();
+    if kind == Code::DATA {
+        mark_property(roster, t.property);
+        return;
+    }
+    if kind == Code::SUBPROPERTY {
+        mark_property(roster, t.object);
+        mark_property(roster, t.subject);
+        return;
+    }
+    mark_class(roster, t.object);
+    if kind == Code::TYPE {
+        return;
+    }
+    if kind == Code::SUBCLASS {
+        mark_class(roster, t.subject);
+        return;
+    }
+    mark_property(roster, t.subject);
+}
+
+// Zeros in the whole roster.
+fn clear_marks(roster: &mut [u8])
+    ensures { λ r. ⌜ now (roster .exit) ≡ zeros (length (now (roster .entry))) ⌝ }
+{
+    let n = roster.len();
+    let mut i = 0;
+    while i < n {
+        roster[i] = 0;
+        i += 1;
+    }
+}
+
+// Marks each role of each triple of the table.
+fn mark_table(table: &[u32], roster: &mut [u8])
+    requires { ⌜ AllBelow (length (now roster)) (triples (now table)) ⌝ }
+    ensures { λ r. ⌜ now (roster .exit) ≡ tableMarked (now (roster .entry)) (triples (now (table .entry))) ⌝ }
+{
+    let n = table.len() / 3;
+    let mut i = 0;
+    while i < n {
+        let t = triple_at(table, i);
+        mark_roles(roster, t);
+        i += 1;
+    }
+}
