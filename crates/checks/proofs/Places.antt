@@ -1,0 +1,62 @@
+-- A test over the values of a function at a run of numbers, and the triples of a flat list as such values.
+-- Assumes nothing.
+use Prim.Native.Nat.{ℕ, zero, suc, _+_, _-_, _*_, _/_, _<_, _≤_}
+use native.Mathlib.Nat.{zero-add, add-zero, suc-add, add-suc}
+use native.Mathlib.Omega.{arith}
+use mathlib.Core.Path.{_≡_, refl, sym, ap, _∙_}
+use mathlib.Core.Bool.{Bool, true, false, _||_, or-assoc, or-false}
+use mathlib.Core.List.{List, [], _∷_}
+use lib.ListN.{length, take}
+use Rattle.model.specs.declared.Triple.{Triple}
+use Rattle.model.specs.Lists.{any, tabulate}
+use Rattle.model.specs.Triples.{triple, triples}
+use Rattle.theory.proofs.Lists.{any-holds, any-none, none-any, mem-tabulate, tabulate-mem}
+use Rattle.lists.specs.Flat.{at}
+use Rattle.lists.proofs.Places.{triples-places}
+
+module _ {A : Type 0} (f : A → Bool) (g : ℕ → A) where
+  pub run-none : (a : ℕ) → any f (tabulate g a 0) ≡ false
+  unfolding any tabulate
+  run-none a = refl
+
+  pub run-one : (a : ℕ) → any f (tabulate g a 1) ≡ f (g a)
+  unfolding any tabulate
+  run-one a = or-false (f (g a))
+
+  -- a run is its two parts
+  pub run-parts : (a m n : ℕ) → any f (tabulate g a (m + n)) ≡ (any f (tabulate g a m) || any f (tabulate g (a + m) n))
+  unfolding any tabulate
+  run-parts a zero n = rw (zero-add n, add-zero a)
+  run-parts a (suc m) n =
+      rw (suc-add m n, run-parts (suc a) m n, suc-add a m, add-suc a m)
+      (sym (or-assoc (f (g a)) (any f (tabulate g (suc a) m)) (any f (tabulate g (suc (a + m)) n))))
+
+  -- one value more, at the end
+  pub run-more : (i : ℕ) → any f (tabulate g 0 i) ≡ false → f (g i) ≡ false → any f (tabulate g 0 (i + 1)) ≡ false
+  run-more i e h = rw (run-parts 0 i 1, e, zero-add i, run-one i) h
+
+  -- the test holds at one number of the run
+  pub run-holds : (a n i : ℕ) → a ≤ i → i < a + n → f (g i) ≡ true → any f (tabulate g a n) ≡ true
+  run-holds a n i l m e = any-holds f (tabulate g a n) (g i) (mem-tabulate g a n i l m) e
+
+  -- it fails at each
+  pub run-fails : (a n : ℕ) → ((i : ℕ) → a ≤ i → i < a + n → f (g i) ≡ false) → any f (tabulate g a n) ≡ false
+  run-fails a n h = none-any f (tabulate g a n) (λ x m. let w = tabulate-mem g a n m in ap f (w .3) ∙ h (w .0) (w .1) (w .2))
+
+-- the one or two numbers left over are no triple
+triples-whole : (l : List ℕ) (n : ℕ) → 3 * n ≤ length l → length l < 3 * n + 3 → triples l ≡ triples (take (3 * n) l)
+unfolding triples
+triples-whole [] zero a b = refl
+triples-whole [] (suc n) a b = absurd (omega arith)
+triples-whole (s ∷ []) zero a b = refl
+triples-whole (s ∷ []) (suc n) a b = absurd (omega arith)
+triples-whole (s ∷ p ∷ []) zero a b = refl
+triples-whole (s ∷ p ∷ []) (suc n) a b = absurd (omega arith)
+triples-whole (s ∷ p ∷ o ∷ l) zero a b = absurd (omega arith)
+triples-whole (s ∷ p ∷ o ∷ l) (suc n) a b =
+    let e : 3 * suc n ≡ suc (suc (suc (3 * n))) = omega arith in
+    rw e (ap (λ (ts : List Triple). triple s p o ∷ ts) (triples-whole l n (omega arith) (omega arith)))
+
+-- the triples of a list are those at its places
+pub triples-all : (l : List ℕ) → triples l ≡ tabulate (at l) 0 (length l / 3)
+triples-all l = triples-whole l (length l / 3) (omega arith) (omega arith) ∙ triples-places l (length l / 3) (omega arith)

@@ -1,0 +1,89 @@
+-- The shared checks, branch by branch.
+-- Assumes nothing.
+use Prim.Native.Nat.{ℕ, _+_, _*_, _/_, _%_, _<_, _≤_}
+use native.Mathlib.Omega.{arith}
+use mathlib.Core.Path.{_≡_, refl, sym, ap, _∙_}
+use mathlib.Core.Bool.{Bool, true, false}
+use mathlib.Core.List.{List}
+use lib.Dec.{ltb}
+use lib.ListN.{length}
+use borrow.Author.Tests.{lt-ltb, le-ltb, le-leb, lt-leb, eq-eqb, ne-eqb}
+use Rattle.model.specs.declared.Triple.{Triple}
+use Rattle.model.specs.Codes.{rdfs, reserved}
+use Rattle.model.specs.Lists.{any, tabulate}
+use Rattle.model.specs.Triples.{triples}
+use Rattle.model.specs.Roster.{wrongEnd, wrongTriple, wrongCodes}
+use Rattle.model.specs.Outcomes.{wrongSize, wrongLength}
+use Rattle.lists.specs.Flat.{at}
+use Rattle.checks.proofs.Places.{run-none, run-more, run-holds, triples-all}
+
+-- ── lengths ──
+pub size-small : (n : ℕ) → n < 5 → true ≡ wrongSize n
+unfolding wrongSize
+size-small n h = rw (lt-ltb _ _ h)
+
+pub size-other : (n : ℕ) → 5 ≤ n → ltb 65536 n ≡ wrongSize n
+unfolding wrongSize
+size-other n h = rw (le-ltb _ _ h)
+
+pub length-part : (l : ℕ) → (l % 3 ≡ 0 → ⊥) → true ≡ wrongLength l
+unfolding wrongLength
+length-part l h = rw (ne-eqb _ _ h)
+
+pub length-other : (l : ℕ) → l % 3 ≡ 0 → ltb 3145728 l ≡ wrongLength l
+unfolding wrongLength
+length-other l h = rw (eq-eqb _ _ h)
+
+-- ── a triple ──
+pub end-over : (n c : ℕ) → n ≤ c → true ≡ wrongEnd rdfs n c
+unfolding wrongEnd
+end-over n c h = rw (le-leb _ _ h)
+
+pub end-below : (n c : ℕ) → c < n → reserved rdfs c ≡ wrongEnd rdfs n c
+unfolding wrongEnd
+end-below n c h = rw (lt-leb _ _ h)
+
+module _ (n : ℕ) (t : Triple) where
+  pub wrong-subject : wrongEnd rdfs n (t .subject) ≡ true → true ≡ wrongTriple rdfs n t
+  unfolding wrongTriple
+  wrong-subject e = rw e
+
+  module _ (e : wrongEnd rdfs n (t .subject) ≡ false) where
+    pub wrong-property : n ≤ t .property → true ≡ wrongTriple rdfs n t
+    unfolding wrongTriple
+    wrong-property h = rw (e, le-leb _ _ h)
+
+    pub wrong-object : t .property < n → wrongEnd rdfs n (t .object) ≡ wrongTriple rdfs n t
+    unfolding wrongTriple
+    wrong-object h = rw (e, lt-leb _ _ h)
+
+-- ── a table ──
+-- no triple before place i has a wrong code
+pub record RightBefore (table : List ℕ) (n i : ℕ) : Type 0 where
+  pub within : i ≤ length table / 3
+  pub none : any (wrongTriple rdfs n) (tabulate (at table) 0 i) ≡ false
+
+module _ (table : List ℕ) (n : ℕ) where
+  pub codes-start : RightBefore table n 0
+  codes-start = record { within = omega arith; none = run-none (wrongTriple rdfs n) (at table) 0 }
+
+  pub codes-step : (i : ℕ) (t : Triple) → RightBefore table n i → i < length table / 3 → t ≡ at table i → wrongTriple rdfs n t ≡ false
+      → RightBefore table n (i + 1)
+  codes-step i t h l e w = record {
+    within = omega arith;
+    none = run-more (wrongTriple rdfs n) (at table) i (h .none) (ap (wrongTriple rdfs n) (sym e) ∙ w);
+  }
+
+  pub codes-found : (i : ℕ) (t : Triple) → i < length table / 3 → t ≡ at table i → wrongTriple rdfs n t ≡ true
+      → true ≡ wrongCodes rdfs n (triples table)
+  unfolding wrongCodes
+  codes-found i t l e w =
+      sym
+      (ap (any (wrongTriple rdfs n)) (triples-all table)
+      ∙ run-holds (wrongTriple rdfs n) (at table) 0 (length table / 3) i (omega arith) (omega arith) (ap (wrongTriple rdfs n) (sym e) ∙ w))
+
+  pub codes-end : (i : ℕ) → RightBefore table n i → length table / 3 ≤ i → false ≡ wrongCodes rdfs n (triples table)
+  unfolding wrongCodes
+  codes-end i h l =
+      let e : length table / 3 ≡ i = omega (arith, h .within) in
+      sym (ap (any (wrongTriple rdfs n)) (triples-all table ∙ ap (tabulate (at table) 0) e) ∙ h .none)

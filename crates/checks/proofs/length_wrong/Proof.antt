@@ -1,0 +1,14 @@
+use Rattle.checks.proofs.Wrong.{length-part, length-other}
+use Rattle.checks.proofs.length_wrong.Statement.{statement}
+use Rattle.checks.proofs.length_wrong.Tie as tie
+use Rattle.checks.proofs.length_wrong.Reads as reads
+use Rattle.checks.proofs.length_wrong.Lts as lts
+
+returns : tie.Need-returns
+returns c = length-part _ (c .if1 .taken)
+
+returns-2 : tie.Need-returns-2
+returns-2 c = length-other _ (c .if1 .left)
+
+pub length-wrong-spec : {M : Type 1} → statement M
+length-wrong-spec = tie.close (tie.spec returns returns-2)
