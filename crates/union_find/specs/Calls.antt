@@ -1,4 +1,4 @@
--- What the functions require and ensure: each requires some test A with a forest, and ensures its result for every such A.
+-- What the functions require and ensure: find and union require some test A with a forest; each ensures its result for every such A.
 -- Assumes nothing.
 use Prim.Native.Nat.{ℕ, _<_, _≤_}
 use mathlib.Core.Bool.{Bool, true, false}
@@ -33,11 +33,6 @@ pub record United (l l' : List ℕ) (a b : ℕ) : Type 0 where
 pub record Apart (A : ℕ → Bool) (l : List ℕ) : Type 0 where
   pub forest : Forest A l
   pub rest : (x : ℕ) → x < length l → A x ≡ false → x ≤ getD l x 0
-
--- a list that can be flattened
-pub record Flattable (l : List ℕ) : Type 0 where
-  pub A : ℕ → Bool
-  pub apart : Apart A l
 
 -- each code's parent is its root, and the other entries are the same
 pub record Flattened (l l' : List ℕ) : Type 0 where

@@ -2,7 +2,7 @@
 
 ghost use mathlib.Core.Path.{_≡_};
 ghost use Prim.Native.Nat.{_<_};
-ghost use Rattle.union_find.specs.Calls.{Active, Found, ActivePair, United, Flattable, Flattened};
+ghost use Rattle.union_find.specs.Calls.{Active, Found, ActivePair, United, Flattened};
 
 pub fn wide(x: u32) -> usize
     ensures { λ r. ⌜ r ≡ x ⌝ }
@@ -51,7 +51,6 @@ pub fn union(parent: &mut [u32], a: usize, b: usize)
 
 // Makes each code's parent its root. Parents come before their children, so one pass is enough.
 pub fn flatten(parent: &mut [u32])
-    requires { ⌜ Flattable (now parent) ⌝ }
     ensures { λ r. ⌜ Flattened (now (parent .entry)) (now (parent .exit)) ⌝ }
 {
     let mut i = 0;

@@ -14,52 +14,67 @@ abbrev μ-loop : tie.MeasureT-loop
 μ-loop parent₀ from x₀ p₀ parent x p = x
 
 mul-wide : tie.Need-mul-wide Inv-loop μ-loop
-mul-wide c = ?
+mul-wide c = let s = c .before .pre in omega (arith, s .forest .inside _ (s .active))
 
 slice-read-wide : tie.Need-slice-read-wide Inv-loop μ-loop
-slice-read-wide c = ?
+slice-read-wide c = let s = c .before .before .pre in s .forest .inside _ (s .active)
 
 wide-requires : tie.Need-wide-requires Inv-loop μ-loop
 wide-requires c κs = search needs
 
 loop-holds : tie.Need-loop-holds Inv-loop μ-loop
-loop-holds c = walk-start _ _ _ ?
+loop-holds c = walk-start _ _ _ (c .wide .ensures)
 
 mul-g : tie.Need-mul-g Inv-loop μ-loop
-mul-g c = ?
+mul-g c =
+    let w = here (c .before .before .before .before .before .pre) (c .before .loop .inv) in
+    omega (arith, w .kept .forest .inside _ (w .active))
 
 slice-read-g : tie.Need-slice-read-g Inv-loop μ-loop
-slice-read-g c = ?
+slice-read-g c =
+    let w = here (c .before .before .before .before .before .before .pre) (c .before .before .loop .inv) in
+    omega (arith, w .kept .forest .inside _ (w .active), c .before .loop-test .taken)
 
 mul-parent : tie.Need-mul-parent Inv-loop μ-loop
-mul-parent c = ?
+mul-parent c =
+    let w = here (c .before .before .before .before .before .before .pre) (c .before .before .loop .inv) in
+    omega (arith, w .kept .forest .inside _ (w .active))
 
 slice-write-parent : tie.Need-slice-write-parent Inv-loop μ-loop
-slice-write-parent c = ?
+slice-write-parent c =
+    let w = here (c .before .before .before .before .before .before .pre) (c .before .before .loop .inv) in
+    w .kept .forest .inside _ (w .active)
 
 wide-requires-2 : tie.Need-wide-requires-2 Inv-loop μ-loop
 wide-requires-2 c κs = search needs
 
 mul-wide-2 : tie.Need-mul-wide-2 Inv-loop μ-loop
-mul-wide-2 c = ?
+mul-wide-2 c =
+    let w = here (c .before .before .before .before .before .before .before .pre) (c .before .before .before .loop .inv) in
+    omega (arith, up-inside _ _ _ _ _ _ w, w .kept .forest .size, c .wide2 .ensures)
 
 slice-read-wide-2 : tie.Need-slice-read-wide-2 Inv-loop μ-loop
-slice-read-wide-2 c = ?
+slice-read-wide-2 c =
+    let w = here (c .before .before .before .before .before .before .before .before .pre) (c .before .before .before .before .loop .inv) in
+    simp length-set (omega (arith, up-inside _ _ _ _ _ _ w, c .before .wide2 .ensures))
 
 wide-requires-3 : tie.Need-wide-requires-3 Inv-loop μ-loop
 wide-requires-3 c κs = search needs
 
 loop-less : tie.Need-loop-less Inv-loop μ-loop
-loop-less c = ?
+loop-less c =
+    let w = here (c .before .before .before .before .before .before .before .before .before .pre) (c .before .before .before .before .before .loop .inv) in
+    omega (arith, up-less _ _ _ _ _ _ w (c .before .before .before .before .loop-test .taken), c .before .before .wide2 .ensures)
 
 loop-again : tie.Need-loop-again Inv-loop μ-loop
-loop-again c = ?
+loop-again c =
+    walk-step _ _ _ _ _ (c .before .before .before .before .before .loop .inv) (c .before .before .before .before .loop-test .taken) _ _ (c .before .before .wide2 .ensures) (c .wide3 .ensures)
 
 same-length : tie.Need-same-length Inv-loop μ-loop
-same-length c = ?
+same-length c = here (c .before .before .before .before .before .pre) (c .before .loop .inv) .kept .len
 
 returns : tie.Need-returns Inv-loop μ-loop
-returns c = ?
+returns c = walk-end _ _ _ _ _ (c .before .before .before .before .before .pre) (c .before .loop .inv) (c .loop-test .left)
 
 pub find-spec : {M : Type 1} → statement M
 find-spec =

@@ -1,66 +1,76 @@
+-- `union_find::union` meets its contract: both roots are found, and the larger gets the smaller as its parent.
+-- Assumes nothing.
+use mathlib.Core.Bool.{Bool, true}
+use mathlib.Core.Path.{_≡_}
+use Prim.Native.Nat.{ℕ}
+use native.Mathlib.Omega.{arith}
+use lib.ListN.{length-set}
 use borrow.Author.Needs.{needs}
+use Rattle.union_find.specs.Roots.{Forest}
+use Rattle.union_find.proofs.Steps.{Both, both, both-flip, y-inside, link, link-flip, link-none}
 use Rattle.union_find.proofs.union.Statement.{statement}
 use Rattle.union_find.proofs.union.Tie as tie
-use Rattle.union_find.proofs.union.Reads as reads
-use Rattle.union_find.proofs.union.Lts as lts
-use Rattle.union_find.proofs.find.Reads as find-reads
-use Rattle.union_find.proofs.narrow.Reads as narrow-reads
 
--- src/lib.rt:41:9
+-- after the two calls, for every A
+found : (c : tie.After-find2) (A : ℕ → Bool) → Forest A (c .before .before .before .before .before .before .before .args .parent .now) → A (c .before .before .before .before .before .before .before .args .a) ≡ true → A (c .before .before .before .before .before .before .before .args .b) ≡ true
+    → Both A (c .before .before .before .before .before .before .before .args .parent .now) (c .find2 .last .0) (c .before .before .before .before .before .before .before .args .a) (c .before .before .before .before .before .before .before .args .b) (c .before .before .before .before .find .result) (c .find2 .result)
+found c A f p q = both A _ (c .before .before .before .before .find .last .0) _ _ _ _ _ f p q (c .before .before .before .before .find .ensures) (c .find2 .ensures)
+
+-- and for the A of the call
+here : (c : tie.After-find2) → Both (c .before .before .before .before .before .before .before .pre .A) (c .before .before .before .before .before .before .before .args .parent .now) (c .find2 .last .0) (c .before .before .before .before .before .before .before .args .a) (c .before .before .before .before .before .before .before .args .b) (c .before .before .before .before .find .result) (c .find2 .result)
+here c = let s = c .before .before .before .before .before .before .before .pre in found c (s .A) (s .forest) (s .left) (s .right)
+
 find-requires : tie.Need-find-requires
 find-requires c κs = search needs
 
--- src/lib.rt:42:9
 find-requires-2 : tie.Need-find-requires-2
-find-requires-2 c κs = ?
+find-requires-2 c κs =
+    let s = c .before .before .before .before .before .before .pre in
+    record { A = s .A; forest = c .before .before .before .find .ensures .keeps (s .A) (s .forest) (s .left) .forest; active = s .right }
 
--- src/lib.rt:44:21
 narrow-requires : tie.Need-narrow-requires
-narrow-requires c κs = ?
+narrow-requires c κs =
+    let w = here (c .before .before .before) in
+    omega (arith, y-inside _ _ _ _ _ _ _ (both-flip w), w .kept .forest .size)
 
--- src/lib.rt:44:9
 mul-parent : tie.Need-mul-parent
-mul-parent c = ?
+mul-parent c =
+    let w = here (c .before .before .before .before) in
+    omega (arith, y-inside _ _ _ _ _ _ _ w, w .kept .forest .size)
 
--- src/lib.rt:44:9
 slice-write-parent : tie.Need-slice-write-parent
-slice-write-parent c = ?
+slice-write-parent c = y-inside _ _ _ _ _ _ _ (here (c .before .before .before .before))
 
--- src/lib.rt:47:25
 narrow-requires-2 : tie.Need-narrow-requires-2
-narrow-requires-2 c κs = ?
+narrow-requires-2 c κs =
+    let w = here (c .before .before .before .before) in
+    omega (arith, y-inside _ _ _ _ _ _ _ w, w .kept .forest .size)
 
--- src/lib.rt:47:13
 mul-parent-2 : tie.Need-mul-parent-2
-mul-parent-2 c = ?
+mul-parent-2 c =
+    let w = here (c .before .before .before .before .before) in
+    omega (arith, y-inside _ _ _ _ _ _ _ (both-flip w), w .kept .forest .size)
 
--- src/lib.rt:47:13
 slice-write-parent-2 : tie.Need-slice-write-parent-2
-slice-write-parent-2 c = ?
+slice-write-parent-2 c = y-inside _ _ _ _ _ _ _ (both-flip (here (c .before .before .before .before .before)))
 
--- src/lib.rt:37:1
 same-length : tie.Need-same-length
-same-length c = ?
+same-length c = simp length-set (here (c .before .before .before .before) .kept .len)
 
--- src/lib.rt:37:1
 returns : tie.Need-returns
-returns c = ?
+returns c = record { keeps = λ A f p q. link A _ _ _ _ _ _ (found (c .before .before .before .before) A f p q) _ (c .narrow .ensures) (c .before .if1 .taken) }
 
--- src/lib.rt:37:1
 same-length-2 : tie.Need-same-length-2
-same-length-2 c = ?
+same-length-2 c = simp length-set (here (c .before .before .before .before .before) .kept .len)
 
--- src/lib.rt:37:1
 returns-2 : tie.Need-returns-2
-returns-2 c = ?
+returns-2 c = record { keeps = λ A f p q. link-flip A _ _ _ _ _ _ (found (c .before .before .before .before .before) A f p q) _ (c .narrow2 .ensures) (c .before .if2 .taken) }
 
--- src/lib.rt:37:1
 same-length-3 : tie.Need-same-length-3
 same-length-3 c = search needs
 
--- src/lib.rt:37:1
 returns-3 : tie.Need-returns-3
-returns-3 c = ?
+returns-3 c = record { keeps = λ A f p q. link-none A _ _ _ _ _ _ (found (c .before .before .before .before) A f p q) (omega arith) }
 
 pub union-spec : {M : Type 1} → statement M
 union-spec =
