@@ -7,9 +7,10 @@ use mathlib.Core.List.{List}
 use native.Mathlib.Omega.{arith}
 use lib.Dec.{eqb}
 use lib.ListN.{length, getD, set, length-set}
-use lib.Seq.{getD-set-same, getD-set-other}
+use lib.Seq.{getD-set-other}
 use borrow.Author.Tests.{eqb-true}
-use Rattle.theory.proofs.Tests.{cond-cases, not-both}
+use Rattle.model.specs.Codes.{absent}
+use Rattle.theory.proofs.Tests.{cond-cases}
 use Rattle.union_find.specs.Roots.{root, merge, Forest, Kept}
 use Rattle.union_find.specs.Calls.{Active, Found, Apart, Flattened}
 use Rattle.union_find.proofs.Compare.{Cmp, lt, eq, gt, cmp}
@@ -37,8 +38,10 @@ module _ (A : ℕ → Bool) (l₀ : List ℕ) (from : ℕ) (l : List ℕ) (x p :
   up-active : A (getD l p 0) ≡ true
   up-active = w .kept .forest .links p parent-active
 
-  pub up-inside : getD l p 0 < length l
-  up-inside = w .kept .forest .inside _ up-active
+  pub walk-bounds : (length l ≤ absent) × (x < length l) × (p < length l) × (getD l p 0 < length l)
+  walk-bounds =
+      let f = w .kept .forest in
+      (f .size, f .inside x (w .active), f .inside p parent-active, f .inside _ up-active)
 
   pub up-less : p < x → getD l p 0 < x
   up-less h = omega (arith, w .kept .forest .falls p parent-active)
@@ -67,12 +70,12 @@ pub walk-step : (l₀ : List ℕ) (from : ℕ) (l : List ℕ) (x p : ℕ) → Wa
 walk-step l₀ from l x p w h x' p' ex ep A f a = step-at A l₀ from l x p (w A f a) h x' p' ex ep
 
 -- the walk for the A that a call is given
-pub here : {l₀ : List ℕ} {from : ℕ} {l : List ℕ} {x p : ℕ} (s : Active l₀ from) → Walks l₀ from l x p → Walk (s .A) l₀ from l x p
-here s w = w (s .A) (s .forest) (s .active)
+pub walk-of : {l₀ : List ℕ} {from : ℕ} {l : List ℕ} {x p : ℕ} (s : Active l₀ from) → Walks l₀ from l x p → Walk (s .A) l₀ from l x p
+walk-of s w = w (s .A) (s .forest) (s .active)
 
 pub walk-end : (l₀ : List ℕ) (from : ℕ) (l : List ℕ) (x p : ℕ) → Active l₀ from → Walks l₀ from l x p → x ≤ p → Found l₀ l from x
 walk-end l₀ from l x p s w h = record {
-  result = sym (root-top l x (rw (← here s w .parent) h)) ∙ here s w .goal;
+  result = sym (root-top l x (rw (← walk-of s w .parent) h)) ∙ walk-of s w .goal;
   keeps = λ A f a. w A f a .kept;
 }
 
@@ -80,6 +83,8 @@ walk-end l₀ from l x p s w h = record {
 -- both roots are found: x of a, and y of b
 pub record Both (A : ℕ → Bool) (l₀ l : List ℕ) (a b x y : ℕ) : Type 0 where
   pub kept : Kept A l₀ l (root l₀)
+  pub a-active : A a ≡ true
+  pub b-active : A b ≡ true
   pub x-active : A x ≡ true
   pub y-active : A y ≡ true
   pub x-root : x ≡ root l₀ a
@@ -91,6 +96,8 @@ both A l₀ l₁ l₂ a b x y f ha hb p q =
     let ey : y ≡ root l₀ b = q .result ∙ k .roots b hb in
     record {
       kept = kept-then A l₀ l₁ l₂ k (q .keeps A (k .forest) hb);
+      a-active = ha;
+      b-active = hb;
       x-active = rw (p .result) (root-active l₀ A f a ha);
       y-active = rw ey (root-active l₀ A f b hb);
       x-root = p .result;
@@ -98,7 +105,15 @@ both A l₀ l₁ l₂ a b x y f ha hb p q =
     }
 
 pub both-flip : {A : ℕ → Bool} {l₀ l : List ℕ} {a b x y : ℕ} → Both A l₀ l a b x y → Both A l₀ l b a y x
-both-flip w = record { kept = w .kept; x-active = w .y-active; y-active = w .x-active; x-root = w .y-root; y-root = w .x-root }
+both-flip w = record {
+  kept = w .kept;
+  a-active = w .b-active;
+  b-active = w .a-active;
+  x-active = w .y-active;
+  y-active = w .x-active;
+  x-root = w .y-root;
+  y-root = w .x-root;
+}
 
 pub merge-flip : (f : ℕ → ℕ) (a b y : ℕ) → merge f a b y ≡ merge f b a y
 unfolding merge
@@ -108,8 +123,10 @@ merge-flip f a b y =
     rw (p, q)
 
 module _ (A : ℕ → Bool) (l₀ l : List ℕ) (a b x y : ℕ) (w : Both A l₀ l a b x y) where
-  pub y-inside : y < length l
-  y-inside = w .kept .forest .inside y (w .y-active)
+  pub both-bounds : (length l ≤ absent) × (a < length l) × (b < length l) × (x < length l) × (y < length l)
+  both-bounds =
+      let f = w .kept .forest in
+      (f .size, f .inside a (w .a-active), f .inside b (w .b-active), f .inside x (w .x-active), f .inside y (w .y-active))
 
   own-x : root l x ≡ x
   own-x = w .kept .roots x (w .x-active) ∙ rw (w .x-root) (root-root l₀ a)
@@ -121,7 +138,7 @@ module _ (A : ℕ → Bool) (l₀ l : List ℕ) (a b x y : ℕ) (w : Both A l₀
   pub link : (v : ℕ) → v ≡ x → x < y → Kept A l₀ (set l y v) (merge (root l₀) a b)
   unfolding merge
   link v e d = rw e (kept-set A l₀ l (root l₀) _ (w .kept) y x (w .y-active) (w .x-active) d
-      (λ z q. linked l y x y-inside d (rw own-y at (root-is-top l y)) z ∙ is z q))
+      (λ z q. linked l y x (both-bounds .4) d (rw own-y at (root-is-top l y)) z ∙ is z q))
     where
       is : (z : ℕ) → root l z ≡ root l₀ z → cond (eqb (root l z) y) (root l x) (root l z) ≡ merge (root l₀) a b z
       is z q =

@@ -3,7 +3,7 @@
 use native.Mathlib.Omega.{arith}
 use lib.ListN.{length-set}
 use borrow.Author.Needs.{needs}
-use Rattle.union_find.proofs.Steps.{Walks, here, walk-start, walk-step, walk-end, up-inside, up-less}
+use Rattle.union_find.proofs.Steps.{Walks, walk-of, walk-start, walk-step, walk-end, walk-bounds, up-less}
 use Rattle.union_find.proofs.find.Statement.{statement}
 use Rattle.union_find.proofs.find.Tie as tie
 
@@ -27,43 +27,43 @@ loop-holds c = walk-start _ _ _ (c .wide .ensures)
 
 mul-g : tie.Need-mul-g Inv-loop μ-loop
 mul-g c =
-    let w = here (c .before .before .before .before .before .pre) (c .before .loop .inv) in
-    omega (arith, w .kept .forest .inside _ (w .active))
+    let w = walk-of (c .before .before .before .before .before .pre) (c .before .loop .inv) in
+    omega (arith, walk-bounds _ _ _ _ _ _ w)
 
 slice-read-g : tie.Need-slice-read-g Inv-loop μ-loop
 slice-read-g c =
-    let w = here (c .before .before .before .before .before .before .pre) (c .before .before .loop .inv) in
-    omega (arith, w .kept .forest .inside _ (w .active), c .before .loop-test .taken)
+    let w = walk-of (c .before .before .before .before .before .before .pre) (c .before .before .loop .inv) in
+    omega (arith, walk-bounds _ _ _ _ _ _ w)
 
 mul-parent : tie.Need-mul-parent Inv-loop μ-loop
 mul-parent c =
-    let w = here (c .before .before .before .before .before .before .pre) (c .before .before .loop .inv) in
-    omega (arith, w .kept .forest .inside _ (w .active))
+    let w = walk-of (c .before .before .before .before .before .before .pre) (c .before .before .loop .inv) in
+    omega (arith, walk-bounds _ _ _ _ _ _ w)
 
 slice-write-parent : tie.Need-slice-write-parent Inv-loop μ-loop
 slice-write-parent c =
-    let w = here (c .before .before .before .before .before .before .pre) (c .before .before .loop .inv) in
-    w .kept .forest .inside _ (w .active)
+    let w = walk-of (c .before .before .before .before .before .before .pre) (c .before .before .loop .inv) in
+    omega (arith, walk-bounds _ _ _ _ _ _ w)
 
 wide-requires-2 : tie.Need-wide-requires-2 Inv-loop μ-loop
 wide-requires-2 c κs = search needs
 
 mul-wide-2 : tie.Need-mul-wide-2 Inv-loop μ-loop
 mul-wide-2 c =
-    let w = here (c .before .before .before .before .before .before .before .pre) (c .before .before .before .loop .inv) in
-    omega (arith, up-inside _ _ _ _ _ _ w, w .kept .forest .size, c .wide2 .ensures)
+    let w = walk-of (c .before .before .before .before .before .before .before .pre) (c .before .before .before .loop .inv) in
+    omega (arith, walk-bounds _ _ _ _ _ _ w, c .wide2 .ensures)
 
 slice-read-wide-2 : tie.Need-slice-read-wide-2 Inv-loop μ-loop
 slice-read-wide-2 c =
-    let w = here (c .before .before .before .before .before .before .before .before .pre) (c .before .before .before .before .loop .inv) in
-    simp length-set (omega (arith, up-inside _ _ _ _ _ _ w, c .before .wide2 .ensures))
+    let w = walk-of (c .before .before .before .before .before .before .before .before .pre) (c .before .before .before .before .loop .inv) in
+    simp length-set (omega (arith, walk-bounds _ _ _ _ _ _ w, c .before .wide2 .ensures))
 
 wide-requires-3 : tie.Need-wide-requires-3 Inv-loop μ-loop
 wide-requires-3 c κs = search needs
 
 loop-less : tie.Need-loop-less Inv-loop μ-loop
 loop-less c =
-    let w = here (c .before .before .before .before .before .before .before .before .before .pre) (c .before .before .before .before .before .loop .inv) in
+    let w = walk-of (c .before .before .before .before .before .before .before .before .before .pre) (c .before .before .before .before .before .loop .inv) in
     omega (arith, up-less _ _ _ _ _ _ w (c .before .before .before .before .loop-test .taken), c .before .before .wide2 .ensures)
 
 loop-again : tie.Need-loop-again Inv-loop μ-loop
@@ -71,7 +71,7 @@ loop-again c =
     walk-step _ _ _ _ _ (c .before .before .before .before .before .loop .inv) (c .before .before .before .before .loop-test .taken) _ _ (c .before .before .wide2 .ensures) (c .wide3 .ensures)
 
 same-length : tie.Need-same-length Inv-loop μ-loop
-same-length c = here (c .before .before .before .before .before .pre) (c .before .loop .inv) .kept .len
+same-length c = walk-of (c .before .before .before .before .before .pre) (c .before .loop .inv) .kept .len
 
 returns : tie.Need-returns Inv-loop μ-loop
 returns c = walk-end _ _ _ _ _ (c .before .before .before .before .before .pre) (c .before .loop .inv) (c .loop-test .left)

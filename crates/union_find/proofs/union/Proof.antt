@@ -7,7 +7,7 @@ use native.Mathlib.Omega.{arith}
 use lib.ListN.{length-set}
 use borrow.Author.Needs.{needs}
 use Rattle.union_find.specs.Roots.{Forest}
-use Rattle.union_find.proofs.Steps.{Both, both, both-flip, y-inside, link, link-flip, link-none}
+use Rattle.union_find.proofs.Steps.{Both, both, both-bounds, link, link-flip, link-none}
 use Rattle.union_find.proofs.union.Statement.{statement}
 use Rattle.union_find.proofs.union.Tie as tie
 
@@ -29,30 +29,22 @@ find-requires-2 c κs =
     record { A = s .A; forest = c .before .before .before .find .ensures .keeps (s .A) (s .forest) (s .left) .forest; active = s .right }
 
 narrow-requires : tie.Need-narrow-requires
-narrow-requires c κs =
-    let w = here (c .before .before .before) in
-    omega (arith, y-inside _ _ _ _ _ _ _ (both-flip w), w .kept .forest .size)
+narrow-requires c κs = omega (arith, both-bounds _ _ _ _ _ _ _ (here (c .before .before .before)))
 
 mul-parent : tie.Need-mul-parent
-mul-parent c =
-    let w = here (c .before .before .before .before) in
-    omega (arith, y-inside _ _ _ _ _ _ _ w, w .kept .forest .size)
+mul-parent c = omega (arith, both-bounds _ _ _ _ _ _ _ (here (c .before .before .before .before)))
 
 slice-write-parent : tie.Need-slice-write-parent
-slice-write-parent c = y-inside _ _ _ _ _ _ _ (here (c .before .before .before .before))
+slice-write-parent c = omega (arith, both-bounds _ _ _ _ _ _ _ (here (c .before .before .before .before)))
 
 narrow-requires-2 : tie.Need-narrow-requires-2
-narrow-requires-2 c κs =
-    let w = here (c .before .before .before .before) in
-    omega (arith, y-inside _ _ _ _ _ _ _ w, w .kept .forest .size)
+narrow-requires-2 c κs = omega (arith, both-bounds _ _ _ _ _ _ _ (here (c .before .before .before .before)))
 
 mul-parent-2 : tie.Need-mul-parent-2
-mul-parent-2 c =
-    let w = here (c .before .before .before .before .before) in
-    omega (arith, y-inside _ _ _ _ _ _ _ (both-flip w), w .kept .forest .size)
+mul-parent-2 c = omega (arith, both-bounds _ _ _ _ _ _ _ (here (c .before .before .before .before .before)))
 
 slice-write-parent-2 : tie.Need-slice-write-parent-2
-slice-write-parent-2 c = y-inside _ _ _ _ _ _ _ (both-flip (here (c .before .before .before .before .before)))
+slice-write-parent-2 c = omega (arith, both-bounds _ _ _ _ _ _ _ (here (c .before .before .before .before .before)))
 
 same-length : tie.Need-same-length
 same-length c = simp length-set (here (c .before .before .before .before) .kept .len)
