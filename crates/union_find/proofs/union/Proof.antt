@@ -11,13 +11,19 @@ use Rattle.union_find.proofs.Steps.{Both, both, both-bounds, link, link
 use Rattle.union_find.proofs.union.Statement.{statement}
 use Rattle.union_find.proofs.union.Tie as tie
 
--- after the two calls, for every A
-found : (c : tie.After-find2) (A : ℕ → Bool) → Forest A (c .before .before .before .before .before .before .before .args .parent .now) → A (c .before .before .before .before .before .before .before .args .a) ≡ true → A (c .before .before .before .before .before .before .before .args .b) ≡ true
-    → Both A (c .before .before .before .before .before .before .before .args .parent .now) (c .find2 .last .0) (c .before .before .before .before .before .before .before .args .a) (c .before .before .before .before .before .before .before .args .b) (c .before .before .before .before .find .result) (c .find2 .result)
+-- after the two calls, for a test A
+abbrev Roots : tie.After-find2 → (ℕ → Bool) → Type 0
+Roots c A =
+    let s = c .before .before .before .before .before .before .before .args in
+    Both A (s .parent .now) (c .find2 .last .0) (s .a) (s .b) (c .before .before .before .before .find .result) (c .find2 .result)
+
+-- for every A
+found : (c : tie.After-find2) (A : ℕ → Bool) → Forest A (c .before .before .before .before .before .before .before .args .parent .now)
+    → A (c .before .before .before .before .before .before .before .args .a) ≡ true → A (c .before .before .before .before .before .before .before .args .b) ≡ true → Roots c A
 found c A f p q = both A _ (c .before .before .before .before .find .last .0) _ _ _ _ _ f p q (c .before .before .before .before .find .ensures) (c .find2 .ensures)
 
--- and for the A of the call
-here : (c : tie.After-find2) → Both (c .before .before .before .before .before .before .before .pre .A) (c .before .before .before .before .before .before .before .args .parent .now) (c .find2 .last .0) (c .before .before .before .before .before .before .before .args .a) (c .before .before .before .before .before .before .before .args .b) (c .before .before .before .before .find .result) (c .find2 .result)
+-- for the A of the call
+here : (c : tie.After-find2) → Roots c (c .before .before .before .before .before .before .before .pre .A)
 here c = let s = c .before .before .before .before .before .before .before .pre in found c (s .A) (s .forest) (s .left) (s .right)
 
 find-requires : tie.Need-find-requires
