@@ -1,4 +1,4 @@
--- A test over the values of a function at a run of numbers, and the triples of a flat list as such values.
+-- A test over the values of a function at a run of numbers.
 -- Assumes nothing.
 use Prim.Native.Nat.{ℕ, zero, suc, _+_, _-_, _*_, _/_, _<_, _≤_}
 use native.Mathlib.Nat.{zero-add, add-zero, suc-add, add-suc}
@@ -6,13 +6,8 @@ use native.Mathlib.Omega.{arith}
 use mathlib.Core.Path.{_≡_, refl, sym, ap, _∙_}
 use mathlib.Core.Bool.{Bool, true, false, _||_, or-assoc, or-false}
 use mathlib.Core.List.{List, [], _∷_}
-use lib.ListN.{length, take}
-use Rattle.model.specs.declared.Triple.{Triple}
 use Rattle.model.specs.Lists.{any, tabulate}
-use Rattle.model.specs.Triples.{triple, triples}
 use Rattle.theory.proofs.Lists.{any-holds, any-none, none-any, mem-tabulate, tabulate-mem}
-use Rattle.lists.specs.Flat.{at}
-use Rattle.lists.proofs.Places.{triples-places}
 
 module _ {A : Type 0} (f : A → Bool) (g : ℕ → A) where
   pub run-none : (a : ℕ) → any f (tabulate g a 0) ≡ false
@@ -42,21 +37,3 @@ module _ {A : Type 0} (f : A → Bool) (g : ℕ → A) where
   -- it fails at each
   pub run-fails : (a n : ℕ) → ((i : ℕ) → a ≤ i → i < a + n → f (g i) ≡ false) → any f (tabulate g a n) ≡ false
   run-fails a n h = none-any f (tabulate g a n) (λ x m. let w = tabulate-mem g a n m in ap f (w .3) ∙ h (w .0) (w .1) (w .2))
-
--- the one or two numbers left over are no triple
-triples-whole : (l : List ℕ) (n : ℕ) → 3 * n ≤ length l → length l < 3 * n + 3 → triples l ≡ triples (take (3 * n) l)
-unfolding triples
-triples-whole [] zero a b = refl
-triples-whole [] (suc n) a b = absurd (omega arith)
-triples-whole (s ∷ []) zero a b = refl
-triples-whole (s ∷ []) (suc n) a b = absurd (omega arith)
-triples-whole (s ∷ p ∷ []) zero a b = refl
-triples-whole (s ∷ p ∷ []) (suc n) a b = absurd (omega arith)
-triples-whole (s ∷ p ∷ o ∷ l) zero a b = absurd (omega arith)
-triples-whole (s ∷ p ∷ o ∷ l) (suc n) a b =
-    let e : 3 * suc n ≡ suc (suc (suc (3 * n))) = omega arith in
-    rw e (ap (λ (ts : List Triple). triple s p o ∷ ts) (triples-whole l n (omega arith) (omega arith)))
-
--- the triples of a list are those at its places
-pub triples-all : (l : List ℕ) → triples l ≡ tabulate (at l) 0 (length l / 3)
-triples-all l = triples-whole l (length l / 3) (omega arith) (omega arith) ∙ triples-places l (length l / 3) (omega arith)

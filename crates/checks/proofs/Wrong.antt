@@ -15,7 +15,8 @@ use Rattle.model.specs.Triples.{triples}
 use Rattle.model.specs.Roster.{wrongEnd, wrongTriple, wrongCodes}
 use Rattle.model.specs.Outcomes.{wrongSize, wrongLength}
 use Rattle.lists.specs.Flat.{at}
-use Rattle.checks.proofs.Places.{run-none, run-more, run-holds, triples-all}
+use Rattle.checks.proofs.Places.{run-none, run-more, run-holds}
+use Rattle.lists.proofs.Places.{triples-table}
 
 -- ── lengths ──
 pub size-small : (n : ℕ) → n < 5 → true ≡ wrongSize n
@@ -79,11 +80,11 @@ module _ (table : List ℕ) (n : ℕ) where
   unfolding wrongCodes
   codes-found i t l e w =
       sym
-      (ap (any (wrongTriple rdfs n)) (triples-all table)
+      (ap (any (wrongTriple rdfs n)) (triples-table table)
       ∙ run-holds (wrongTriple rdfs n) (at table) 0 (length table / 3) i (omega arith) (omega arith) (ap (wrongTriple rdfs n) (sym e) ∙ w))
 
   pub codes-end : (i : ℕ) → RightBefore table n i → length table / 3 ≤ i → false ≡ wrongCodes rdfs n (triples table)
   unfolding wrongCodes
   codes-end i h l =
       let e : length table / 3 ≡ i = omega (arith, h .within) in
-      sym (ap (any (wrongTriple rdfs n)) (triples-all table ∙ ap (tabulate (at table) 0) e) ∙ h .none)
+      sym (ap (any (wrongTriple rdfs n)) (triples-table table ∙ ap (tabulate (at table) 0) e) ∙ h .none)

@@ -12,7 +12,7 @@ use lib.Seq.{getD-set-same, getD-set-other}
 use borrow.Author.Tests.{eq-eqb, ne-eqb}
 use Rattle.theory.proofs.Tests.{not-both}
 use Rattle.union_find.specs.Roots.{root, merge, Forest}
-use Rattle.union_find.proofs.Compare.{Cmp, lt, eq, gt, cmp}
+use Rattle.lists.proofs.Compare.{Cmp, lt, eq, gt, cmp}
 use Rattle.union_find.proofs.Laws.{by-parents, root-top, root-up, forest-set}
 
 -- the smallest equivalence that contains R

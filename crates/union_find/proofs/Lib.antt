@@ -1,4 +1,3 @@
-pub mod Compare
 pub mod Laws
 pub mod Steps
 pub mod Classes

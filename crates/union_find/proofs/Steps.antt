@@ -13,7 +13,7 @@ use Rattle.model.specs.Codes.{absent}
 use Rattle.theory.proofs.Tests.{cond-cases}
 use Rattle.union_find.specs.Roots.{root, merge, Forest, Kept}
 use Rattle.union_find.specs.Calls.{Active, Found, Apart, Flattened}
-use Rattle.union_find.proofs.Compare.{Cmp, lt, eq, gt, cmp}
+use Rattle.lists.proofs.Compare.{Cmp, lt, eq, gt, cmp}
 use Rattle.union_find.proofs.Laws.{root-top, root-up, root-is-top, root-root, root-active, set-at, shortcut, linked, kept-start, kept-then, kept-ext, kept-set}
 
 -- ── find ──
