@@ -1,54 +1,15 @@
 -- Each demand is met by the definitions.
 -- Assumes nothing.
-use Prim.Native.Nat.{ℕ}
-use mathlib.Core.Path.{_≡_, refl, sym, subst, _∙_}
-use mathlib.Core.Logic.{⊎-elim}
-use mathlib.Core.Bool.{Bool, false}
-use mathlib.Core.List.{List, List·Memᴰ as Mem}
-use lib.ListN.{length}
-use Rattle.model.specs.declared.Triple.{Triple}
-use Rattle.model.specs.Codes.{rdfs}
-use Rattle.model.specs.Triples.{triples, flat}
-use Rattle.model.specs.Partition.{label}
-use Rattle.model.specs.Classes.{mapOf}
-use Rattle.model.specs.Summary.{moved, summary}
-use Rattle.model.specs.Outcomes.{Passes, accepted}
 use Rattle.model.proofs.Graphs as graphs
-use Rattle.query.specs.declared.Query.{Query}
-use Rattle.query.specs.Ask.{askChecks, askOutcome, search, unbound, wrongQuery}
-use Rattle.query.specs.Match.{Choice}
 use Rattle.query.proofs.Exact.{ask-exact}
-use Rattle.query.proofs.Carried.{match-carried}
-use Rattle.theory.specs.Theorems.{saturationOf}
 use Rattle.theory.proofs.Theorems as theorems
-use Rattle.theory.proofs.Summaries as summaries
-use Rattle.theory.proofs.Checks.{passes-first, decided-cases, not-accepted}
-use Rattle.theory.proofs.Flat.{triples-flat}
 use Rattle.site_form.proofs.Whole.{reads-exactly}
 use Rattle.site_form.proofs.Back.{written-is-read}
-use Rattle.site_form.proofs.Example.{prints-example}
-use Rattle.demands.specs.Demands.{NoneMeansNone, GraphsRight, Demand2, Demand3, SiteForms}
-
--- an ask that is answered passed its checks
-answered-passes : (table map : List ℕ) (q : Query) → askOutcome rdfs table map q ≡ accepted false → Passes (askChecks rdfs table map q)
-unfolding askOutcome
-answered-passes table map q h =
-    ⊎-elim (λ w. absurd (not-accepted (sym (w .1) ∙ h))) (λ p. p)
-    (decided-cases (askChecks rdfs table map q) (accepted (search (triples table) map (q .patterns) (q .count) 0 unbound)))
-
-query-right : (table map : List ℕ) (q : Query) → Passes (askChecks rdfs table map q) → wrongQuery (length map) q ≡ false
-unfolding askChecks
-query-right table map q h = (passes-first _ _ ((passes-first _ _ ((passes-first _ _ h) .1)) .1)) .0
-
-none-means-none : NoneMeansNone
-none-means-none table roster q h e m =
-    let sat = saturationOf table roster in
-    let sum = summary rdfs roster sat in
-    let map = mapOf rdfs roster sat in
-    let p = answered-passes (flat sum) map q e in
-    let choice = match-carried (label map) sat sum map q
-    (λ t n. (summaries.summary-exact rdfs roster sat (moved (label map) t)) .1 (t, n, refl)) (λ c l n. refl) (query-right (flat sum) map q p) m in
-    (ask-exact rdfs (flat sum) map q p) .none .0 e (subst (λ (us : List Triple). Choice us map q) (sym (triples-flat sum)) choice)
+use Rattle.site_form.proofs.Queries.{counts-patterns}
+use Rattle.site_form.proofs.Example.{sign-bytes, prints-example}
+use Rattle.demands.specs.Demands.{GraphsRight, Demand2, Demand3, SiteForms}
+use Rattle.demands.proofs.NoneMeansNone.{none-means-none}
+use Rattle.demands.proofs.Routes.{shortcut-of-calls, none-of-calls, ask-refuses-six}
 
 pub graphs-right : GraphsRight
 graphs-right = graphs.graphs-right
@@ -69,10 +30,21 @@ demand-3 =
     record {
       shortcut = theorems.shortcut-holds;
       routes = theorems.routes-accepted;
+      shortcut-of-calls = shortcut-of-calls;
       any-order = theorems.any-order;
+      fed-in-any-order = theorems.fed-in-any-order;
       none-means-none = none-means-none;
+      none-of-calls = none-of-calls;
       whole-list = theorems.whole-list;
     }
 
 pub site-forms : SiteForms
-site-forms = record { reads = reads-exactly; written-is-read = written-is-read; example = prints-example }
+site-forms =
+    record {
+      reads = reads-exactly;
+      written-is-read = written-is-read;
+      example = prints-example;
+      ask-refuses-six = ask-refuses-six;
+      signs = sign-bytes;
+      counts = counts-patterns;
+    }

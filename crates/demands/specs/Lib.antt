@@ -1,1 +1,3 @@
+pub mod NoneMeansNone
+pub mod Routes
 pub mod Demands

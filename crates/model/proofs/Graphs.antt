@@ -5,14 +5,16 @@ use Rattle.model.specs.Graphs.{graphs, allRight, right, equal}
 use Rattle.model.specs.Codes.{kind, reserved}
 use Rattle.model.specs.Lists.{any, all, collect, among, tabulate}
 use Rattle.model.specs.Triples.{triples, flat, isData, before, same, insert, sorted}
-use Rattle.model.specs.Roster.{isClass, isProperty, unmarked, classRoles, propertyRoles, classIn, propertyIn, ownRoster, isNode}
+use Rattle.model.specs.Roster.{isClass, isProperty, unmarked, classRoles, propertyRoles, classIn, propertyIn, coversTriple, covers, ownRoster, wrongRoster, wrongEnd, wrongTriple, wrongCodes, isNode}
 use Rattle.model.specs.Rules.{place, fits, gives}
 use Rattle.model.specs.Saturation.{conclusions, round, rounds, saturation}
 use Rattle.model.specs.Partition.{union, merged, pairs}
 use Rattle.model.specs.Cliques.{links, shares, hasClique, cliques}
 use Rattle.model.specs.Classes.{together, cliqueOf, placed, mapOf}
 use Rattle.model.specs.Summary.{summary}
+use Rattle.model.specs.Outcomes.{wrongSize, wrongLength}
+use Rattle.model.specs.Calls.{tableChecks}
 
 pub graphs-right : T (allRight graphs)
-unfolding kind reserved any all collect among tabulate triples flat isData before same insert sorted isClass isProperty unmarked classRoles propertyRoles classIn propertyIn ownRoster isNode place fits gives conclusions round rounds saturation union merged pairs links shares hasClique cliques together cliqueOf placed mapOf summary equal right allRight
+unfolding tableChecks wrongSize wrongLength wrongRoster wrongCodes wrongTriple wrongEnd covers coversTriple kind reserved any all collect among tabulate triples flat isData before same insert sorted isClass isProperty unmarked classRoles propertyRoles classIn propertyIn ownRoster isNode place fits gives conclusions round rounds saturation union merged pairs links shares hasClique cliques together cliqueOf placed mapOf summary equal right allRight
 graphs-right = tt

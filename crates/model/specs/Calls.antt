@@ -45,7 +45,7 @@ module _ (v : Vocabulary) where
   ownRosterLeaves table roster = left (ownRosterOutcome table roster) roster (ownRoster v (length roster) (triples table))
 
   -- ── saturate: table, roster, result (lent) ──
-  -- the saturation of the table, and its triple count
+  -- the saturation of the table; its length is the count returned
   unfoldable pub saturated : List ℕ → List ℕ → List Triple
   saturated table roster = saturation v (length roster) (triples table)
 

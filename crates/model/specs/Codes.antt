@@ -6,7 +6,7 @@ use mathlib.Core.Bool.{Bool, cond}
 use mathlib.Core.List.{List, [], _∷_}
 use lib.Dec.{eqb, leb, ltb}
 
--- the five reserved codes; every definition takes them as its first argument
+-- the five reserved codes; every definition that depends on them takes them first, and the printer cites `rdfs`
 pub record Vocabulary : Type 0 where
   pub type : ℕ
   pub subclass : ℕ
@@ -21,7 +21,7 @@ rdfs = record { type = 0; subclass = 1; subproperty = 2; domain = 3; range = 4 }
 abbrev pub codes : Vocabulary → List ℕ
 codes v = v .type ∷ v .subclass ∷ v .subproperty ∷ v .domain ∷ v .range ∷ []
 
--- 01: "The absent mark is 4,294,967,295."
+-- 01: "The absent mark is 4,294,967,295, a constant that belongs to the code's own type."
 abbrev pub absent : ℕ
 absent = 4294967295
 
@@ -38,7 +38,7 @@ kind v p =
 unfoldable pub reserved : Vocabulary → ℕ → Bool
 reserved v c = ltb (kind v c) 5
 
--- 01: "N, the site size, is the roster's length, 5 to 65,536."
+-- 01: "N, the site size, is the roster's length, 5 to 65,536; valid codes are below N."
 abbrev pub smallestSize : ℕ
 smallestSize = 5
 

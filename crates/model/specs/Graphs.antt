@@ -2,17 +2,19 @@
 -- both clique lists of each.
 -- Assumes nothing.
 use Prim.Native.Nat.{ℕ}
-use mathlib.Core.Bool.{Bool, true, false, _&&_}
+use mathlib.Core.Bool.{Bool, true, false, not, _&&_}
 use mathlib.Core.List.{List, [], _∷_}
 use lib.Dec.{eqb}
 use Rattle.model.specs.Codes.{absent, rdfs}
-use Rattle.model.specs.Lists.{all}
+use Rattle.model.specs.Lists.{any, all}
 use Rattle.model.specs.Triples.{triples, flat}
 use Rattle.model.specs.Roster.{ownRoster}
 use Rattle.model.specs.Saturation.{saturation}
 use Rattle.model.specs.Cliques.{source, target, cliques}
 use Rattle.model.specs.Classes.{mapOf}
 use Rattle.model.specs.Summary.{summary}
+use Rattle.model.specs.Outcomes.{Check}
+use Rattle.model.specs.Calls.{tableChecks}
 
 unfoldable pub equal : List ℕ → List ℕ → Bool
 equal [] [] = true
@@ -34,11 +36,12 @@ unfoldable pub right : Example → Bool
 right g =
     let ts = triples (g .table) in
     let own = ownRoster rdfs (g .size) ts in
-    equal (flat (saturation rdfs (g .size) ts)) (g .saturated)
+    not (any (λ (c : Check). c .fails) (tableChecks rdfs false (g .table) own))
+    && (equal (flat (saturation rdfs (g .size) ts)) (g .saturated)
     && (equal (flat (summary rdfs own ts)) (g .plain)
     && (equal (mapOf rdfs own ts) (g .representatives)
     && (equal (cliques rdfs own source ts) (g .sources)
-    && equal (cliques rdfs own target ts) (g .targets))))
+    && equal (cliques rdfs own target ts) (g .targets)))))
 
 unfoldable pub allRight : List Example → Bool
 allRight gs = all right gs

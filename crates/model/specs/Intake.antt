@@ -3,6 +3,7 @@
 use Prim.Native.Nat.{ℕ, _≤_}
 use mathlib.Core.Path.{_≡_}
 use mathlib.Core.Bool.{Bool, true, false, cond, not, _||_}
+use mathlib.Core.Logic.{_⊎_}
 use mathlib.Core.List.{List, [], _∷_}
 use lib.Dec.{eqb, leb, ltb}
 use lib.ListN.{length, replicate}
@@ -123,12 +124,15 @@ module _ (v : Vocabulary) (roster : List ℕ) where
     -- the refusals 1 to 4, for every state
     pub refuses : any (λ (c : Check). c .fails) (feedChecks s (record { triple = t; work = length work })) ≡ true
         → (outcome ≡ decided (feedChecks s (record { triple = t; work = length work })) (accepted false)) × (after ≡ s) × (work-after ≡ work)
+    -- where no check fails, for every state: no refusal but 7
+    pub passes : any (λ (c : Check). c .fails) (feedChecks s (record { triple = t; work = length work })) ≡ false
+        → (outcome ≡ refused 7) ⊎ ((new : Bool) × (outcome ≡ accepted new))
     -- everything else for a state that holds H
     pub steps : (H : List Triple) → Valid s H
         → (outcome ≡ decided (feedChecks s (record { triple = t; work = length work })) (judged (slots (s .triples)) H t))
         × (after ≡ stateOf (length (s .triples)) (length (s .summary)) (joins outcome t H))
         × (work-after ≡ left outcome work (zeros (length work)))
-    -- for an altered state: lists keep their lengths
+    -- every list keeps its length. Open for an altered state that passes the checks: which of these answers it gives, and all contents
     pub kept : (length (after .triples) ≡ length (s .triples)) × (length (after .summary) ≡ length (s .summary)) × (length (after .map) ≡ length (s .map)) × (length work-after ≡ length work)
 
   -- ── a list of feeds, each lent what the call before left ──

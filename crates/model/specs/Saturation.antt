@@ -29,6 +29,6 @@ module _ (v : Vocabulary) where
       let rest = rounds d next in
       cond (eqb (length next) (length ts)) ts rest
 
-  -- The saturation of triples whose codes are below n, in rising order: each round but the last adds one of n * n * n triples.
+  -- The saturation of triples whose codes are below n, in rising order: each round but the last adds at least one of n * n * n triples.
   unfoldable pub saturation : ℕ → List Triple → List Triple
   saturation n ts = rounds (n * n * n) (sorted ts)

@@ -19,9 +19,12 @@ use Rattle.site_form.specs.Printing.{printed}
 unfoldable pub lines : List String → List ℕ
 lines ls = collect (λ l. bytes l ++ bytes "\n") ls
 
--- the bytes of the signs that the site form uses
+-- the bytes of the signs and letters that the site form and the printer use
 abbrev pub SignBytes : Type 0
-SignBytes = bytes "() 09\n" ≡ 40 ∷ 41 ∷ 32 ∷ 48 ∷ 57 ∷ 10 ∷ []
+SignBytes =
+    bytes "() 0123456789\nabcdefghijklmnopqrstuvwxyz"
+    ≡ 40 ∷ 41 ∷ 32 ∷ 48 ∷ 49 ∷ 50 ∷ 51 ∷ 52 ∷ 53 ∷ 54 ∷ 55 ∷ 56 ∷ 57 ∷ 10
+    ∷ 97 ∷ 98 ∷ 99 ∷ 100 ∷ 101 ∷ 102 ∷ 103 ∷ 104 ∷ 105 ∷ 106 ∷ 107 ∷ 108 ∷ 109 ∷ 110 ∷ 111 ∷ 112 ∷ 113 ∷ 114 ∷ 115 ∷ 116 ∷ 117 ∷ 118 ∷ 119 ∷ 120 ∷ 121 ∷ 122 ∷ []
 
 -- 01: "Given"
 abbrev pub givenLines : List String

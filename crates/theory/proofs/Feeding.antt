@@ -11,7 +11,7 @@ use native.Mathlib.Nat.{sub-zero}
 use lib.Dec.{eqb, leb, ltb}
 use lib.ListN.{length, replicate, length-replicate, getD-replicate, length-append, length-map}
 use lib.Seq.{ext-getD}
-use borrow.Author.Tests.{leb-true, leb-false, le-leb, lt-leb, not-false, eqb-true, eq-eqb}
+use borrow.Author.Tests.{ltb-false, leb-true, leb-false, le-leb, lt-leb, not-false, eqb-true, eq-eqb}
 use Rattle.model.specs.declared.Triple.{Triple}
 use Rattle.model.specs.Codes.{Vocabulary, absent}
 use Rattle.model.specs.Lists.{any, all, zeros, padded, tabulate}
@@ -106,6 +106,11 @@ module _ (v : Vocabulary) (roster : List ℕ) where
   pub next-holds : (space : ℕ) (H : List Triple) (f : Feed) → Holds space H → Holds space (next space H f)
   next-holds space H f h =
       ⊎-elim (λ e. subst (Holds space) (sym e) h) (λ w. subst (Holds space) (sym (w .1)) (insert-holds space H (f .triple) h (w .0))) (step-cases space H f)
+
+  pub held-holds : (space : ℕ) (fs : List Feed) (H : List Triple) → Holds space H → Holds space (heldAfter v roster space fs H)
+  unfolding heldAfter
+  held-holds space [] H h = h
+  held-holds space (f ∷ fs) H h = held-holds space fs (next space H f) (next-holds space H f h)
 
   -- ── feeding a table in any order, with repeats ──
   -- a feed that no check refuses
@@ -274,7 +279,7 @@ module _ (v : Vocabulary) (roster : List ℕ) where
       let n : 0 ≡ length (summary v roster []) = ap {B = ℕ} (λ (ts : List Triple). length ts) (sym empty-summary) in
       λ i. record { triples = a i; summary = b i; map = m i; held = 0; summarised = n i }
 
-  empty-holds : (space : ℕ) → Holds space []
+  pub empty-holds : (space : ℕ) → Holds space []
   unfolding wrongCodes covers any all
   empty-holds space = record { rising = tt; fits = omega arith; codes = refl; covered = refl }
 
@@ -294,6 +299,14 @@ module _ (v : Vocabulary) (roster : List ℕ) where
       second : (wrongRoster v roster ≡ true) ⊎ (wrongRoster v roster ≡ false) → wrongRoster v roster ≡ false
       second (inr e) = e
       second (inl e) = absurd (not-accepted (sym (λ i. cond (first (bool-cases (wrongLists v roster s)) i) (refused 1) (cond (e i) (refused 2) (accepted tt))) ∙ h))
+
+  pub opening-few : (s : State) → Opening s → (wrongSize (length roster) ≡ false) × (slots (s .triples) ≤ 1048576)
+  unfolding wrongLists
+  opening-few s o =
+      let a = or-false (wrongSize (length roster)) _ (o .lists) in
+      let b = or-false (not (eqb (length (s .map)) (length roster))) _ (a .1) in
+      let d = or-false (not (eqb (slots (s .triples)) (slots (s .summary)))) _ (b .1) in
+      (a .0, ltb-false 1048576 (slots (s .triples)) (d .1))
 
   opening-sized : (s : State) → Opening s → Sized s × (length roster ≤ absent)
   unfolding wrongLists

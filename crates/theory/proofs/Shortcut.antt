@@ -3,9 +3,9 @@
 -- Assumes nothing.
 use Prim.Native.Nat.{ℕ, _≤_, _<_}
 use mathlib.Core.Path.{_≡_, refl, sym, subst, _∙_, ap}
-use mathlib.Core.Logic.{_↔_}
-use mathlib.Core.List.{List, List·Memᴰ as Mem}
-use lib.ListN.{length}
+use mathlib.Core.Logic.{_↔_, ⊎-elim}
+use mathlib.Core.List.{List, map, List·Memᴰ as Mem}
+use lib.ListN.{length, length-map, List·getD-eq-default}
 use Rattle.model.specs.declared.Triple.{Triple}
 use Rattle.model.specs.Codes.{Vocabulary, absent}
 use Rattle.model.specs.Rules.{Derives}
@@ -14,12 +14,14 @@ use Rattle.model.specs.Partition.{label}
 use Rattle.model.specs.Cliques.{Node}
 use Rattle.model.specs.Classes.{DataNode, mapOf}
 use Rattle.model.specs.Summary.{moved, Image, summary}
-use Rattle.theory.proofs.Order.{rising-unique}
-use Rattle.theory.proofs.Saturated.{In, saturation-exact}
+use Rattle.theory.proofs.Order.{rising-unique, rising-length}
+use Rattle.theory.proofs.Lists.{mem-map}
+use native.Mathlib.Omega.{arith}
+use Rattle.theory.proofs.Saturated.{In, saturation-exact, saturation-rising}
 use Rattle.theory.proofs.Weak.{data-node-map, itself, Weak, Reps}
 use Rattle.theory.proofs.Images.{node-down, node-up, weak-up, image-exact}
 use Rattle.theory.proofs.Quotient.{quotient-map, quotient-image}
-use Rattle.theory.proofs.Mapped.{map-reps}
+use Rattle.theory.proofs.Mapped.{map-reps, map-absent, length-map-of, node-or}
 use Rattle.theory.proofs.Summaries.{Same, same-sym, same-trans, same-derives, same-image, same-node, same-reps, summary-exact, summary-rising}
 use Rattle.theory.proofs.Accepted.{Right, room, below, covered, saturation-right, summary-right}
 
@@ -74,9 +76,22 @@ module _ (v : Vocabulary) (roster : List ℕ) (ts : List Triple) (R : Right v ro
   falls n x = F .least n n (data-down x) (itself (data-down x))
 
   -- the representatives are carried through both maps
-  pub shortcut-map : (c : ℕ) → Node (In ts) c → h (f c) ≡ g c
-  shortcut-map c x =
+  node-map-at : (c : ℕ) → Node (In ts) c → h (f c) ≡ g c
+  node-map-at c x =
       quotient-map v roster (Derives v (In ts)) f own finer falls g h G H c (node-up v roster (In ts) (covered v roster ts R) x)
+
+  -- saturation adds no node, so that a code that is none is absent on both routes
+  no-node-at : (c : ℕ) → (Node (In ts) c → ⊥) → h (f c) ≡ g c
+  no-node-at c k =
+      let L = saturation-right v roster ts R in
+      let r = room v roster ts R in
+      let e : length (mapOf v roster short) ≡ length roster = length-map-of v roster short in
+      ap h (map-absent v roster ts (below v roster ts R) r c k)
+      ∙ List·getD-eq-default (mapOf v roster short) absent (subst (λ (z : ℕ). z ≤ absent) (sym e) r)
+      ∙ sym (map-absent v roster long (below v roster long L) r c (λ x. k (node-down v roster (In ts) (covered v roster ts R) (same-node long-is x))))
+
+  pub shortcut-map : (c : ℕ) → h (f c) ≡ g c
+  shortcut-map c = ⊎-elim (node-map-at c) (no-node-at c) (node-or ts c)
 
   -- the two routes end with one summary
   pub shortcut-summary : summary v roster long ≡ summary v roster short
@@ -86,3 +101,11 @@ module _ (v : Vocabulary) (roster : List ℕ) (ts : List Triple) (R : Right v ro
       (same-trans (same-image g long-is)
       (same-trans (same-sym (quotient-image v roster (Derives v (In ts)) f own finer falls g h G H))
       (same-trans (same-image h (same-sym short-is)) (same-sym (summary-exact v roster short))))))
+
+  -- the saturation of the summary is no longer
+  pub shortcut-shorter : length short ≤ length long
+  shortcut-shorter =
+      let S = summary-right v roster ts R in
+      let rises = saturation-rising v (length roster) (R .type-below) (summary v roster ts) (below v roster (summary v roster ts) S) in
+      omega (arith, rising-length short (map (moved f) long) rises
+      (λ t m. let w = (short-is t) .0 m in mem-map (moved f) long (w .0) ((long-is (w .0)) .1 (w .1)) (w .2)), length-map long (moved f))

@@ -10,7 +10,8 @@ use native.Mathlib.Nat.{le-antisymm}
 use lib.ListN.{length}
 use Rattle.model.specs.declared.Triple.{Triple}
 use Rattle.model.specs.Codes.{rdfs, mostTriples}
-use Rattle.model.specs.Triples.{triples, flat, slots, sorted}
+use Rattle.model.specs.Triples.{triples, flat, slots, sorted, listed}
+use Rattle.model.specs.Intake.{State, Feed, heldAfter, stateOf}
 use Rattle.model.specs.Saturation.{saturation}
 use Rattle.model.specs.Partition.{label}
 use Rattle.model.specs.Cliques.{Side, Node, Has, Clique, linked, cliques}
@@ -18,7 +19,7 @@ use Rattle.model.specs.Classes.{DataNode, Weakly, mapOf}
 use Rattle.model.specs.Summary.{summary}
 use Rattle.model.specs.Calls.{Accepted, tableChecks}
 use Rattle.model.specs.Outcomes.{wrongLength, wrongSize}
-use Rattle.theory.specs.Theorems.{TriplesOf, SaturationExact, CliquesExact, CliqueList, RepresentativesExact, SummaryExact, OwnRosterLeast, ShortcutHolds, RoutesAccepted, AnyOrder, WholeList}
+use Rattle.theory.specs.Theorems.{TriplesOf, SaturationExact, CliquesExact, CliqueList, RepresentativesExact, SummaryExact, OwnRosterLeast, ShortcutHolds, RoutesAccepted, AnyOrder, WholeList, FedInAnyOrder}
 use Rattle.theory.proofs.Tests.{or-false}
 use Rattle.theory.proofs.Checks.{passes-first}
 use Rattle.theory.proofs.Covered.{all-codes}
@@ -104,6 +105,7 @@ routes-accepted table roster h =
     record {
       summary-accepted = accept.right-accepted rdfs roster (summary rdfs roster (triples table)) S (omega (arith, feeding.summary-length rdfs roster (triples table), table-few table roster h));
       saturation-accepted = λ l. accept.right-accepted rdfs roster (saturation rdfs (length roster) (triples table)) (accept.saturation-right rdfs roster (triples table) R) l;
+      shorter = shortcut.shortcut-shorter rdfs roster (triples table) R;
       second-accepted = λ l.
           accept.right-accepted rdfs roster (saturation rdfs (length roster) (summary rdfs roster (triples table))) (accept.saturation-right rdfs roster (summary rdfs roster (triples table)) S) l;
     }
@@ -115,4 +117,25 @@ any-order table roster h space few fs work same =
     record { held = c .0; summarised = c .1; mapped = c .2 }
 
 pub whole-list : WholeList
-whole-list roster s end fs os h run = let w = feeding.whole-list rdfs roster s end fs os h run in record { answered = w .0; state = w .1 }
+whole-list roster s end fs os h run =
+    let w = feeding.whole-list rdfs roster s end fs os h run in
+    let o = feeding.opening rdfs roster s h in
+    let z = feeding.opening-few rdfs roster s o in
+    let k = feeding.held-holds rdfs roster (slots (s .triples)) fs [] (feeding.empty-holds rdfs roster (slots (s .triples))) in
+    let R : accept.Right rdfs roster (heldAfter rdfs roster (slots (s .triples)) fs []) =
+    record { size = z .0; marks = o .marks; codes = k .codes; cover = k .covered; type-below = omega (arith, accept.size-bounds (length roster) (z .0)) } in
+    record { answered = w .0; state = w .1; rising = k .rising; accepted-table = accept.right-accepted rdfs roster _ R (omega (arith, k .fits, z .1)) }
+
+pub fed-in-any-order : FedInAnyOrder
+unfolding stateOf
+fed-in-any-order table roster h s end fs os op few work same run =
+    let c = any-order table roster h (slots (s .triples)) few fs work same in
+    let e = whole-list roster s end fs os op run .state in
+    let K = heldAfter rdfs roster (slots (s .triples)) fs [] in
+    record {
+      triples = ap (λ (x : State). x .triples) e ∙ ap (listed (length (s .triples))) (c .held);
+      summary = ap (λ (x : State). x .summary) e ∙ ap (listed (length (s .summary))) (c .summarised);
+      map = ap (λ (x : State). x .map) e ∙ c .mapped;
+      held = ap (λ (x : State). x .held) e ∙ ap {B = ℕ} (λ (ts : List Triple). length ts) (c .held);
+      summarised = ap (λ (x : State). x .summarised) e ∙ ap {B = ℕ} (λ (ts : List Triple). length ts) (c .summarised);
+    }

@@ -8,7 +8,7 @@ use mathlib.Core.List.{List, [], map, List·Memᴰ as Mem}
 use lib.ListN.{length}
 use Rattle.model.specs.declared.Triple.{Triple}
 use Rattle.model.specs.Codes.{absent, rdfs, mostTriples}
-use Rattle.model.specs.Triples.{triples, flat, slots, sorted}
+use Rattle.model.specs.Triples.{triples, flat, slots, sorted, listed}
 use Rattle.model.specs.Order.{Rising}
 use Rattle.model.specs.Roster.{mark, isClass, isProperty, unmarked, covers, ownRoster, wrongRoster, wrongCodes}
 use Rattle.model.specs.Rules.{Derives}
@@ -36,7 +36,7 @@ abbrev pub representative : List ℕ → List Triple → ℕ → ℕ
 representative roster ts c = label (mapOf rdfs roster ts) c
 
 -- ── demand 2 ──
--- "Saturation holds a triple exactly if the six RDFS rules give it"
+-- the demand: Saturation holds a triple exactly if the six RDFS rules give it
 pub record Saturation (table roster : List ℕ) : Type 0 where
   pub rising : Rising (saturationOf table roster)
   pub exact : (t : Triple) → Mem t (saturationOf table roster) ↔ Derives rdfs (TriplesOf table) t
@@ -56,7 +56,7 @@ pub record CliqueList (table roster : List ℕ) (e : Side) : Type 0 where
 abbrev pub CliquesExact : Type 0
 CliquesExact = (table roster : List ℕ) → Accepted rdfs table roster → (e : Side) → CliqueList table roster e
 
--- "two data nodes share a representative exactly if they are weakly equivalent"; the representative is the smallest code of its class,
+-- the demand: two data nodes share a representative exactly if they are weakly equivalent; the representative is the smallest code of its class,
 -- a marked node's is itself, and a code that is no node is absent
 pub record Representatives (table roster : List ℕ) : Type 0 where
   pub shared : (c d : ℕ) → DataNode rdfs roster (TriplesOf table) c → DataNode rdfs roster (TriplesOf table) d
@@ -68,7 +68,7 @@ pub record Representatives (table roster : List ℕ) : Type 0 where
 abbrev pub RepresentativesExact : Type 0
 RepresentativesExact = (table roster : List ℕ) → Accepted rdfs table roster → Representatives table roster
 
--- "a triple is in the summary exactly if it is an image"
+-- the demand: a triple is in the summary exactly if it is an image
 pub record Summary (table roster : List ℕ) : Type 0 where
   pub rising : Rising (summaryOf table roster)
   pub exact : (t : Triple) → Mem t (summaryOf table roster) ↔ Image (representative roster (triples table)) (TriplesOf table) t
@@ -76,7 +76,7 @@ pub record Summary (table roster : List ℕ) : Type 0 where
 abbrev pub SummaryExact : Type 0
 SummaryExact = (table roster : List ℕ) → Accepted rdfs table roster → Summary table roster
 
--- "the smallest roster covering a table"
+-- 01: "the smallest roster covering a table"
 pub record OwnRoster (n : ℕ) (ts : List Triple) : Type 0 where
   pub size : length (ownRoster rdfs n ts) ≡ n
   pub right : wrongRoster rdfs (ownRoster rdfs n ts) ≡ false
@@ -89,10 +89,10 @@ abbrev pub OwnRosterLeast : Type 0
 OwnRosterLeast = (n : ℕ) (ts : List Triple) → wrongCodes rdfs n ts ≡ false → OwnRoster n ts
 
 -- ── demand 3, what needs no query ──
--- "the shortcut holds, triples and maps": saturating the summary and summarising again ends where summarising the saturation ends
+-- the demand: the shortcut holds, triples and maps: saturating the summary and summarising again ends where summarising the saturation ends
 pub record Shortcut (table roster : List ℕ) : Type 0 where
   pub triples : summary rdfs roster (saturationOf table roster) ≡ summary rdfs roster (saturation rdfs (length roster) (summaryOf table roster))
-  pub maps : (c : ℕ) → Node (TriplesOf table) c
+  pub maps : (c : ℕ)
       → representative roster (saturation rdfs (length roster) (summaryOf table roster)) (representative roster (Rattle.model.specs.Triples.triples table) c)
       ≡ representative roster (saturationOf table roster) c
 
@@ -103,13 +103,15 @@ ShortcutHolds = (table roster : List ℕ) → Accepted rdfs table roster → Sho
 pub record Routes (table roster : List ℕ) : Type 0 where
   pub summary-accepted : Accepted rdfs (flat (summaryOf table roster)) roster
   pub saturation-accepted : length (saturationOf table roster) ≤ mostTriples → Accepted rdfs (flat (saturationOf table roster)) roster
+  -- the saturation of the summary is no longer than that of the table
+  pub shorter : length (saturation rdfs (length roster) (summaryOf table roster)) ≤ length (saturationOf table roster)
   pub second-accepted : length (saturation rdfs (length roster) (summaryOf table roster)) ≤ mostTriples
       → Accepted rdfs (flat (saturation rdfs (length roster) (summaryOf table roster))) roster
 
 abbrev pub RoutesAccepted : Type 0
 RoutesAccepted = (table roster : List ℕ) → Accepted rdfs table roster → Routes table roster
 
--- "feeding in any order, with repeats, ends in the plain summary"
+-- the demand: feeding in any order, with repeats, ends in the plain summary
 pub record Collected (table roster : List ℕ) (H : List Triple) : Type 0 where
   pub held : H ≡ sorted (triples table)
   pub summarised : summary rdfs roster H ≡ summaryOf table roster
@@ -121,12 +123,30 @@ AnyOrder =
     → (fs : List Feed) → ((f : Feed) → Mem f fs → f .work ≡ 2 * length roster) → ((t : Triple) → Mem t (map (λ (f : Feed). f .triple) fs) ↔ Mem t (triples table))
     → Collected table roster (heldAfter rdfs roster space fs [])
 
--- "every list of feeds, refusals and repeats included, gives the plain intake's answers and state, as one claim about the whole list"
+-- the demand: every list of feeds, refusals and repeats included, gives the plain intake's answers and state, as one claim about the whole list
 pub record Plain (roster : List ℕ) (s : State) (fs : List Feed) (os : List (Outcome Bool)) (end : State) : Type 0 where
   pub answered : os ≡ answers rdfs roster (slots (s .triples)) fs []
   pub state : end ≡ stateOf rdfs roster (length (s .triples)) (length (s .summary)) (heldAfter rdfs roster (slots (s .triples)) fs [])
+  -- what is held is a table in rising order, accepted with the roster: demand 2 says what its summary and its map are
+  pub rising : Rising (heldAfter rdfs roster (slots (s .triples)) fs [])
+  pub accepted-table : Accepted rdfs (flat (heldAfter rdfs roster (slots (s .triples)) fs [])) roster
 
 abbrev pub WholeList : Type 0
 WholeList =
     (roster : List ℕ) (s end : State) (fs : List Feed) (os : List (Outcome Bool)) → openOutcome rdfs roster s ≡ accepted tt
     → Run rdfs roster (opened rdfs roster s) fs os end → Plain roster s fs os end
+
+-- the demand: feeding in any order, with repeats, ends in the plain summary, of the lists and the record that a run of feeds leaves
+pub record Filled (table roster : List ℕ) (s end : State) : Type 0 where
+  pub triples : end .triples ≡ listed (length (s .triples)) (sorted (Rattle.model.specs.Triples.triples table))
+  pub summary : end .summary ≡ listed (length (s .summary)) (summaryOf table roster)
+  pub map : end .map ≡ mapOf rdfs roster (Rattle.model.specs.Triples.triples table)
+  pub held : end .held ≡ length (sorted (Rattle.model.specs.Triples.triples table))
+  pub summarised : end .summarised ≡ length (summaryOf table roster)
+
+abbrev pub FedInAnyOrder : Type 0
+FedInAnyOrder =
+    (table roster : List ℕ) → Accepted rdfs table roster → (s end : State) (fs : List Feed) (os : List (Outcome Bool)) → openOutcome rdfs roster s ≡ accepted tt
+    → length (sorted (triples table)) ≤ slots (s .triples)
+    → ((f : Feed) → Mem f fs → f .work ≡ 2 * length roster) → ((t : Triple) → Mem t (map (λ (f : Feed). f .triple) fs) ↔ Mem t (triples table))
+    → Run rdfs roster (opened rdfs roster s) fs os end → Filled table roster s end

@@ -1,0 +1,67 @@
+-- Demand 3 over the calls, each on what the call before left. A list is long enough where the call is accepted.
+-- Assumes nothing.
+use Prim.Native.Nat.{ℕ, _*_, _≤_}
+use mathlib.Core.Path.{_≡_}
+use mathlib.Core.Bool.{false}
+use mathlib.Core.List.{List}
+use lib.ListN.{length, take}
+use Rattle.model.specs.declared.Triple.{Triple}
+use Rattle.model.specs.Triples.{triples, flat}
+use Rattle.model.specs.Roster.{ownRoster, wrongCodes}
+use Rattle.model.specs.Saturation.{saturation}
+use Rattle.model.specs.Classes.{mapOf}
+use Rattle.model.specs.Summary.{summary}
+use Rattle.query.specs.declared.Query.{Query}
+use Rattle.query.specs.declared.Pattern.{Pattern}
+use Rattle.query.specs.Ask.{askOutcome}
+use Rattle.query.specs.Match.{Match}
+use Rattle.site_form.specs.Reading.{queryOf}
+use Rattle.site_form.specs.Printing.{printerSlots}
+use Rattle.model.specs.Codes.{rdfs}
+use Rattle.model.specs.Partition.{label}
+use Rattle.model.specs.Outcomes.{accepted, refused, wrongSize}
+use Rattle.model.specs.Calls.{saturateOutcome, saturateLeaves, summariseOutcome, summariseLeaves}
+
+-- the table that a call left in its result list: the triples that it counted
+abbrev pub tableIn : ℕ → List ℕ → List ℕ
+tableIn count list = take (3 * count) list
+
+-- the lists lent to a summarise
+pub record Lent : Type 0 where
+  pub result : List ℕ
+  pub map : List ℕ
+  pub work : List ℕ
+
+-- a summarise that is accepted with a count, and what it leaves
+pub record Summarises (table roster : List ℕ) (l : Lent) (count : ℕ) (out map : List ℕ) : Type 0 where
+  pub returns : summariseOutcome rdfs table roster (l .result) (l .map) (l .work) ≡ accepted count
+  pub triples : out ≡ tableIn count (summariseLeaves rdfs table roster (l .result) (l .map) (l .work) .result)
+  pub representatives : map ≡ summariseLeaves rdfs table roster (l .result) (l .map) (l .work) .map
+
+-- a saturate that is accepted with a count, and what it leaves
+pub record Saturates (table roster result : List ℕ) (count : ℕ) (out : List ℕ) : Type 0 where
+  pub returns : saturateOutcome rdfs table roster result ≡ accepted count
+  pub triples : out ≡ tableIn count (saturateLeaves rdfs table roster result)
+
+-- the two routes as calls, each on what the call before left: they end with one table, and the maps of the short route lead, one after the
+-- other, where the map of the long route leads
+abbrev pub ShortcutOfCalls : Type 0
+ShortcutOfCalls =
+    (table roster big small : List ℕ) (l k m : Lent) (a b c d e : ℕ) (sat sum short shortSat shortSum f g h : List ℕ)
+    → Saturates table roster big a sat → Summarises sat roster l b sum g
+    → Summarises table roster k c short f → Saturates short roster small d shortSat → Summarises shortSat roster m e shortSum h
+    → (b ≡ e) × (sum ≡ shortSum) × ((x : ℕ) → label h (label f x) ≡ label g x)
+
+-- none means no match, as calls: saturate, summarise, ask
+abbrev pub NoneOfCalls : Type 0
+NoneOfCalls =
+    (table roster big : List ℕ) (l : Lent) (a b : ℕ) (sat sum g : List ℕ) (q : Query)
+    → Saturates table roster big a sat → Summarises sat roster l b sum g
+    → askOutcome rdfs sum g q ≡ accepted false → Match (triples sat) q → ⊥
+
+-- In the printer ask refuses a query with 6 only: by then 1, 3 and 5 have passed.
+abbrev pub AskRefusesSix : Type 0
+AskRefusesSix =
+    (n : ℕ) (ts : List Triple) (ps : List Pattern) (r : ℕ) → wrongSize n ≡ false → wrongCodes rdfs n ts ≡ false → length (saturation rdfs n ts) ≤ printerSlots
+    → askOutcome rdfs (flat (summary rdfs (ownRoster rdfs n ts) (saturation rdfs n ts))) (mapOf rdfs (ownRoster rdfs n ts) (saturation rdfs n ts)) (queryOf ps) ≡ refused r
+    → r ≡ 6
