@@ -2,3 +2,4 @@ pub mod Covering
 pub mod Tables
 pub mod Values
 pub mod Marking
+pub mod Own

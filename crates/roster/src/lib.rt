@@ -9,10 +9,16 @@ ghost use Rattle.model.specs.Lists.{zeros};
 ghost use Rattle.model.specs.Triples.{triples};
 ghost use Rattle.theory.proofs.Covered.{Below, AllBelow};
 ghost use Rattle.model.specs.Roster.{isClass, isProperty, wrongRoster, coversTriple, covers};
+ghost use Rattle.roster.specs.Calls.{OwnRosterCall};
 ghost use Rattle.roster.specs.Marks.{withClass, withProperty, classMarked, propertyMarked, rolesMarked, tableMarked, overThree, marked};
 
+use checks::codes_wrong;
+use checks::length_wrong;
+use checks::size_wrong;
 use lists::Code;
 use lists::triple_at;
+use model::Done;
+use model::Refusal;
 use model::Triple;
 
 pub fn wide(x: u32) -> usize
@@ -261,4 +267,23 @@ fn mark_table(table: &[u32], roster: &mut [u8])
         mark_roles(roster, t);
         i += 1;
     }
+}
+
+// The smallest roster that covers the table, written into the lent roster; N is its length.
+pub fn own_roster(table: &[u32], roster: &mut [u8]) -> Done
+    ensures { λ r. ⌜ OwnRosterCall (now (table .entry)) (now (roster .entry)) r (now (roster .exit)) ⌝ }
+{
+    let n = roster.len();
+    if size_wrong(n) {
+        return Done::Refused(Refusal::Length);
+    }
+    if length_wrong(table.len()) {
+        return Done::Refused(Refusal::Length);
+    }
+    if codes_wrong(table, n) {
+        return Done::Refused(Refusal::Code);
+    }
+    clear_marks(roster);
+    mark_table(table, roster);
+    Done::Accepted
 }
