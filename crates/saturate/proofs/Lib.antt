@@ -1,0 +1,3 @@
+pub mod Premises
+pub mod Steps
+pub mod Sweeps

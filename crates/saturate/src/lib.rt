@@ -1,0 +1,192 @@
+// Saturation: rounds over the constant rule table. A round draws conclusions only from the list as it stood when the round began.
+
+ghost use mathlib.Core.Bool.{_&&_, _||_};
+ghost use mathlib.Core.List.{List·Memᴰ as Mem};
+ghost use mathlib.Core.Path.{_≡_};
+ghost use Prim.Native.Nat.{_+_, _*_, _<_, _≤_};
+ghost use lib.Dec.{eqb};
+ghost use lib.ListN.{length, getD};
+ghost use Rattle.model.specs.Codes.{rdfs, kind};
+ghost use Rattle.model.specs.Rules.{rules, place, fits, gives};
+ghost use Rattle.lists.specs.Flat.{at, RisingPart};
+ghost use Rattle.builder.specs.Builder.{first, Built};
+ghost use Rattle.saturate.specs.Rounds.{noRule, keyOf, firstOf, secondOf, Ready, Drawn, DrawnPartners, DrawnRule, Rounded};
+
+use builder::Builder;
+use builder::offer;
+use lists::Code;
+use lists::lower_bound;
+use lists::triple_at;
+use model::Rule;
+use model::RULES;
+use model::Triple;
+
+// A rule of the table by its place.
+fn rule_at(k: usize) -> Rule
+    requires { ⌜ k < 6 ⌝ }
+    ensures { λ r. ⌜ r ≡ getD rules k noRule ⌝ }
+{
+    RULES[k]
+}
+
+// The code at a place of two premises.
+fn place(a: Triple, b: Triple, k: u32) -> u32
+    ensures { λ r. ⌜ r ≡ place rdfs a b k ⌝ }
+{
+    if k == 0 {
+        return a.subject;
+    }
+    if k == 1 {
+        return a.property;
+    }
+    if k == 2 {
+        return a.object;
+    }
+    if k == 3 {
+        return b.subject;
+    }
+    if k == 4 {
+        return b.property;
+    }
+    if k == 5 {
+        return b.object;
+    }
+    Code::TYPE
+}
+
+// Whether a property is of the kind wanted, where DATA wants any.
+fn kind_fits(property: u32, wanted: u32) -> bool
+    ensures { λ r. ⌜ r ≡ (eqb wanted 5 || eqb (kind rdfs property) wanted) ⌝ }
+{
+    if wanted == Code::DATA {
+        return true;
+    }
+    Code(property).kind() == wanted
+}
+
+// Whether two triples are premises of a rule, in this order.
+fn fits(r: Rule, a: Triple, b: Triple) -> bool
+    ensures { λ x. ⌜ x ≡ fits rdfs r a b ⌝ }
+{
+    if Code(a.property).kind() != r.first {
+        return false;
+    }
+    if !kind_fits(b.property, r.second) {
+        return false;
+    }
+    place(a, b, r.left) == place(a, b, r.right)
+}
+
+// What a rule gives from two premises.
+fn gives(r: Rule, a: Triple, b: Triple) -> Triple
+    ensures { λ x. ⌜ x ≡ gives rdfs r a b ⌝ }
+{
+    Triple {
+        subject: place(a, b, r.subject),
+        property: place(a, b, r.property),
+        object: place(a, b, r.object),
+    }
+}
+
+// Draws the conclusion of a rule from two triples of the frozen part, where they fit.
+fn draw(list: &mut [u32], b: Builder, r: Rule, a: Triple, p: Triple) -> Builder
+    requires { ⌜ Built (now list) b ⌝ }
+    ensures { λ x. ⌜ Drawn (now (list .entry)) (now (list .exit)) b x r a p ⌝ }
+{
+    if fits(r, a, p) {
+        return offer(list, b, gives(r, a, p));
+    }
+    b
+}
+
+// The first triple, in order, that can be the partner of a driving premise: the partner's subject is the code that they share.
+// Where the rule's first shared place is the first premise's subject, the second premise drives; else the first does.
+fn partner_key(r: Rule, driver: Triple) -> Triple
+    ensures { λ x. ⌜ x ≡ keyOf r driver ⌝ }
+{
+    if r.left == 0 {
+        return Triple { subject: place(driver, driver, r.right), property: r.first, object: 0 };
+    }
+    Triple { subject: place(driver, driver, r.left), property: r.second, object: 0 }
+}
+
+// Draws from a driving premise and a partner.
+fn draw_pair(list: &mut [u32], b: Builder, r: Rule, driver: Triple, partner: Triple) -> Builder
+    requires { ⌜ Built (now list) b ⌝ }
+    ensures { λ x. ⌜ Drawn (now (list .entry)) (now (list .exit)) b x r (firstOf r driver partner) (secondOf r driver partner) ⌝ }
+{
+    if r.left == 0 {
+        return draw(list, b, r, partner, driver);
+    }
+    draw(list, b, r, driver, partner)
+}
+
+// Whether a triple has the subject and the property of another.
+fn same_front(t: Triple, key: Triple) -> bool
+    ensures { λ r. ⌜ r ≡ (eqb (t .subject) (key .subject) && eqb (t .property) (key .property)) ⌝ }
+{
+    if t.subject == key.subject {
+        return t.property == key.property;
+    }
+    false
+}
+
+// Draws from a driving premise of the frozen part and each of its partners there: a run of the sorted part.
+fn draw_partners(list: &mut [u32], b: Builder, r: Rule, driver: Triple) -> Builder
+    requires { ⌜ Ready (now list) b × Mem r rules × Mem driver (first (now list) (b .base)) ⌝ }
+    ensures { λ x. ⌜ DrawnPartners (now (list .entry)) (now (list .exit)) b x r driver ⌝ }
+{
+    let key = partner_key(r, driver);
+    let base = b.base;
+    let mut state = b;
+    let mut i = lower_bound(list, 0, base, key);
+    while i < base {
+        let partner = triple_at(list, i);
+        if !same_front(partner, key) {
+            return state;
+        }
+        state = draw_pair(list, state, r, driver, partner);
+        if state.full {
+            return state;
+        }
+        i += 1;
+    }
+    state
+}
+
+// Draws with one rule from each driving premise of the frozen part.
+fn draw_rule(list: &mut [u32], b: Builder, r: Rule) -> Builder
+    requires { ⌜ Ready (now list) b × Mem r rules ⌝ }
+    ensures { λ x. ⌜ DrawnRule (now (list .entry)) (now (list .exit)) b x r ⌝ }
+{
+    let base = b.base;
+    let mut state = b;
+    let mut i = 0;
+    while i < base {
+        let driver = triple_at(list, i);
+        state = draw_partners(list, state, r, driver);
+        if state.full {
+            return state;
+        }
+        i += 1;
+    }
+    state
+}
+
+// One round: all conclusions of all rules from the first `count` triples, which are in rising order.
+fn round(list: &mut [u32], count: usize) -> Builder
+    requires { ⌜ (3 * count ≤ length (now list)) × RisingPart (at (now list)) 0 count ⌝ }
+    ensures { λ x. ⌜ Rounded (now (list .entry)) (now (list .exit)) count x ⌝ }
+{
+    let mut state = Builder { base: count, sorted: count, filled: count, full: false };
+    let mut k = 0;
+    while k < 6 {
+        let r = rule_at(k);
+        state = draw_rule(list, state, r);
+        if state.full {
+            return state;
+        }
+        k += 1;
+    }
+    state
+}
