@@ -7,7 +7,6 @@ ghost use mathlib.Core.Path.{_≡_};
 ghost use Prim.Native.Nat.{_+_, _*_, _/_, _<_, _≤_};
 ghost use lib.ListN.{length};
 ghost use Rattle.builder.specs.Builder.{Built, known, Compacted, Offered, Finished};
-
 use lists::clear;
 use lists::contains;
 use lists::put;
@@ -29,7 +28,12 @@ fn append(list: &mut [u32], b: Builder, t: Triple) -> Builder
 {
     let filled = b.filled;
     put(list, filled, t);
-    Builder { base: b.base, sorted: b.sorted, filled: filled + 1, full: false }
+    Builder {
+        base: b.base,
+        sorted: b.sorted,
+        filled: filled + 1,
+        full: false,
+    }
 }
 
 // Sorts the part behind the base and removes its repeats.
@@ -39,7 +43,12 @@ fn compacted(list: &mut [u32], b: Builder) -> Builder
 {
     let count = sort_distinct(list, b.base, b.filled);
     let end = b.base + count;
-    Builder { base: b.base, sorted: end, filled: end, full: false }
+    Builder {
+        base: b.base,
+        sorted: end,
+        filled: end,
+        full: false,
+    }
 }
 
 // Whether a triple is in one of the two rising parts.
@@ -65,7 +74,12 @@ fn offer_full(list: &mut [u32], b: Builder, t: Triple) -> Builder
     if c.filled < list.len() / 3 {
         return append(list, c, t);
     }
-    Builder { base: c.base, sorted: c.sorted, filled: c.filled, full: true }
+    Builder {
+        base: c.base,
+        sorted: c.sorted,
+        filled: c.filled,
+        full: true,
+    }
 }
 
 // Offers a triple: it is held afterwards, or the builder is full.

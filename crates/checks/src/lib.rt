@@ -5,12 +5,12 @@ ghost use Rattle.model.specs.Codes.{rdfs};
 ghost use Rattle.model.specs.Triples.{triples};
 ghost use Rattle.model.specs.Roster.{wrongEnd, wrongTriple, wrongCodes};
 ghost use Rattle.model.specs.Outcomes.{wrongSize, wrongLength};
-
 use lists::Code;
 use model::Triple;
 
 // The site size N is 5 to 65,536.
 pub const SMALLEST_SIZE: usize = 5;
+
 pub const LARGEST_SIZE: usize = 65536;
 // The numbers of a table's 1,048,576 triples.
 pub const LONGEST_TABLE: usize = 3145728;

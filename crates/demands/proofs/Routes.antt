@@ -101,9 +101,9 @@ shortcut-of-calls table roster big small l k m a b c d e sat sum short shortSat 
       sym (G .counts) ∙ ap {B = ℕ} (λ (ts : List Triple). length ts) q ∙ H .counts,
       G .is ∙ ap flat q ∙ sym (H .is),
       λ x.
-      let hm : h ≡ mapOf rdfs roster (saturation rdfs (length roster) (summary rdfs roster (triples table))) = H .maps ∙ ap (mapOf rdfs roster) st in
-      let gm : g ≡ mapOf rdfs roster (saturation rdfs (length roster) (triples table)) = G .maps ∙ ap (mapOf rdfs roster) long in
-      ap (λ (z : List ℕ). label z (label f x)) hm ∙ ap (λ (z : List ℕ). label (mapOf rdfs roster (saturation rdfs (length roster) (summary rdfs roster (triples table)))) (label z x)) (F .maps) ∙ R .maps x ∙ ap (λ (z : List ℕ). label z x) (sym gm),
+          let hm : h ≡ mapOf rdfs roster (saturation rdfs (length roster) (summary rdfs roster (triples table))) = H .maps ∙ ap (mapOf rdfs roster) st in
+          let gm : g ≡ mapOf rdfs roster (saturation rdfs (length roster) (triples table)) = G .maps ∙ ap (mapOf rdfs roster) long in
+          ap (λ (z : List ℕ). label z (label f x)) hm ∙ ap (λ (z : List ℕ). label (mapOf rdfs roster (saturation rdfs (length roster) (summary rdfs roster (triples table)))) (label z x)) (F .maps) ∙ R .maps x ∙ ap (λ (z : List ℕ). label z x) (sym gm),
     )
 
 pub none-of-calls : NoneOfCalls

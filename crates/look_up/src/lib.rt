@@ -6,7 +6,6 @@ ghost use lib.ListN.{length};
 ghost use Rattle.model.specs.Triples.{triples, holds};
 ghost use Rattle.model.specs.Outcomes.{found};
 ghost use Rattle.model.specs.Calls.{lookUpOutcome};
-
 use checks::length_wrong;
 use lists::same;
 use lists::triple_at;

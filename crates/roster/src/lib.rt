@@ -11,7 +11,6 @@ ghost use Rattle.theory.proofs.Covered.{Below, AllBelow};
 ghost use Rattle.model.specs.Roster.{isClass, isProperty, wrongRoster, coversTriple, covers};
 ghost use Rattle.roster.specs.Calls.{OwnRosterCall};
 ghost use Rattle.roster.specs.Marks.{withClass, withProperty, classMarked, propertyMarked, rolesMarked, tableMarked, overThree, marked};
-
 use checks::codes_wrong;
 use checks::length_wrong;
 use checks::size_wrong;

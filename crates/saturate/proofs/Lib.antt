@@ -1,3 +1,5 @@
 pub mod Premises
 pub mod Steps
 pub mod Sweeps
+pub mod Closing
+pub mod Answers

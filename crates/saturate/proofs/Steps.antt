@@ -37,7 +37,7 @@ module _ (U X : List Triple) (U-rising : Rising U) (l l′ : List ℕ) (b b′ :
         keeps = λ f u k. (O .taken f .members u) .1 (inl k);
         over = λ f.
             let few = rising-length (sorted (t ∷ first l (b .filled))) U (sorted-rising _)
-                (λ u k. ⊎-elim (λ (e : u ≡ t). subst (λ (z : Triple). Mem z U) (sym e) m) (λ w. S .inside u w) (mem-cases (sorted-mem u _ k))) in
+            (λ u k. ⊎-elim (λ (e : u ≡ t). subst (λ (z : Triple). Mem z U) (sym e) m) (λ w. S .inside u w) (mem-cases (sorted-mem u _ k))) in
             omega (arith, O .over f);
       }
 

@@ -172,7 +172,7 @@ module _ (l₀ l : List ℕ) (b s : Builder) (r : Rule) (d : Triple) (i : ℕ) (
             let z = tabulate-mem (at l₀) 0 (b .base) m in
             let q = partner r k d t w in
             let p : front (at l₀ (z .0)) (keyOf r d) ≡ true =
-                subst (λ (u : Triple). front u (keyOf r d) ≡ true) (z .3) (and-both (eqb (t .subject) (keyOf r d .subject)) _ (eq-eqb _ _ (q .subject)) (eq-eqb _ _ (q .property))) in
+            subst (λ (u : Triple). front u (keyOf r d) ≡ true) (z .3) (and-both (eqb (t .subject) (keyOf r d .subject)) _ (eq-eqb _ _ (q .subject)) (eq-eqb _ _ (q .property))) in
             subst (λ (u : Triple). Mem (gives rdfs r (firstOf r d u) (secondOf r d u)) (first l (s .filled))) (sym (z .3))
             (go (z .0) (omega (arith, z .2)) p (subst (λ (u : Triple). fits rdfs r (firstOf r d u) (secondOf r d u) ≡ true) (z .3) w) (cmp (z .0) i));
       }
@@ -344,7 +344,7 @@ rules-end l₀ l count s k R h =
         let q = driven (getD rules (w .0) noRule) (g .first) (g .second) in
         let x = both (g .first) (g .second) (q .driver) (q .other) (q .which) (g .first-in) (g .second-in) in
         let fit : fits rdfs (getD rules (w .0) noRule) (firstOf (getD rules (w .0) noRule) (q .driver) (q .other)) (secondOf (getD rules (w .0) noRule) (q .driver) (q .other)) ≡ true =
-            (λ i. fits rdfs (sym (w .2) i) (q .first i) (q .second i)) ∙ g .fitting in
+        (λ i. fits rdfs (sym (w .2) i) (q .first i) (q .second i)) ∙ g .fitting in
         subst (λ (z : Triple). Mem z (first l (s .filled))) ((λ i. gives rdfs (sym (w .2) i) (q .first i) (q .second i)) ∙ sym (g .gives-it))
         (R .done (w .0) (omega (arith, w .1)) (q .driver) (q .other) (x .0) (x .1) fit)
       where

@@ -10,9 +10,10 @@ use lib.ListN.{length, getD}
 use Rattle.model.specs.declared.Rule.{Rule}
 use Rattle.model.specs.declared.Triple.{Triple}
 use Rattle.model.specs.Codes.{rdfs}
-use Rattle.model.specs.Triples.{triple}
-use Rattle.model.specs.Rules.{rule, rules, place, fits, gives}
+use Rattle.model.specs.Triples.{triple, triples, sorted}
+use Rattle.model.specs.Rules.{rule, rules, place, fits, gives, Derives}
 use Rattle.model.specs.Saturation.{round}
+use Rattle.model.specs.Cliques.{Graph}
 use Rattle.builder.specs.declared.Builder.{Builder}
 use Rattle.builder.specs.Builder.{first, Built}
 
@@ -78,3 +79,17 @@ pub record Rounded (l l′ : List ℕ) (count : ℕ) (b′ : Builder) : Type 0 w
   pub base-count : b′ .full ≡ false → b′ .base ≡ count
   pub members : b′ .full ≡ false → (u : Triple) → Mem u (first l′ (b′ .filled)) ↔ Mem u (round rdfs (first l count))
   pub over : b′ .full ≡ true → length l / 3 < length (round rdfs (first l count))
+
+-- the table's triples, or these are more than the slots
+pub record Loaded (table l l′ : List ℕ) (b′ : Builder) : Type 0 where
+  pub size : length l′ ≡ length l
+  pub built : b′ .full ≡ false → Built l′ b′
+  pub members : b′ .full ≡ false → (u : Triple) → Mem u (first l′ (b′ .filled)) ↔ Mem u (triples table)
+  pub over : b′ .full ≡ true → length l / 3 < length (sorted (triples table))
+
+-- what the rules derive from G, or this is more than the slots
+pub record Closed (G : Graph) (l l′ : List ℕ) (b′ : Builder) : Type 0 where
+  pub size : length l′ ≡ length l
+  pub room : b′ .full ≡ false → 3 * b′ .filled ≤ length l′
+  pub exact : b′ .full ≡ false → (u : Triple) → Mem u (first l′ (b′ .filled)) ↔ Derives rdfs G u
+  pub over : b′ .full ≡ true → (out : List Triple) → ((u : Triple) → Derives rdfs G u → Mem u out) → length l / 3 < length out

@@ -7,19 +7,28 @@ ghost use Prim.Native.Nat.{_+_, _*_, _<_, _≤_};
 ghost use lib.Dec.{eqb};
 ghost use lib.ListN.{length, getD};
 ghost use Rattle.model.specs.Codes.{rdfs, kind};
+ghost use Rattle.model.specs.Triples.{triples};
 ghost use Rattle.model.specs.Rules.{rules, place, fits, gives};
+ghost use Rattle.model.specs.Outcomes.{counted};
+ghost use Rattle.model.specs.Calls.{saturateOutcome, saturateLeaves};
 ghost use Rattle.lists.specs.Flat.{at, RisingPart};
 ghost use Rattle.builder.specs.Builder.{first, Built};
-ghost use Rattle.saturate.specs.Rounds.{noRule, keyOf, firstOf, secondOf, Ready, Drawn, DrawnPartners, DrawnRule, Rounded};
-
+ghost use Rattle.saturate.specs.Rounds.{noRule, keyOf, firstOf, secondOf, Ready, Drawn, DrawnPartners, DrawnRule, Rounded, Loaded, Closed};
 use builder::Builder;
+use builder::finish;
 use builder::offer;
 use lists::Code;
+use lists::clear;
 use lists::lower_bound;
 use lists::triple_at;
-use model::Rule;
+use model::Counted;
 use model::RULES;
+use model::Refusal;
+use model::Rule;
 use model::Triple;
+use sorting::sort_distinct;
+use table_checks::Verdict;
+use table_checks::table_refusal;
 
 // A rule of the table by its place.
 fn rule_at(k: usize) -> Rule
@@ -105,9 +114,17 @@ fn partner_key(r: Rule, driver: Triple) -> Triple
     ensures { λ x. ⌜ x ≡ keyOf r driver ⌝ }
 {
     if r.left == 0 {
-        return Triple { subject: place(driver, driver, r.right), property: r.first, object: 0 };
+        return Triple {
+            subject: place(driver, driver, r.right),
+            property: r.first,
+            object: 0,
+        };
     }
-    Triple { subject: place(driver, driver, r.left), property: r.second, object: 0 }
+    Triple {
+        subject: place(driver, driver, r.left),
+        property: r.second,
+        object: 0,
+    }
 }
 
 // Draws from a driving premise and a partner.
@@ -178,7 +195,12 @@ fn round(list: &mut [u32], count: usize) -> Builder
     requires { ⌜ (3 * count ≤ length (now list)) × RisingPart (at (now list)) 0 count ⌝ }
     ensures { λ x. ⌜ Rounded (now (list .entry)) (now (list .exit)) count x ⌝ }
 {
-    let mut state = Builder { base: count, sorted: count, filled: count, full: false };
+    let mut state = Builder {
+        base: count,
+        sorted: count,
+        filled: count,
+        full: false,
+    };
     let mut k = 0;
     while k < 6 {
         let r = rule_at(k);
@@ -189,4 +211,76 @@ fn round(list: &mut [u32], count: usize) -> Builder
         k += 1;
     }
     state
+}
+
+// The table's triples, each at least once, or the builder is full.
+fn load(table: &[u32], list: &mut [u32]) -> Builder
+    ensures { λ x. ⌜ Loaded (now (table .entry)) (now (list .entry)) (now (list .exit)) x ⌝ }
+{
+    let n = table.len() / 3;
+    let mut state = Builder {
+        base: 0,
+        sorted: 0,
+        filled: 0,
+        full: false,
+    };
+    let mut i = 0;
+    while i < n {
+        let t = triple_at(table, i);
+        state = offer(list, state, t);
+        if state.full {
+            return state;
+        }
+        i += 1;
+    }
+    state
+}
+
+// Rounds until one adds nothing.
+fn close(list: &mut [u32], filled: usize) -> Builder
+    requires { ⌜ 3 * filled ≤ length (now list) ⌝ }
+    ensures { λ x. ⌜ Closed (λ t. Mem t (first (now (list .entry)) filled)) (now (list .entry)) (now (list .exit)) x ⌝ }
+{
+    let mut state = Builder {
+        base: 0,
+        sorted: 0,
+        filled: filled,
+        full: false,
+    };
+    while state.base < state.filled {
+        let count = sort_distinct(list, 0, state.filled);
+        state = round(list, count);
+        if state.full {
+            return state;
+        }
+    }
+    state
+}
+
+// All that the rules derive from the table, in any order, or the builder is full.
+fn derive(table: &[u32], list: &mut [u32]) -> Builder
+    ensures { λ x. ⌜ Closed (λ t. Mem t (triples (now (table .entry)))) (now (list .entry)) (now (list .exit)) x ⌝ }
+{
+    let loaded = load(table, list);
+    if loaded.full {
+        return loaded;
+    }
+    close(list, loaded.filled)
+}
+
+// Saturates a table into the result: 01's "saturate".
+pub fn saturate(table: &[u32], roster: &[u8], result: &mut [u32]) -> Counted
+    ensures { λ r. ⌜ (counted r ≡ saturateOutcome rdfs (now (table .entry)) (now (roster .entry)) (now (result .entry))) × (now (result .exit) ≡ saturateLeaves rdfs (now (table .entry)) (now (roster .entry)) (now (result .entry))) ⌝ }
+{
+    match table_refusal(false, table, roster) {
+        Verdict::Refused(r) => Counted::Refused(r),
+        Verdict::Passed => {
+            let state = derive(table, result);
+            if state.full {
+                clear(result, 0, result.len());
+                return Counted::Refused(Refusal::Slots);
+            }
+            Counted::Count(finish(result, state.filled))
+        },
+    }
 }

@@ -1,15 +1,16 @@
 -- The verdict of the checks 1 to 4, and what a call that goes on after them has of it.
 -- Assumes nothing.
-use Prim.Native.Nat.{ℕ, _≤_}
+use Prim.Native.Nat.{ℕ, _<_, _≤_}
 use mathlib.Core.Path.{_≡_, refl, sym, _∙_, ap, subst}
-use mathlib.Core.Logic.{_⊎_, inl, inr, ⊎-elim}
+use mathlib.Core.Logic.{⊎-elim}
 use mathlib.Core.Bool.{Bool, true, false, cond, not, _||_}
 use mathlib.Core.List.{List, [], _∷_, _++_}
-use native.Mathlib.Omega.{arith}
 use lib.ListN.{length}
-use borrow.Author.Tests.{not-false}
+use lib.Dec.{ltb}
+use borrow.Author.Tests.{lt-ltb, le-ltb}
+use Rattle.model.specs.Lists.{zeros}
 use Rattle.model.specs.declared.Refusal.{Refusal}
-use Rattle.model.specs.declared.Refusal.the-variants.{Length, Roster, Code, Cover, Slots, Query, Full, Form}
+use Rattle.model.specs.declared.Refusal.the-variants.{Length, Roster, Code, Cover}
 use Rattle.model.specs.Codes.{rdfs}
 use Rattle.model.specs.Triples.{triples}
 use Rattle.model.specs.Roster.{covers, wrongRoster, wrongCodes}
@@ -104,6 +105,27 @@ refused-any {A} {B} (c ∷ cs) more x r rest e =
 
     same : _≡_ {A = Outcome B} (refused (c .returns)) (refused r) → _≡_ {A = Outcome A} (refused (c .returns)) (refused r)
     same q = let n : c .returns ≡ r = cc in ap (λ (k : ℕ). refused k) n
+
+-- check 5 after checks that pass
+module _ (cs : List Check) (slots n : ℕ) (h : Passes cs) where
+  after-slots : {b : Bool} → ltb slots n ≡ b → checked (cs ++ check 5 (ltb slots n) ∷ []) n ≡ cond b (refused 5) (accepted n)
+  unfolding decided
+  after-slots e = passed-more cs (check 5 (ltb slots n) ∷ []) (accepted n) h ∙ ap (λ (b : Bool). cond b (refused 5) (accepted n)) e
+
+  pub too-few : slots < n → checked (cs ++ check 5 (ltb slots n) ∷ []) n ≡ refused 5
+  too-few l = after-slots (lt-ltb slots n l)
+
+  pub enough : n ≤ slots → checked (cs ++ check 5 (ltb slots n) ∷ []) n ≡ accepted n
+  enough l = after-slots (le-ltb slots n l)
+
+-- what stays in a lent list after refusal 5, and after an accepted call
+pub left-zeros : {A : Type 0} (o : Outcome A) (entry after : List ℕ) → o ≡ refused 5 → left o entry after ≡ zeros (length entry)
+unfolding left zeroed
+left-zeros o entry after e = rw e
+
+pub left-after : {A : Type 0} (o : Outcome A) (x : A) (entry after : List ℕ) → o ≡ accepted x → left o entry after ≡ after
+unfolding left
+left-after o x entry after e = rw e
 
 -- the checks 1 to 4 leave every list as it is
 kept-by : (a b c d : Bool) (n : ℕ) → refused n ≡ firstOf a b c d → zeroed n ≡ false

@@ -152,17 +152,17 @@ module _ (v : Vocabulary) where
   pub derives-map : {G H : Graph} → ((t : Triple) → G t → H t) → {t : Triple} → Derives v G t → Derives v H t
   derives-map f x = derives-cut (λ t y. given (f t y)) x
 
-  round-derived : (ts : List Triple) (t : Triple) → Mem t (round v ts) → Derives v (In ts) t
+  pub round-derived : (ts : List Triple) (t : Triple) → Mem t (round v ts) → Derives v (In ts) t
   round-derived ts t m =
       ⊎-elim (λ k. given k)
       (λ (g : Drawn ts t). by-rule (g .rule-of) (g .first) (g .second) (g .in-table) (g .fitting) (g .gives-it) (given (g .first-in)) (given (g .second-in)))
       (round-mem ts t m)
 
-  -- what a list that a round leaves alone holds is closed under the rules
-  closed-has : (out : List Triple) → round v out ≡ out → {t : Triple} → Derives v (In out) t → Mem t out
+  -- a list to which a round adds nothing is closed under the rules
+  pub closed-has : (out : List Triple) → ((t : Triple) → Mem t (round v out) → Mem t out) → {t : Triple} → Derives v (In out) t → Mem t out
   closed-has out e (given m) = m
   closed-has out e (by-rule r a b k f g x y) =
-      subst (Mem _) e (subst (λ (z : Triple). Mem z (round v out)) (sym g) (round-has out r a b k (closed-has out e x) (closed-has out e y) f))
+      e _ (subst (λ (z : Triple). Mem z (round v out)) (sym g) (round-has out r a b k (closed-has out e x) (closed-has out e y) f))
 
   -- ── rounds ──
   -- the last list is rising, holds the first, holds only what is derived from it, and a further round adds nothing
@@ -211,7 +211,7 @@ module _ (v : Vocabulary) where
     saturation-exact ts b t =
         let z = saturation-done ts b in (
           λ m. derives-map (λ u x. sorted-mem u ts x) (z .derived t m),
-          λ x. closed-has (saturation v n ts) (z .closed) (derives-map (λ u y. z .keeps u (mem-sorted u ts y)) x),
+          λ x. closed-has (saturation v n ts) (λ u m. subst (Mem u) (z .closed) m) (derives-map (λ u y. z .keeps u (mem-sorted u ts y)) x),
         )
 
     pub saturation-below : (ts : List Triple) → AllBelow n ts → AllBelow n (saturation v n ts)

@@ -107,5 +107,9 @@ module _ (v : Vocabulary) (roster : List ℕ) (ts : List Triple) (R : Right v ro
   shortcut-shorter =
       let S = summary-right v roster ts R in
       let rises = saturation-rising v (length roster) (R .type-below) (summary v roster ts) (below v roster (summary v roster ts) S) in
-      omega (arith, rising-length short (map (moved f) long) rises
-      (λ t m. let w = (short-is t) .0 m in mem-map (moved f) long (w .0) ((long-is (w .0)) .1 (w .1)) (w .2)), length-map long (moved f))
+      omega (
+        arith,
+        rising-length short (map (moved f) long) rises
+            (λ t m. let w = (short-is t) .0 m in mem-map (moved f) long (w .0) ((long-is (w .0)) .1 (w .1)) (w .2)),
+        length-map long (moved f),
+      )

@@ -1,0 +1,6 @@
+pub mod Sides
+pub mod Entries
+pub mod Steps
+pub mod Places
+pub mod Ends
+pub mod Call

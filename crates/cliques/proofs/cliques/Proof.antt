@@ -1,0 +1,70 @@
+-- `cliques::cliques` meets its contract: a refusal of the checks 1 to 4, or the lists of both sides.
+-- Assumes nothing.
+use borrow.Author.Needs.{needs}
+use Rattle.cliques.proofs.Call.{by-refused, by-sides, right, sources-length, targets-length}
+use Rattle.cliques.proofs.cliques.Statement.{statement}
+use Rattle.cliques.proofs.cliques.Tie as tie
+
+lengths-wrong-requires : tie.Need-lengths-wrong-requires
+lengths-wrong-requires c κs = search needs
+
+table-refusal-requires : tie.Need-table-refusal-requires
+table-refusal-requires c κs = search needs
+
+enum-known-r : tie.Need-enum-known-r
+enum-known-r c = search needs
+
+enum-told : tie.Need-enum-told
+enum-told c = search needs
+
+clique-side-requires : tie.Need-clique-side-requires
+clique-side-requires c κs =
+    let s = c .before .before .before .before .before .before .before .before .before .args in
+    let t = c .before .before .before .table-refusal in
+    let l = c .before .before .before .before .lengths-wrong in
+    let q = c .before .enum-told .given .1 in (
+      right (s .table .now) (s .roster .now) (s .sources .now) (s .targets .now) _ (l .ensures) _ (t .ensures) q,
+      sources-length (s .table .now) (s .roster .now) (s .sources .now) (s .targets .now) _ (l .ensures) _ (t .ensures) q,
+    )
+
+clique-side-requires-2 : tie.Need-clique-side-requires-2
+clique-side-requires-2 c κs =
+    let s = c .before .before .before .before .before .before .before .before .before .before .before .before .before .args in
+    let t = c .before .before .before .before .before .before .before .table-refusal in
+    let l = c .before .before .before .before .before .before .before .before .lengths-wrong in
+    let q = c .before .before .before .before .before .enum-told .given .1 in (
+      right (s .table .now) (s .roster .now) (s .sources .now) (s .targets .now) _ (l .ensures) _ (t .ensures) q,
+      targets-length (s .table .now) (s .roster .now) (s .sources .now) (s .targets .now) _ (l .ensures) _ (t .ensures) q,
+    )
+
+returns : tie.Need-returns
+returns c =
+    let s = c .before .before .before .before .before .before .before .before .before .args in
+    by-refused (s .table .now) (s .roster .now) (s .sources .now) (s .targets .now) _ (c .before .before .before .before .lengths-wrong .ensures) _ (c .before .before .before .table-refusal .ensures) _ (c .before .r .given .1)
+
+same-length : tie.Need-same-length
+same-length c = search needs
+
+same-length-2 : tie.Need-same-length-2
+same-length-2 c = search needs
+
+returns-2 : tie.Need-returns-2
+returns-2 c =
+    let s = c .before .before .before .before .before .before .before .before .before .before .before .before .before .before .before .before .args in
+    by-sides (s .table .now) (s .roster .now) (s .sources .now) (s .targets .now) _ (c .before .before .before .before .before .before .before .before .before .before .before .lengths-wrong .ensures) _ (c .before .before .before .before .before .before .before .before .before .before .table-refusal .ensures) (c .before .before .before .before .before .before .before .before .enum-told .given .1) _ _
+    (c .before .before .before .before .before .before .clique-side .ensures) (c .before .before .clique-side2 .ensures)
+
+pub cliques-spec : {M : Type 1} → statement M
+cliques-spec =
+    tie.close
+    (tie.spec
+    lengths-wrong-requires
+    table-refusal-requires
+    enum-known-r
+    enum-told
+    clique-side-requires
+    clique-side-requires-2
+    returns
+    same-length
+    same-length-2
+    returns-2)

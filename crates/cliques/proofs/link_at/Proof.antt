@@ -1,0 +1,60 @@
+-- `cliques::link_at` meets its contract: the triple links nothing, or its property is opened and linked at its node.
+-- Assumes nothing.
+use mathlib.Core.Path.{sym, _∙_}
+use borrow.Author.Tests.{not-true, not-false}
+use Rattle.cliques.specs.Calls.{sideOf}
+use Rattle.cliques.proofs.Places.{place-skipped, place-below, property-inside, place-linkable, place-linked}
+use borrow.Author.Needs.{needs}
+use Rattle.cliques.proofs.link_at.Statement.{statement}
+use Rattle.cliques.proofs.link_at.Tie as tie
+
+triple-at-requires : tie.Need-triple-at-requires
+triple-at-requires c κs = search needs
+
+links-at-requires : tie.Need-links-at-requires
+links-at-requires c κs =
+    let s = c .before .before .before .before in
+    place-below (s .args .table .now) (s .args .i) (s .args .roster .now) (sideOf (s .args .sources)) _ (c .triple-at .ensures) (s .pre .0) (s .pre .1)
+
+returns : tie.Need-returns
+returns c =
+    let s = c .before .before .before .before .before .before in
+    place-skipped (s .args .table .now) (s .args .i) (s .args .roster .now) (sideOf (s .args .sources)) _ (c .before .before .triple-at .ensures) _
+    (sym (c .before .links-at .ensures) ∙ not-true _ (c .if1 .taken)) (s .pre .2)
+
+open-property-requires : tie.Need-open-property-requires
+open-property-requires c κs =
+    let s = c .before .before .before .before .before .before .before in
+    property-inside (s .args .table .now) (s .args .i) (s .args .roster .now) (sideOf (s .args .sources)) _ (c .before .before .before .triple-at .ensures) (s .pre .0) (s .pre .1) _ (s .pre .2)
+    (sym (c .before .before .links-at .ensures) ∙ not-false _ (c .before .if1 .left))
+
+side-end-requires : tie.Need-side-end-requires
+side-end-requires c κs = search needs
+
+link-node-requires : tie.Need-link-node-requires
+link-node-requires c κs =
+    let s = c .before .before .before .before .before .before .before .before .before .before .before .before in
+    place-linkable (s .args .table .now) (s .args .i) (s .args .roster .now) (sideOf (s .args .sources)) _ (c .before .before .before .before .before .before .before .before .triple-at .ensures) (s .pre .0) (s .pre .1) _ (s .pre .2)
+    (sym (c .before .before .before .before .before .before .before .links-at .ensures) ∙ not-false _ (c .before .before .before .before .before .before .if1 .left)) _ (c .before .before .before .before .open-property .ensures) _ (c .side-end .ensures)
+
+same-length : tie.Need-same-length
+same-length c = search needs
+
+returns-2 : tie.Need-returns-2
+returns-2 c =
+    let s = c .before .before .before .before .before .before .before .before .before .before .before .before .before .before .before in
+    place-linked (s .args .table .now) (s .args .i) (s .args .roster .now) (sideOf (s .args .sources)) _ (c .before .before .before .before .before .before .before .before .before .before .before .triple-at .ensures) (s .pre .0) (s .pre .1) _ (s .pre .2)
+    (sym (c .before .before .before .before .before .before .before .before .before .before .links-at .ensures) ∙ not-false _ (c .before .before .before .before .before .before .before .before .before .if1 .left)) _ (c .before .before .before .before .before .before .before .open-property .ensures) _ (c .before .before .before .side-end .ensures) _ (c .before .before .link-node .ensures)
+
+pub link-at-spec : {M : Type 1} → statement M
+link-at-spec =
+    tie.close
+    (tie.spec
+    triple-at-requires
+    links-at-requires
+    returns
+    open-property-requires
+    side-end-requires
+    link-node-requires
+    same-length
+    returns-2)

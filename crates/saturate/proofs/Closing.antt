@@ -1,0 +1,243 @@
+-- Loading the table, and rounds until one adds nothing.
+-- Assumes nothing.
+use Prim.Native.Nat.{ℕ, zero, suc, _+_, _-_, _*_, _/_, _<_, _≤_}
+use mathlib.Core.Path.{_≡_, refl, sym, _∙_, ap, subst}
+use mathlib.Core.Logic.{_⊎_, inl, inr, ⊎-elim, _↔_}
+use mathlib.Core.Bool.{Bool, true, false, true≢false}
+use mathlib.Core.List.{List, [], _∷_, List·Memᴰ as Mem, List·Memᴰ·not-nil as no-mem, List·Memᴰ·cases-cons as mem-cases}
+use native.Mathlib.Omega.{arith}
+use native.Mathlib.Nat.{sub-zero}
+use lib.ListN.{length, getD}
+use borrow.Author.Count.{below-more}
+use Rattle.model.specs.declared.Triple.{Triple}
+use Rattle.model.specs.Codes.{rdfs}
+use Rattle.model.specs.Lists.{tabulate}
+use Rattle.model.specs.Triples.{triples, sorted}
+use Rattle.model.specs.Order.{Rising}
+use Rattle.model.specs.Rules.{Derives, given}
+use Rattle.model.specs.Saturation.{round}
+use Rattle.model.specs.Cliques.{Graph}
+use Rattle.theory.proofs.Lists.{tabulate-mem, mem-tabulate, length-tabulate}
+use Rattle.theory.proofs.Order.{sorted-rising, sorted-mem, mem-sorted, sorted-same, rising-length}
+use Rattle.theory.proofs.Saturated.{In, Drawn as DrawnBy, round-mem, round-keeps, round-rising, round-derived, derives-cut, closed-has}
+use Rattle.lists.specs.Flat.{at, RisingPart}
+use Rattle.lists.proofs.Compare.{Cmp, lt, eq, gt, cmp}
+use Rattle.lists.proofs.Places.{places-rising, rising-places, triples-table}
+use Rattle.sorting.specs.Sorting.{Distinct}
+use Rattle.builder.specs.declared.Builder.{Builder}
+use Rattle.builder.specs.Builder.{first, Built, Offered}
+use Rattle.builder.proofs.Parts.{sorted-more}
+use Rattle.saturate.specs.Rounds.{State, Step, Rounded, Loaded, Closed}
+use Rattle.saturate.proofs.Steps.{offer-step, offer-held, step-none, step-then}
+use Rattle.saturate.proofs.Sweeps.{opening, in-first}
+
+-- ── loading ──
+module _ (table : List ℕ) where
+  abbrev all : List Triple
+  all = sorted (triples table)
+
+  -- the first i triples of the table are held
+  pub record Loading (l₀ l : List ℕ) (s : Builder) (i : ℕ) : Type 0 where
+    pub going : s .full ≡ false
+    pub step : Step all [] l₀ l (opening 0) s
+    pub done : (j : ℕ) → j < i → Mem (at table j) (first l (s .filled))
+
+  pub loading-start : (l : List ℕ) → Loading l l (opening 0) 0
+  unfolding tabulate
+  loading-start l =
+      record {
+        going = refl;
+        step = step-none all [] l (opening 0)
+            (record {
+              built = record {
+                base-end = omega arith;
+                sorted-end = omega arith;
+                room = omega arith;
+                base-rising = λ i j x y z. absurd (omega arith);
+                run-rising = λ i j x y z. absurd (omega arith);
+                apart = λ i j x y z q. omega arith;
+                not-full = refl;
+              };
+              base-is = refl;
+              inside = λ u m. absurd (no-mem m);
+            });
+        done = λ j h. absurd (omega arith);
+      }
+
+  module _ (l₀ l m : List ℕ) (s c : Builder) (i : ℕ) (L : Loading l₀ l s i) (t : Triple) (h : i < length table / 3) (e : t ≡ at table i) (O : Offered l m s c t) where
+    in-all : Mem t all
+    in-all = mem-sorted t _ (subst (Mem t) (sym (triples-table table)) (in-first table (length table / 3) i t h e))
+
+    one : Step all [] l m s c
+    one = offer-step all [] (sorted-rising _) l m s c t (L .step .goes-on (L .going)) in-all O
+
+    on : Step all [] l₀ m (opening 0) c
+    on = step-then all [] l₀ l m (opening 0) s c (L .going) (L .step) one
+
+    pub loading-next : c .full ≡ false → Loading l₀ m c (i + 1)
+    loading-next f =
+        record {
+          going = f;
+          step = on;
+          done = below-more _ i (λ j x. one .keeps f _ (L .done j x))
+              (subst (λ (z : Triple). Mem z (first m (c .filled))) e (offer-held all [] (sorted-rising _) l m s c t (L .step .goes-on (L .going)) in-all O f));
+        }
+
+    pub loading-full : c .full ≡ true → Loaded table l₀ m c
+    loading-full f =
+        record {
+          size = on .size;
+          built = λ g. absurd (true≢false (sym f ∙ g));
+          members = λ g. absurd (true≢false (sym f ∙ g));
+          over = on .over;
+        }
+
+  pub loading-end : (l₀ l : List ℕ) (s : Builder) (i : ℕ) → Loading l₀ l s i → length table / 3 ≤ i → Loaded table l₀ l s
+  loading-end l₀ l s i L h =
+      record {
+        size = L .step .size;
+        built = λ f. L .step .goes-on f .built;
+        members = λ f u. (λ m. sorted-mem u _ (L .step .goes-on f .inside u m), held u);
+        over = L .step .over;
+      }
+    where
+      held : (u : Triple) → Mem u (triples table) → Mem u (first l (s .filled))
+      held u m =
+          let z = tabulate-mem (at table) 0 (length table / 3) (subst (Mem u) (triples-table table) m) in
+          subst (λ (x : Triple). Mem x (first l (s .filled))) (sym (z .3)) (L .done (z .0) (omega (arith, z .2)))
+
+-- ── rounds ──
+module _ (G : Graph) (l₀ : List ℕ) where
+  -- the list between rounds: its base is what the last round began with
+  pub record Closing (l : List ℕ) (s : Builder) : Type 0 where
+    pub going : s .full ≡ false
+    pub size : length l ≡ length l₀
+    pub room : 3 * s .filled ≤ length l
+    pub within : s .base ≤ s .filled
+    pub rising : RisingPart (at l) 0 (s .base)
+    pub apart : (i : ℕ) → i < s .base → s .base < s .filled → at l i ≡ at l (s .base) → ⊥
+    pub keeps : (u : Triple) → G u → Mem u (first l (s .filled))
+    pub derived : (u : Triple) → Mem u (first l (s .filled)) → Derives rdfs G u
+    pub drawn : (u : Triple) → Mem u (round rdfs (first l (s .base))) → Mem u (first l (s .filled))
+
+  module _ (l m : List ℕ) (s : Builder) (count : ℕ) (C : Closing l s) (D : Distinct l m 0 (s .filled) count) where
+    sorted-is : first m count ≡ sorted (first l (s .filled))
+    sorted-is = D .places ∙ ap (λ (k : ℕ). sorted (tabulate (at l) 0 k)) (sub-zero (s .filled))
+
+    count-is : count ≡ length (sorted (first l (s .filled)))
+    count-is = sym (length-tabulate (at m) 0 count) ∙ ap {B = ℕ} (λ (x : List Triple). length x) sorted-is
+
+    -- what a round asks for
+    pub round-ready : (3 * count ≤ length m) × RisingPart (at m) 0 count
+    round-ready = (omega (arith, D .fits, D .size, C .room), λ i j x y z. rising-places (at m) 0 count (subst Rising (sym sorted-is) (sorted-rising _)) i j x y (omega arith))
+
+    -- the base grows: the triple behind it is new
+    pub base-grows : s .base < s .filled → s .base < count
+    base-grows h =
+        let old = first l (s .base) in
+        let x = at l (s .base) in
+        let rises = places-rising (at l) 0 (s .base) (λ i j x y z. C .rising i j x y (omega arith)) in
+        let new : Mem x old → ⊥ = λ k. let z = tabulate-mem (at l) 0 (s .base) k in C .apart (z .0) (omega (arith, z .2)) h (sym (z .3)) in
+        let more = sorted-more x old new in
+        let size = ap {B = ℕ} (λ (y : List Triple). length y) (sorted-same old rises) ∙ length-tabulate (at l) 0 (s .base) in
+        let few = rising-length (sorted (x ∷ old)) (sorted (first l (s .filled))) (sorted-rising _)
+        (λ u k. mem-sorted u _ (⊎-elim (λ e. in-first l (s .filled) (s .base) u h e) (λ w. wider u w) (mem-cases (sorted-mem u _ k)))) in
+        omega (arith, more, size, few, count-is)
+      where
+        wider : (u : Triple) → Mem u (first l (s .base)) → Mem u (first l (s .filled))
+        wider u k = let z = tabulate-mem (at l) 0 (s .base) k in in-first l (s .filled) (z .0) u (omega (arith, z .2, C .within)) (z .3)
+
+    module _ (n : List ℕ) (c : Builder) (R : Rounded m n count c) where
+      begun : (u : Triple) → Mem u (first m count) → Derives rdfs G u
+      begun u k = C .derived u (sorted-mem u _ (subst (Mem u) sorted-is k))
+
+      all-derived : (u : Triple) → Mem u (round rdfs (first m count)) → Derives rdfs G u
+      all-derived u k = derives-cut rdfs begun (round-derived rdfs (first m count) u k)
+
+      pub closing-next : c .full ≡ false → Closing n c
+      closing-next f =
+          let B = R .built f in
+          record {
+            going = f;
+            size = R .size ∙ D .size ∙ C .size;
+            room = B .room;
+            within = omega (arith, B .base-end, B .sorted-end);
+            rising = B .base-rising;
+            apart = λ i h k q. B .apart i (c .base) h (omega arith) k q;
+            keeps = λ u g. (R .members f u) .1 (round-keeps rdfs _ u (subst (Mem u) (sym sorted-is) (mem-sorted u _ (C .keeps u g))));
+            derived = λ u k. all-derived u ((R .members f u) .0 k);
+            drawn = λ u k. (R .members f u) .1 (subst (λ (x : List Triple). Mem u (round rdfs x)) (R .base f) k);
+          }
+
+      pub closing-full : c .full ≡ true → Closed G l₀ n c
+      closing-full f =
+          record {
+            size = R .size ∙ D .size ∙ C .size;
+            room = λ g. absurd (true≢false (sym f ∙ g));
+            exact = λ g. absurd (true≢false (sym f ∙ g));
+            over = λ g out h.
+                let few = rising-length (round rdfs (first m count)) out (round-rising rdfs _) (λ u k. h u (all-derived u k)) in
+                let long = subst (λ (k : ℕ). k / 3 < length (round rdfs (first m count))) (D .size ∙ C .size) (R .over g) in
+                omega (arith, few, long);
+          }
+
+      pub closing-less : s .base < s .filled → c .full ≡ false → s .base < c .base
+      closing-less h f = omega (arith, base-grows h, R .base-count f)
+
+  pub closing-end : (l : List ℕ) (s : Builder) → Closing l s → s .filled ≤ s .base → Closed G l₀ l s
+  closing-end l s C h =
+      record {
+        size = C .size;
+        room = λ f. C .room;
+        exact = λ f u. (C .derived u, λ d. closed-has rdfs (first l (s .filled)) still (derives-cut rdfs (λ t g. given (C .keeps t g)) d));
+        over = λ f. absurd (true≢false (sym f ∙ C .going));
+      }
+    where
+      whole : s .base ≡ s .filled
+      whole = omega (arith, C .within)
+
+      still : (u : Triple) → Mem u (round rdfs (first l (s .filled))) → Mem u (first l (s .filled))
+      still u k = C .drawn u (subst (λ (x : ℕ). Mem u (round rdfs (first l x))) (sym whole) k)
+
+-- nothing follows from nothing
+round-nothing : (u : Triple) → Mem u (round rdfs []) → ⊥
+round-nothing u m = ⊎-elim (λ k. no-mem k) (λ (g : DrawnBy rdfs [] u). no-mem (g .first-in)) (round-mem rdfs [] u m)
+
+abbrev pub from : ℕ → Builder
+from filled = record { base = 0; sorted = 0; filled = filled; full = false }
+
+pub closing-start : (l : List ℕ) (filled : ℕ) → 3 * filled ≤ length l → Closing (In (first l filled)) l l (from filled)
+unfolding tabulate
+closing-start l filled h =
+    record {
+      going = refl;
+      size = refl;
+      room = h;
+      within = omega arith;
+      rising = λ i j x y z. absurd (omega arith);
+      apart = λ i x y q. omega arith;
+      keeps = λ u g. g;
+      derived = λ u m. given m;
+      drawn = λ u m. absurd (round-nothing u m);
+    }
+
+-- ── loading, then rounds ──
+pub closed-loaded : (table l m n : List ℕ) (b c : Builder) → Loaded table l m b → b .full ≡ false → Closed (In (first m (b .filled))) m n c → Closed (In (triples table)) l n c
+closed-loaded table l m n b c L f C =
+    record {
+      size = C .size ∙ L .size;
+      room = C .room;
+      exact = λ g u. (λ k. derives-cut rdfs (λ t x. given ((L .members f t) .0 x)) ((C .exact g u) .0 k), λ d. (C .exact g u) .1 (derives-cut rdfs (λ t x. given ((L .members f t) .1 x)) d));
+      over = λ g out h. subst (λ (k : ℕ). k / 3 < length out) (L .size) (C .over g out (λ u d. h u (derives-cut rdfs (λ t x. given ((L .members f t) .0 x)) d)));
+    }
+
+pub closed-full : (table l m : List ℕ) (b : Builder) → Loaded table l m b → b .full ≡ true → Closed (In (triples table)) l m b
+closed-full table l m b L f =
+    record {
+      size = L .size;
+      room = λ g. absurd (true≢false (sym f ∙ g));
+      exact = λ g. absurd (true≢false (sym f ∙ g));
+      over = λ g out h.
+          let few = rising-length (sorted (triples table)) out (sorted-rising _) (λ u k. h u (given (sorted-mem u _ k))) in
+          omega (arith, few, L .over g);
+    }
