@@ -1,4 +1,4 @@
--- Loading the table, and rounds until one adds nothing.
+-- Rounds until one adds nothing.
 -- Assumes nothing.
 use Prim.Native.Nat.{ℕ, zero, suc, _+_, _-_, _*_, _/_, _<_, _≤_}
 use mathlib.Core.Path.{_≡_, refl, sym, _∙_, ap, subst}
@@ -8,7 +8,6 @@ use mathlib.Core.List.{List, [], _∷_, List·Memᴰ as Mem, List·Memᴰ·not-n
 use native.Mathlib.Omega.{arith}
 use native.Mathlib.Nat.{sub-zero}
 use lib.ListN.{length, getD}
-use borrow.Author.Count.{below-more}
 use Rattle.model.specs.declared.Triple.{Triple}
 use Rattle.model.specs.Codes.{rdfs}
 use Rattle.model.specs.Lists.{tabulate}
@@ -25,86 +24,10 @@ use Rattle.lists.proofs.Compare.{Cmp, lt, eq, gt, cmp}
 use Rattle.lists.proofs.Places.{places-rising, rising-places, triples-table}
 use Rattle.sorting.specs.Sorting.{Distinct}
 use Rattle.builder.specs.declared.Builder.{Builder}
-use Rattle.builder.specs.Builder.{first, Built, Offered}
+use Rattle.builder.specs.Builder.{first, Built, Collected}
 use Rattle.builder.proofs.Parts.{sorted-more}
-use Rattle.saturate.specs.Rounds.{State, Step, Rounded, Loaded, Closed}
-use Rattle.saturate.proofs.Steps.{offer-step, offer-held, step-none, step-then}
-use Rattle.saturate.proofs.Sweeps.{opening, in-first}
-
--- ── loading ──
-module _ (table : List ℕ) where
-  abbrev all : List Triple
-  all = sorted (triples table)
-
-  -- the first i triples of the table are held
-  pub record Loading (l₀ l : List ℕ) (s : Builder) (i : ℕ) : Type 0 where
-    pub going : s .full ≡ false
-    pub step : Step all [] l₀ l (opening 0) s
-    pub done : (j : ℕ) → j < i → Mem (at table j) (first l (s .filled))
-
-  pub loading-start : (l : List ℕ) → Loading l l (opening 0) 0
-  unfolding tabulate
-  loading-start l =
-      record {
-        going = refl;
-        step = step-none all [] l (opening 0)
-            (record {
-              built = record {
-                base-end = omega arith;
-                sorted-end = omega arith;
-                room = omega arith;
-                base-rising = λ i j x y z. absurd (omega arith);
-                run-rising = λ i j x y z. absurd (omega arith);
-                apart = λ i j x y z q. omega arith;
-                not-full = refl;
-              };
-              base-is = refl;
-              inside = λ u m. absurd (no-mem m);
-            });
-        done = λ j h. absurd (omega arith);
-      }
-
-  module _ (l₀ l m : List ℕ) (s c : Builder) (i : ℕ) (L : Loading l₀ l s i) (t : Triple) (h : i < length table / 3) (e : t ≡ at table i) (O : Offered l m s c t) where
-    in-all : Mem t all
-    in-all = mem-sorted t _ (subst (Mem t) (sym (triples-table table)) (in-first table (length table / 3) i t h e))
-
-    one : Step all [] l m s c
-    one = offer-step all [] (sorted-rising _) l m s c t (L .step .goes-on (L .going)) in-all O
-
-    on : Step all [] l₀ m (opening 0) c
-    on = step-then all [] l₀ l m (opening 0) s c (L .going) (L .step) one
-
-    pub loading-next : c .full ≡ false → Loading l₀ m c (i + 1)
-    loading-next f =
-        record {
-          going = f;
-          step = on;
-          done = below-more _ i (λ j x. one .keeps f _ (L .done j x))
-              (subst (λ (z : Triple). Mem z (first m (c .filled))) e (offer-held all [] (sorted-rising _) l m s c t (L .step .goes-on (L .going)) in-all O f));
-        }
-
-    pub loading-full : c .full ≡ true → Loaded table l₀ m c
-    loading-full f =
-        record {
-          size = on .size;
-          built = λ g. absurd (true≢false (sym f ∙ g));
-          members = λ g. absurd (true≢false (sym f ∙ g));
-          over = on .over;
-        }
-
-  pub loading-end : (l₀ l : List ℕ) (s : Builder) (i : ℕ) → Loading l₀ l s i → length table / 3 ≤ i → Loaded table l₀ l s
-  loading-end l₀ l s i L h =
-      record {
-        size = L .step .size;
-        built = λ f. L .step .goes-on f .built;
-        members = λ f u. (λ m. sorted-mem u _ (L .step .goes-on f .inside u m), held u);
-        over = L .step .over;
-      }
-    where
-      held : (u : Triple) → Mem u (triples table) → Mem u (first l (s .filled))
-      held u m =
-          let z = tabulate-mem (at table) 0 (length table / 3) (subst (Mem u) (triples-table table) m) in
-          subst (λ (x : Triple). Mem x (first l (s .filled))) (sym (z .3)) (L .done (z .0) (omega (arith, z .2)))
+use Rattle.saturate.specs.Rounds.{Rounded, Closed}
+use Rattle.saturate.proofs.Sweeps.{in-first}
 
 -- ── rounds ──
 module _ (G : Graph) (l₀ : List ℕ) where
@@ -222,22 +145,28 @@ closing-start l filled h =
     }
 
 -- ── loading, then rounds ──
-pub closed-loaded : (table l m n : List ℕ) (b c : Builder) → Loaded table l m b → b .full ≡ false → Closed (In (first m (b .filled))) m n c → Closed (In (triples table)) l n c
+in-table : (table : List ℕ) (t : Triple) → Mem t (tabulate (at table) 0 (length table / 3)) → Mem t (triples table)
+in-table table t = subst (Mem t) (sym (triples-table table))
+
+table-in : (table : List ℕ) (t : Triple) → Mem t (triples table) → Mem t (tabulate (at table) 0 (length table / 3))
+table-in table t = subst (Mem t) (triples-table table)
+
+pub closed-loaded : (table l m n : List ℕ) (b c : Builder) → Collected (at table) (length table / 3) l m b → b .full ≡ false → Closed (In (first m (b .filled))) m n c → Closed (In (triples table)) l n c
 closed-loaded table l m n b c L f C =
     record {
       size = C .size ∙ L .size;
       room = C .room;
-      exact = λ g u. (λ k. derives-cut rdfs (λ t x. given ((L .members f t) .0 x)) ((C .exact g u) .0 k), λ d. (C .exact g u) .1 (derives-cut rdfs (λ t x. given ((L .members f t) .1 x)) d));
-      over = λ g out h. subst (λ (k : ℕ). k / 3 < length out) (L .size) (C .over g out (λ u d. h u (derives-cut rdfs (λ t x. given ((L .members f t) .0 x)) d)));
+      exact = λ g u. (λ k. derives-cut rdfs (λ t x. given (in-table table t ((L .members f t) .0 x))) ((C .exact g u) .0 k), λ d. (C .exact g u) .1 (derives-cut rdfs (λ t x. given ((L .members f t) .1 (table-in table t x))) d));
+      over = λ g out h. subst (λ (k : ℕ). k / 3 < length out) (L .size) (C .over g out (λ u d. h u (derives-cut rdfs (λ t x. given (in-table table t ((L .members f t) .0 x))) d)));
     }
 
-pub closed-full : (table l m : List ℕ) (b : Builder) → Loaded table l m b → b .full ≡ true → Closed (In (triples table)) l m b
+pub closed-full : (table l m : List ℕ) (b : Builder) → Collected (at table) (length table / 3) l m b → b .full ≡ true → Closed (In (triples table)) l m b
 closed-full table l m b L f =
     record {
       size = L .size;
       room = λ g. absurd (true≢false (sym f ∙ g));
       exact = λ g. absurd (true≢false (sym f ∙ g));
       over = λ g out h.
-          let few = rising-length (sorted (triples table)) out (sorted-rising _) (λ u k. h u (given (sorted-mem u _ k))) in
+          let few = rising-length (sorted (tabulate (at table) 0 (length table / 3))) out (sorted-rising _) (λ u k. h u (given (in-table table u (sorted-mem u _ k)))) in
           omega (arith, few, L .over g);
     }

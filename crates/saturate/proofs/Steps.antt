@@ -1,4 +1,4 @@
--- Steps of a round.
+-- The conclusion of one rule from two triples.
 -- Assumes nothing.
 use Prim.Native.Nat.{ℕ, zero, suc, _+_, _-_, _*_, _/_, _<_, _≤_}
 use mathlib.Core.Path.{_≡_, refl, sym, _∙_, ap, subst}
@@ -20,42 +20,9 @@ use Rattle.theory.proofs.Saturated.{round-has, round-rising, round-keeps}
 use Rattle.lists.specs.Flat.{at}
 use Rattle.lists.proofs.Places.{tabulate-agree}
 use Rattle.builder.specs.declared.Builder.{Builder}
-use Rattle.builder.specs.Builder.{first, Built, SameBase, Holds, Offered}
-use Rattle.saturate.specs.Rounds.{firstOf, secondOf, State, Step, Drawn}
-
--- an offer of a triple of U
-module _ (U X : List Triple) (U-rising : Rising U) (l l′ : List ℕ) (b b′ : Builder) (t : Triple) (S : State U X l b) (m : Mem t U) (O : Offered l l′ b b′ t) where
-  pub offer-step : Step U X l l′ b b′
-  offer-step =
-      record {
-        size = O .same-base .size;
-        goes-on = λ f. record {
-          built = O .taken f .built;
-          base-is = (λ i. tabulate (at l′) 0 (O .same-base .base i)) ∙ tabulate-agree (at l′) (at l) 0 (b .base) (λ i x y. O .same-base .places i (omega arith)) ∙ S .base-is;
-          inside = λ u k. ⊎-elim (λ w. S .inside u w) (λ (e : u ≡ t). subst (λ (z : Triple). Mem z U) (sym e) m) ((O .taken f .members u) .0 k);
-        };
-        keeps = λ f u k. (O .taken f .members u) .1 (inl k);
-        over = λ f.
-            let few = rising-length (sorted (t ∷ first l (b .filled))) U (sorted-rising _)
-            (λ u k. ⊎-elim (λ (e : u ≡ t). subst (λ (z : Triple). Mem z U) (sym e) m) (λ w. S .inside u w) (mem-cases (sorted-mem u _ k))) in
-            omega (arith, O .over f);
-      }
-
-  pub offer-held : b′ .full ≡ false → Mem t (first l′ (b′ .filled))
-  offer-held f = (O .taken f .members t) .1 (inr refl)
-
-pub step-none : (U X : List Triple) (l : List ℕ) (b : Builder) → State U X l b → Step U X l l b b
-step-none U X l b S =
-    record { size = refl; goes-on = λ f. S; keeps = λ f u m. m; over = λ f. absurd (true≢false (sym f ∙ S .built .not-full)) }
-
-pub step-then : (U X : List Triple) (l m n : List ℕ) (b c d : Builder) → c .full ≡ false → Step U X l m b c → Step U X m n c d → Step U X l n b d
-step-then U X l m n b c d f S T =
-    record {
-      size = T .size ∙ S .size;
-      goes-on = T .goes-on;
-      keeps = λ g u k. T .keeps g u (S .keeps f u k);
-      over = λ g. subst (λ (z : ℕ). z / 3 < length U) (S .size) (T .over g);
-    }
+use Rattle.builder.specs.Builder.{first, Offered}
+use Rattle.builder.proofs.Collecting.{offer-step, step-none}
+use Rattle.saturate.specs.Rounds.{Drawn}
 
 -- ── one conclusion ──
 pub drawn-offer : (l l′ : List ℕ) (b b′ : Builder) (r : Rule) (a p t : Triple) → fits rdfs r a p ≡ true → t ≡ gives rdfs r a p → Offered l l′ b b′ t → Drawn l l′ b b′ r a p

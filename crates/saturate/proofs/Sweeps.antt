@@ -25,10 +25,10 @@ use Rattle.lists.specs.Flat.{at, RisingPart, Bound}
 use Rattle.lists.proofs.Compare.{Cmp, lt, eq, gt, cmp}
 use Rattle.lists.proofs.Places.{places-rising}
 use Rattle.builder.specs.declared.Builder.{Builder}
-use Rattle.builder.specs.Builder.{first, Built}
-use Rattle.saturate.specs.Rounds.{noRule, keyOf, firstOf, secondOf, State, Step, Drawn, Ready, RoundStep, Concluded, DrawnPartners, DrawnRule, Rounded}
+use Rattle.builder.specs.Builder.{first, Built, State, Step}
+use Rattle.builder.proofs.Collecting.{opening, step-none, step-then}
+use Rattle.saturate.specs.Rounds.{noRule, keyOf, firstOf, secondOf, Drawn, Ready, RoundStep, Concluded, DrawnPartners, DrawnRule, Rounded}
 use Rattle.saturate.proofs.Premises.{Partner, partner, Driven, driven}
-use Rattle.saturate.proofs.Steps.{step-none, step-then}
 
 -- ── the front of a triple ──
 abbrev front : Triple → Triple → Bool
@@ -255,9 +255,6 @@ pub record Rules (l₀ l : List ℕ) (b s : Builder) (k : ℕ) : Type 0 where
   pub going : s .full ≡ false
   pub step : RoundStep l₀ l b s
   pub done : (j : ℕ) → j < k → (d t : Triple) → Mem d (first l₀ (b .base)) → Mem t (first l₀ (b .base)) → Concluded l s (getD rules j noRule) d t
-
-abbrev pub opening : ℕ → Builder
-opening count = record { base = count; sorted = count; filled = count; full = false }
 
 pub rules-start : (l : List ℕ) (count : ℕ) → 3 * count ≤ length l → RisingPart (at l) 0 count → Rules l l (opening count) (opening count) 0
 rules-start l count h R =

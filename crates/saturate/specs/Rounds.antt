@@ -10,12 +10,12 @@ use lib.ListN.{length, getD}
 use Rattle.model.specs.declared.Rule.{Rule}
 use Rattle.model.specs.declared.Triple.{Triple}
 use Rattle.model.specs.Codes.{rdfs}
-use Rattle.model.specs.Triples.{triple, triples, sorted}
+use Rattle.model.specs.Triples.{triple}
 use Rattle.model.specs.Rules.{rule, rules, place, fits, gives, Derives}
 use Rattle.model.specs.Saturation.{round}
 use Rattle.model.specs.Cliques.{Graph}
 use Rattle.builder.specs.declared.Builder.{Builder}
-use Rattle.builder.specs.Builder.{first, Built}
+use Rattle.builder.specs.Builder.{first, Built, State, Step}
 
 -- what stands past the table's end
 abbrev pub noRule : Rule
@@ -31,19 +31,6 @@ firstOf r driver partner = cond (eqb (r .left) 0) partner driver
 
 unfoldable pub secondOf : Rule → Triple → Triple → Triple
 secondOf r driver partner = cond (eqb (r .left) 0) driver partner
-
--- the list while it grows: its frozen part is X, and all that it holds is in U
-pub record State (U X : List Triple) (l : List ℕ) (b : Builder) : Type 0 where
-  pub built : Built l b
-  pub base-is : first l (b .base) ≡ X
-  pub inside : (u : Triple) → Mem u (first l (b .filled)) → Mem u U
-
--- a step: it goes on, with nothing lost, or U has more triples than there are slots
-pub record Step (U X : List Triple) (l l′ : List ℕ) (b b′ : Builder) : Type 0 where
-  pub size : length l′ ≡ length l
-  pub goes-on : b′ .full ≡ false → State U X l′ b′
-  pub keeps : b′ .full ≡ false → (u : Triple) → Mem u (first l (b .filled)) → Mem u (first l′ (b′ .filled))
-  pub over : b′ .full ≡ true → length l / 3 < length U
 
 -- the conclusion of a rule from two triples, where they fit
 pub record Drawn (l l′ : List ℕ) (b b′ : Builder) (r : Rule) (a p : Triple) : Type 0 where
@@ -79,13 +66,6 @@ pub record Rounded (l l′ : List ℕ) (count : ℕ) (b′ : Builder) : Type 0 w
   pub base-count : b′ .full ≡ false → b′ .base ≡ count
   pub members : b′ .full ≡ false → (u : Triple) → Mem u (first l′ (b′ .filled)) ↔ Mem u (round rdfs (first l count))
   pub over : b′ .full ≡ true → length l / 3 < length (round rdfs (first l count))
-
--- the table's triples, or these are more than the slots
-pub record Loaded (table l l′ : List ℕ) (b′ : Builder) : Type 0 where
-  pub size : length l′ ≡ length l
-  pub built : b′ .full ≡ false → Built l′ b′
-  pub members : b′ .full ≡ false → (u : Triple) → Mem u (first l′ (b′ .filled)) ↔ Mem u (triples table)
-  pub over : b′ .full ≡ true → length l / 3 < length (sorted (triples table))
 
 -- what the rules derive from G, or this is more than the slots
 pub record Closed (G : Graph) (l l′ : List ℕ) (b′ : Builder) : Type 0 where

@@ -3,7 +3,7 @@
 ghost use mathlib.Core.Bool.{_&&_, _||_};
 ghost use mathlib.Core.List.{List·Memᴰ as Mem};
 ghost use mathlib.Core.Path.{_≡_};
-ghost use Prim.Native.Nat.{_+_, _*_, _<_, _≤_};
+ghost use Prim.Native.Nat.{_+_, _*_, _/_, _<_, _≤_};
 ghost use lib.Dec.{eqb};
 ghost use lib.ListN.{length, getD};
 ghost use Rattle.model.specs.Codes.{rdfs, kind};
@@ -12,8 +12,8 @@ ghost use Rattle.model.specs.Rules.{rules, place, fits, gives};
 ghost use Rattle.model.specs.Outcomes.{counted};
 ghost use Rattle.model.specs.Calls.{saturateOutcome, saturateLeaves};
 ghost use Rattle.lists.specs.Flat.{at, RisingPart};
-ghost use Rattle.builder.specs.Builder.{first, Built};
-ghost use Rattle.saturate.specs.Rounds.{noRule, keyOf, firstOf, secondOf, Ready, Drawn, DrawnPartners, DrawnRule, Rounded, Loaded, Closed};
+ghost use Rattle.builder.specs.Builder.{first, Built, Collected};
+ghost use Rattle.saturate.specs.Rounds.{noRule, keyOf, firstOf, secondOf, Ready, Drawn, DrawnPartners, DrawnRule, Rounded, Closed};
 use builder::Builder;
 use builder::finish;
 use builder::offer;
@@ -215,7 +215,7 @@ fn round(list: &mut [u32], count: usize) -> Builder
 
 // The table's triples, each at least once, or the builder is full.
 fn load(table: &[u32], list: &mut [u32]) -> Builder
-    ensures { λ x. ⌜ Loaded (now (table .entry)) (now (list .entry)) (now (list .exit)) x ⌝ }
+    ensures { λ x. ⌜ Collected (at (now (table .entry))) (length (now (table .entry)) / 3) (now (list .entry)) (now (list .exit)) x ⌝ }
 {
     let n = table.len() / 3;
     let mut state = Builder {

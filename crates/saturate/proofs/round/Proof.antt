@@ -2,7 +2,8 @@ use Prim.Native.Nat.{_-_, _≤_}
 use mathlib.Core.Path.{_≡_, refl}
 use native.Mathlib.Omega.{arith}
 use borrow.Author.Needs.{needs}
-use Rattle.saturate.proofs.Sweeps.{Rules, opening, rules-start, rules-next, rules-full, rules-end, rule-known, ready-on}
+use Rattle.builder.proofs.Collecting.{opening}
+use Rattle.saturate.proofs.Sweeps.{Rules, rules-start, rules-next, rules-full, rules-end, rule-known, ready-on}
 use Rattle.saturate.proofs.round.Statement.{statement}
 use Rattle.saturate.proofs.round.Tie as tie
 use Rattle.saturate.proofs.round.Reads as reads
