@@ -152,3 +152,9 @@ any-at f g n i h e = sym (any-holds f (tabulate g 0 n) (g i) (mem-tabulate g 0 n
 
 pub any-nowhere : {A : Type 0} (f : A → Bool) (g : ℕ → A) (n i : ℕ) → n ≤ i → ((k : ℕ) → k < i → f (g k) ≡ false) → false ≡ any f (tabulate g 0 n)
 any-nowhere f g n i h e = sym (none-any f (tabulate g 0 n) (λ x m. let w = tabulate-mem g 0 n m in ap f (w .3) ∙ e (w .0) (omega (arith, w .2))))
+
+-- within a list the default is not read
+pub same-default : (l : List ℕ) (i d e : ℕ) → i < length l → getD l i d ≡ getD l i e
+same-default [] i d e h = absurd (omega arith)
+same-default (x ∷ l) zero d e h = refl
+same-default (x ∷ l) (suc i) d e h = same-default l i d e (omega arith)

@@ -95,9 +95,3 @@ module _ (map : List ℕ) (e : End) (x : ℕ) (b : List ℕ) where
   pub fit-code : (c : ℕ) → e ≡ Code c → getD map c 0 ≡ label map c → fit (eqb (getD map c 0) x) b ≡ fitEnd map e x b
   unfolding fitEnd
   fit-code c h n = rw (h, n)
-
--- within a list the default is not read
-pub same-default : (l : List ℕ) (i d e : ℕ) → i < length l → getD l i d ≡ getD l i e
-same-default [] i d e h = absurd (omega arith)
-same-default (x ∷ l) zero d e h = refl
-same-default (x ∷ l) (suc i) d e h = same-default l i d e (omega arith)

@@ -1,4 +1,5 @@
-use Rattle.query.proofs.Ends.{variable-below, code-below, fit-unbound, fit-bound, fit-code, same-default}
+use Rattle.query.proofs.Ends.{variable-below, code-below, fit-unbound, fit-bound, fit-code}
+use Rattle.lists.proofs.Places.{same-default}
 use borrow.Author.Needs.{needs}
 use Rattle.query.proofs.fit_end.Statement.{statement}
 use Rattle.query.proofs.fit_end.Tie as tie
