@@ -15,7 +15,7 @@ use Rattle.site_form.specs.Reading.{bad, got, digit, digitFirst, moreOf,
 use Rattle.site_form.proofs.Readers.{not-bad, got-value, got-next, Takes, Says}
 
 -- ── numerals ──
-digits-small : (k n : ℕ) → n < 10 → digits (suc k) n ≡ (48 + n) ∷ []
+pub digits-small : (k n : ℕ) → n < 10 → digits (suc k) n ≡ (48 + n) ∷ []
 unfolding digits
 digits-small k n h = rw (lt-ltb n 10 h)
 
@@ -41,7 +41,7 @@ digits-same (suc j) (suc k) n p q =
     (λ h. digits-large j n h ∙ ap (λ l. l ++ ((48 + n % 10) ∷ [])) (digits-same j k (n / 10) (omega arith) (omega arith)) ∙ sym (digits-large k n h))
 
 -- one digit more
-numeral-longer : (v d : ℕ) → 1 ≤ v → d < 10 → numeral (v * 10 + d) ≡ numeral v ++ ((48 + d) ∷ [])
+pub numeral-longer : (v d : ℕ) → 1 ≤ v → d < 10 → numeral (v * 10 + d) ≡ numeral v ++ ((48 + d) ∷ [])
 unfolding numeral
 numeral-longer v d h g =
     let n = v * 10 + d in
@@ -50,7 +50,7 @@ numeral-longer v d h g =
     digits-large n n (omega arith) ∙ rw (e, f) (ap (λ l. l ++ ((48 + d) ∷ [])) (digits-same n (suc v) v (omega arith) (omega arith)))
 
 -- ── the steps of the reader ──
-digit-range : (b : ℕ) → digit b ≡ true → (48 ≤ b) × (b < 58)
+pub digit-range : (b : ℕ) → digit b ≡ true → (48 ≤ b) × (b < 58)
 unfolding digit
 digit-range b e = go (leb 48 b) refl e
   where
@@ -84,7 +84,7 @@ module _ (at b : ℕ) (bs : List ℕ) where
   unfolding numberOf
   number-more e n = rw (e, ne-eqb b 48 n)
 
-number-end : (at : ℕ) → numberOf at [] ≡ bad
+pub number-end : (at : ℕ) → numberOf at [] ≡ bad
 unfolding numberOf
 number-end at = refl
 

@@ -3,5 +3,6 @@ pub mod Decimal
 pub mod Forms
 pub mod Whole
 pub mod Queries
+pub mod Filled
 pub mod Back
 pub mod Example

@@ -1,0 +1,4 @@
+mod Numbers
+mod Words
+pub mod Steps
+mod Forms

@@ -1,0 +1,4 @@
+mod Many
+mod Queries
+mod Triples
+mod Whole

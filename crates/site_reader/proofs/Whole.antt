@@ -1,0 +1,122 @@
+-- The call `read`, answer by answer.
+-- Assumes nothing.
+use Prim.Native.Nat.{ℕ, _*_, _/_, _<_, _≤_}
+use mathlib.Core.Path.{_≡_, refl, sym, _∙_, ap}
+use mathlib.Core.List.{List, []}
+use mathlib.Core.Option.{Option, none, some}
+use native.Mathlib.Omega.{arith}
+use lib.ListN.{length, replicate}
+use borrow.Author.Tests.{lt-leb, le-leb, lt-ltb, le-ltb}
+use Rattle.model.specs.declared.Refusal.{Refusal}
+use Rattle.model.specs.declared.Refusal.the-variants.{Slots as slots-refusal, Form as form-refusal}
+use Rattle.model.specs.Lists.{zeros}
+use Rattle.model.specs.Triples.{slots, listed}
+use Rattle.model.specs.Outcomes.{number, decided, left, zeroed}
+use Rattle.query.specs.declared.Query.{Query}
+use Rattle.lists.specs.Flat.{Cleared}
+use Rattle.lists.proofs.Search.{cleared-all}
+use Rattle.site_form.specs.declared.Site.{Site}
+use Rattle.site_form.specs.declared.ReadAnswer.{ReadAnswer}
+use Rattle.site_form.specs.declared.Form.the-variants.{Read, Refused}
+use Rattle.site_form.specs.Text.{mostLines, mostAsks}
+use Rattle.site_form.specs.Reading.{bad, got, _>>=_, give, many, end, siteReader, tripleReader, askReader, Forms, forms, formsReader, value, readForms, queryOf, queriesOf, siteOf, outcomeOf, readOutcome, answered, readSite, readList}
+use Rattle.site_form.proofs.Readers.{fails}
+use Rattle.site_reader.specs.declared.LinesRead.{LinesRead}
+use Rattle.site_reader.specs.declared.AsksRead.{AsksRead}
+use Rattle.site_parts.specs.Steps.{items}
+use Rattle.site_reader.specs.Queries.{askLines, AsksFrom}
+use Rattle.site_reader.specs.Calls.{tripleLines, LinesFrom, RefusedRead, ReadCall}
+use Rattle.site_parts.proofs.Steps.{then-got}
+use Rattle.site_reader.proofs.Many.{many-got}
+use Rattle.site_reader.proofs.Triples.{all-length, all-listed}
+
+pub refused-is : (l m : List ℕ) (x : Refusal) (q : Query) → q ≡ queryOf [] → Cleared l m 0 (length l)
+    → RefusedRead l x (record { form = Refused x; site = record { size = 0; count = 0; asks = 0; queries = replicate 16 q } }) m
+unfolding siteOf queriesOf
+refused-is l m x q e c = record {
+  answer = λ i. record { form = Refused x; site = record { size = 0; count = 0; asks = 0; queries = replicate 16 (e i) } };
+  list = cleared-all l m (length l) c (omega arith);
+}
+
+-- ── what the text says ──
+module _ (text : List ℕ) where
+  pub no-site : siteReader text 0 ≡ bad → readForms text ≡ none
+  unfolding readForms formsReader
+  no-site e = ap value (fails _ _ text 0 e)
+
+  module _ (n i : ℕ) (e : siteReader text 0 ≡ got n i) (l l′ : List ℕ) (lines : LinesRead) (hl : LinesFrom text i l lines l′) (asks : AsksRead) (ha : AsksFrom text (lines .next) asks) where
+    abbrev said : Forms
+    said = forms n (items (tripleLines text i)) (items (askLines text (lines .next)))
+
+    triples-got : many mostLines tripleReader text i ≡ got (items (tripleLines text i)) (lines .next)
+    triples-got = many-got tripleReader text mostLines i ∙ ap (got (items (tripleLines text i))) (sym (hl .next))
+
+    asks-got : many mostAsks askReader text (lines .next) ≡ got (items (askLines text (lines .next))) (asks .next)
+    asks-got = many-got askReader text mostAsks (lines .next) ∙ ap (got (items (askLines text (lines .next)))) (sym (ha .next))
+
+    to-end : formsReader text 0 ≡ (end >>= λ u. give said) text (asks .next)
+    unfolding formsReader
+    to-end = then-got _ _ text 0 n i e ∙ then-got _ _ text i _ _ triples-got ∙ then-got _ _ text (lines .next) _ _ asks-got
+
+    not-ended : asks .next < length text → readForms text ≡ none
+    unfolding readForms end
+    not-ended h = ap value (to-end ∙ fails end _ text (asks .next) (rw (lt-leb _ _ h)))
+
+    ended : length text ≤ asks .next → readForms text ≡ some said
+    unfolding readForms end give
+    ended h = ap value (to-end ∙ then-got end _ text (asks .next) tt (asks .next) (rw (le-leb _ _ h)))
+
+-- ── the answers ──
+module _ (text l : List ℕ) where
+  pub by-form : readForms text ≡ none → (l′ : List ℕ) → length l′ ≡ length l → (r : ReadAnswer) (m : List ℕ) → RefusedRead l′ form-refusal r m → ReadCall text l r m
+  unfolding readOutcome readSite readList left zeroed number
+  by-form e l′ k r m h = record {
+    outcome = ap answered (h .answer) ∙ sym (ap (λ (o : Option Forms). outcomeOf o l) e);
+    site = ap (λ (x : ReadAnswer). x .site) (h .answer) ∙ rw e;
+    list = h .list ∙ ap zeros k ∙ rw e;
+  }
+
+  module _ (f : Forms) (e : readForms text ≡ some f) where
+    pub by-slots : slots l < length (f .triples) → (l′ : List ℕ) → length l′ ≡ length l → (r : ReadAnswer) (m : List ℕ) → RefusedRead l′ slots-refusal r m → ReadCall text l r m
+    unfolding readOutcome readSite readList left zeroed number decided
+    by-slots s l′ k r m h = record {
+      outcome = ap answered (h .answer) ∙ rw (e, lt-ltb _ _ s);
+      site = ap (λ (x : ReadAnswer). x .site) (h .answer) ∙ rw (e, lt-ltb _ _ s);
+      list = h .list ∙ ap zeros k ∙ rw (e, lt-ltb _ _ s);
+    }
+
+    pub by-read : length (f .triples) ≤ slots l → (s : Site) → s ≡ siteOf f → (m : List ℕ) → m ≡ listed (length l) (f .triples) → ReadCall text l (record { form = Read; site = s }) m
+    unfolding readOutcome readSite readList left decided
+    by-read h s es m em = record {
+      outcome = rw (e, le-ltb _ _ h, es);
+      site = rw (e, le-ltb _ _ h) es;
+      list = rw (e, le-ltb _ _ h) em;
+    }
+
+-- ── the call ──
+module _ (text l : List ℕ) where
+  pub read-no-site : siteReader text 0 ≡ bad → (r : ReadAnswer) (m : List ℕ) → RefusedRead l form-refusal r m → ReadCall text l r m
+  read-no-site e r m h = by-form text l (no-site text e) l refl r m h
+
+  module _ (n i : ℕ) (e : siteReader text 0 ≡ got n i) (l′ : List ℕ) (lines : LinesRead) (hl : LinesFrom text i l lines l′) (asks : AsksRead) (ha : AsksFrom text (lines .next) asks) where
+    same-size : length l′ ≡ length l
+    same-size = ap length (hl .list) ∙ all-length l 0 (items (tripleLines text i))
+
+    pub read-not-ended : asks .next < length text → (r : ReadAnswer) (m : List ℕ) → RefusedRead l′ form-refusal r m → ReadCall text l r m
+    read-not-ended h r m k = by-form text l (not-ended text n i e l l′ lines hl asks ha h) l′ same-size r m k
+
+    module _ (h : length text ≤ asks .next) where
+      pub read-no-slots : length l′ / 3 < lines .count → (r : ReadAnswer) (m : List ℕ) → RefusedRead l′ slots-refusal r m → ReadCall text l r m
+      unfolding slots
+      read-no-slots s r m k =
+          let z = same-size in
+          by-slots text l _ (ended text n i e l l′ lines hl asks ha h) (omega (arith, hl .count)) l′ same-size r m k
+
+      pub read-all : lines .count ≤ length l′ / 3 → (m : List ℕ) → Cleared l′ m (3 * lines .count) (length l′)
+          → ReadCall text l (record { form = Read; site = record { size = n; count = lines .count; asks = asks .count; queries = asks .queries } }) m
+      unfolding slots siteOf
+      read-all s m c =
+          let z = same-size in
+          by-read text l _ (ended text n i e l l′ lines hl asks ha h) (omega (arith, hl .count)) _
+          (λ j. record { size = n; count = hl .count j; asks = ha .count j; queries = ha .queries j }) m
+          (all-listed l l′ m (items (tripleLines text i)) (lines .count) (hl .count) (omega arith) (hl .list) c)

@@ -1,0 +1,4 @@
+mod Stores
+mod Numerals
+mod Lines
+mod Whole

@@ -1,0 +1,155 @@
+// The writer of the site form, and functions that put bytes, numerals and lines into a lent list of bytes.
+// A byte past the list's end is counted and not stored.
+
+ghost use mathlib.Core.Path.{_≡_};
+ghost use Prim.Native.Nat.{_≤_};
+ghost use mathlib.Core.List.{_++_};
+ghost use lib.ListN.{length, set};
+ghost use Rattle.model.specs.Lists.{collect};
+ghost use Rattle.model.specs.Triples.{triples};
+ghost use Rattle.lists.specs.Flat.{Cleared};
+ghost use Rattle.site_form.specs.Text.{numeral, siteLine, tripleLine};
+ghost use Rattle.site_writer.specs.Calls.{Room, Put, WriteCall};
+use model::Counted;
+use model::Refusal;
+use model::Triple;
+
+// Stores a byte at a place, if the list has that place.
+fn put_byte(out: &mut [u8], at: usize, b: u8)
+    ensures { λ r. ⌜ now (out .exit) ≡ set (now (out .entry)) at b ⌝ }
+{
+    if out.len() <= at {
+        return;
+    }
+    out[at] = b;
+}
+
+// Stores the bytes w from a place on; the place after them.
+pub fn put_bytes(out: &mut [u8], at: usize, w: &[u8]) -> usize
+    requires { ⌜ Room at (now w) ⌝ }
+    ensures { λ r. ⌜ Put (now (out .entry)) at (now (w .entry)) (now (out .exit)) r ⌝ }
+{
+    let mut i = 0;
+    let mut next = at;
+    while i < w.len() {
+        put_byte(out, next, w[i]);
+        i += 1;
+        next += 1;
+    }
+    next
+}
+
+// How many digits the numeral of v has.
+fn numeral_length(v: u32) -> usize
+    ensures { λ r. ⌜ r ≡ length (numeral v) ⌝ }
+{
+    let mut count: usize = 1;
+    let mut rest = v;
+    while 10 <= rest {
+        count += 1;
+        rest = rest / 10;
+    }
+    count
+}
+
+// Stores the numeral of v from a place on, last digit first; the place after it.
+pub fn put_numeral(out: &mut [u8], at: usize, v: u32) -> usize
+    requires { ⌜ Room at (numeral v) ⌝ }
+    ensures { λ r. ⌜ Put (now (out .entry)) at (numeral v) (now (out .exit)) r ⌝ }
+{
+    let next = at + numeral_length(v);
+    let mut rest = v;
+    let mut i = next;
+    while 10 <= rest {
+        i -= 1;
+        put_byte(out, i, (48 + rest % 10) as u8);
+        rest = rest / 10;
+    }
+    put_byte(out, at, (48 + rest) as u8);
+    next
+}
+
+// Stores the bytes w and the numeral of v behind them.
+pub fn put_after(out: &mut [u8], at: usize, w: &[u8], v: u32) -> usize
+    requires { ⌜ Room at (now w ++ numeral v) ⌝ }
+    ensures { λ r. ⌜ Put (now (out .entry)) at (now (w .entry) ++ numeral v) (now (out .exit)) r ⌝ }
+{
+    let i = put_bytes(out, at, w);
+    put_numeral(out, i, v)
+}
+
+// Stores the line `(site N)`.
+pub fn put_site(out: &mut [u8], at: usize, n: u32) -> usize
+    requires { ⌜ Room at (siteLine n) ⌝ }
+    ensures { λ r. ⌜ Put (now (out .entry)) at (siteLine n) (now (out .exit)) r ⌝ }
+{
+    let i = put_after(out, at, b"(site ", n);
+    put_bytes(out, i, b")\n")
+}
+
+// Stores a line `(t S P O)`.
+pub fn put_triple(out: &mut [u8], at: usize, t: Triple) -> usize
+    requires { ⌜ Room at (tripleLine t) ⌝ }
+    ensures { λ r. ⌜ Put (now (out .entry)) at (tripleLine t) (now (out .exit)) r ⌝ }
+{
+    let i = put_after(out, at, b"(t ", t.subject);
+    let j = put_after(out, i, b" ", t.property);
+    let k = put_after(out, j, b" ", t.object);
+    put_bytes(out, k, b")\n")
+}
+
+// Stores a line for each triple of the table.
+pub fn put_triples(out: &mut [u8], at: usize, table: &[u32]) -> usize
+    requires { ⌜ Room at (collect tripleLine (triples (now table))) ⌝ }
+    ensures { λ r. ⌜ Put (now (out .entry)) at (collect tripleLine (triples (now (table .entry)))) (now (out .exit)) r ⌝ }
+{
+    let n = table.len() / 3;
+    let mut i = 0;
+    let mut next = at;
+    while i < n {
+        next = put_triple(out, next, lists::triple_at(table, i));
+        i += 1;
+    }
+    next
+}
+
+// Zeros from index a to before index b.
+pub fn clear_bytes(out: &mut [u8], a: usize, b: usize)
+    requires { ⌜ (a ≤ b) × (b ≤ length (now out)) ⌝ }
+    ensures { λ r. ⌜ Cleared (now (out .entry)) (now (out .exit)) a b ⌝ }
+{
+    let mut i = a;
+    while i < b {
+        out[i] = 0;
+        i += 1;
+    }
+}
+
+// Writes the site line and the table's triples in their order, with zeros behind; the number of bytes.
+// Refused with 1, then 3, then with 5 where the list has too few bytes.
+pub fn write(n: u32, table: &[u32], out: &mut [u8]) -> Counted
+    ensures { λ r. ⌜ WriteCall n (now (table .entry)) (now (out .entry)) r (now (out .exit)) ⌝ }
+{
+    let size = n as usize;
+    if checks::size_wrong(size) {
+        return Counted::Refused(Refusal::Length);
+    }
+    if checks::length_wrong(table.len()) {
+        return Counted::Refused(Refusal::Length);
+    }
+    if 1000 < table.len() / 3 {
+        return Counted::Refused(Refusal::Length);
+    }
+    if checks::codes_wrong(table, size) {
+        return Counted::Refused(Refusal::Code);
+    }
+    let i = put_site(out, 0, n);
+    let count = put_triples(out, i, table);
+    let room = out.len();
+    if room < count {
+        clear_bytes(out, 0, room);
+        return Counted::Refused(Refusal::Slots);
+    }
+    clear_bytes(out, count, room);
+    Counted::Count(count)
+}
