@@ -25,7 +25,8 @@ use Rattle.union_find.specs.Roots.{Forest, root}
 use Rattle.union_find.specs.Calls.{Apart, Flattened}
 use Rattle.union_find.proofs.Laws.{root-le}
 use Rattle.cliques.specs.Grouping.{Grouping, Grouped, NodesCleared}
-use Rattle.cliques.proofs.Entries.{getD-any, forest-same, roots-same}
+use Rattle.lists.proofs.Places.{same-default}
+use Rattle.cliques.proofs.Entries.{forest-same, roots-same}
 
 module _ (roster : List ℕ) (e : Side) (ts : List Triple) (R : Right rdfs roster ts) (A : ℕ → Bool) (l l₁ l₂ : List ℕ) (b : Grouping roster e A (In ts) (In ts) l)
     (c : NodesCleared roster l l₁ (length l)) (f : Flattened l₁ l₂) where
@@ -58,10 +59,10 @@ module _ (roster : List ℕ) (e : Side) (ts : List Triple) (R : Right rdfs roste
   final : (x : ℕ) → A x ≡ true → label l₂ x ≡ root l x
   final x a =
       let h : x < length l₂ = omega (arith, f .len, forest .inside x a) in
-      getD-any l₂ x absent 0 h ∙ f .roots A apart x a ∙ roots-same A l l₁ (b .forest) same-on x a
+      same-default l₂ x absent 0 h ∙ f .roots A apart x a ∙ roots-same A l l₁ (b .forest) same-on x a
 
   silent : (x : ℕ) → A x ≡ false → Dec (x < length l₂) → label l₂ x ≡ absent
-  silent x a (yes h) = getD-any l₂ x absent 0 h ∙ f .others A apart x a ∙ empty x (omega (arith, f .len)) a
+  silent x a (yes h) = same-default l₂ x absent 0 h ∙ f .others A apart x a ∙ empty x (omega (arith, f .len)) a
   silent x a (no n) = List·getD-eq-default l₂ absent (omega arith)
 
   labels : Labels Active C l₂

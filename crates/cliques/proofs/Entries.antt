@@ -1,4 +1,4 @@
--- Entries of a list: lists that agree on a forest, the default of a read, and the loops that make entries absent.
+-- Entries of a list: lists that agree on a forest, and the loops that make entries absent.
 -- Assumes nothing.
 use Prim.Native.Nat.{ℕ, zero, suc, _+_, _<_, _≤_}
 use mathlib.Core.Path.{_≡_, refl, sym, _∙_, ap}
@@ -15,11 +15,6 @@ use Rattle.union_find.specs.Roots.{Forest, root}
 use Rattle.union_find.proofs.Laws.{by-parents, root-top, root-up, set-at}
 use Rattle.union_find.specs.Calls.{ActivePair, United}
 use Rattle.cliques.specs.Grouping.{opened, Linkable, NodeLinked, Emptied, NodesCleared}
-
-pub getD-any : (l : List ℕ) (x c d : ℕ) → x < length l → getD l x c ≡ getD l x d
-getD-any [] x c d h = absurd (omega arith)
-getD-any (a ∷ l) zero c d h = refl
-getD-any (a ∷ l) (suc x) c d h = getD-any l x c d (omega arith)
 
 -- ── a list with the same entries on a forest ──
 module _ (A : ℕ → Bool) (l l′ : List ℕ) (f : Forest A l) (same : (y : ℕ) → A y ≡ true → getD l′ y 0 ≡ getD l y 0) where

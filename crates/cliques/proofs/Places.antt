@@ -27,13 +27,13 @@ use Rattle.cliques.proofs.Steps.{Grown, widen, skip, open-state, linkab
 
 -- ── one triple more ──
 module _ (table : List ℕ) (i : ℕ) where
-  up : (t : Triple) → Before table i t → Before table (i + 1) t
+  pub up : (t : Triple) → Before table i t → Before table (i + 1) t
   up t m = let w = tabulate-mem (at table) 0 i m in subst (Before table (i + 1)) (sym (w .3)) (mem-tabulate (at table) 0 (i + 1) (w .0) (omega arith) (omega (arith, w .2)))
 
-  last : Before table (i + 1) (at table i)
+  pub last : Before table (i + 1) (at table i)
   last = mem-tabulate (at table) 0 (i + 1) i (omega arith) (omega arith)
 
-  back : (t : Triple) → Before table (i + 1) t → Before table i t ⊎ (t ≡ at table i)
+  pub back : (t : Triple) → Before table (i + 1) t → Before table i t ⊎ (t ≡ at table i)
   back t m = let w = tabulate-mem (at table) 0 (i + 1) m in go (w .0) (w .2) (w .3) (ℕ-discrete (w .0) i)
     where
       go : (j : ℕ) → j < 0 + (i + 1) → t ≡ at table j → Dec (j ≡ i) → Before table i t ⊎ (t ≡ at table i)
@@ -41,7 +41,7 @@ module _ (table : List ℕ) (i : ℕ) where
       go j h q (no n) = inl (subst (Before table i) (sym q) (mem-tabulate (at table) 0 i j (omega arith) (omega arith)))
 
   module _ (roster : List ℕ) (e : Side) (t : Triple) (is : t ≡ at table i) where
-    has-back : (m p : ℕ) → Has rdfs roster (Before table (i + 1)) e m p
+    pub has-back : (m p : ℕ) → Has rdfs roster (Before table (i + 1)) e m p
         → Has rdfs roster (Before table i) e m p ⊎ ((links rdfs roster e t ≡ true) × (m ≡ end e t) × (p ≡ t .property))
     unfolding links
     has-back m p h =

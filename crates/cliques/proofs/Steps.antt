@@ -19,21 +19,10 @@ use Rattle.theory.proofs.Tests.{cond-cases, bool-cases, not-both, not-true-fals
 use Rattle.theory.proofs.Weak.{has-map, clique-sym}
 use Rattle.union_find.specs.Roots.{Kept, root, merge}
 use Rattle.union_find.specs.Calls.{ActivePair, United}
-use Rattle.union_find.proofs.Laws.{root-le, root-root}
-use Rattle.union_find.proofs.Classes.{Closure, step, same, flip, join, Classes, Also, old, new, merged, Added, forest-add, root-add, roots-add}
+use Rattle.union_find.proofs.Classes.{Added, forest-add, root-add, roots-add}
+use Rattle.union_find.proofs.Unions.{united-one, united-same, united-in}
 use Rattle.cliques.specs.Grouping.{Grouping, opened, Linkable, NodeLinked}
 use Rattle.cliques.proofs.Entries.{forest-same, roots-same}
-
--- ── a relation that is turned and chained moves along a closure ──
-module _ (C : ℕ → ℕ → Type 0) (turn : (x y : ℕ) → C x y → C y x) (through : (x y z : ℕ) → C x y → C y z → C x z) where
-  abbrev Moves : ℕ → ℕ → Type 0
-  Moves x y = ((z : ℕ) → C z x → C z y) × ((z : ℕ) → C z y → C z x)
-
-  moves : {R : ℕ → ℕ → Type 0} → ((x y : ℕ) → R x y → C x y) → {x y : ℕ} → Closure R x y → Moves x y
-  moves h (step {a} {b} r) = (λ z k. through z a b k (h a b r), λ z k. through z b a k (turn a b (h a b r)))
-  moves h same = (λ z k. k, λ z k. k)
-  moves h (flip k) = ((moves h k) .1, (moves h k) .0)
-  moves h (join k m) = (λ z c. (moves h m) .0 z ((moves h k) .0 z c), λ z c. (moves h k) .1 z ((moves h m) .1 z c))
 
 module _ (roster : List ℕ) (e : Side) where
   abbrev CliqueIn : Graph → ℕ → ℕ → Type 0
@@ -194,32 +183,6 @@ module _ (roster : List ℕ) (e : Side) where
         together : CliqueIn G′ a q
         together = shared (record { node = n; one = has-map rdfs roster (g .up) held-there; two = g .own })
 
-        -- a property and its root
-        abbrev Up : ℕ → ℕ → Type 0
-        Up x y = (A x ≡ true) × (y ≡ root l x)
-
-        roots : Classes A Up (root l)
-        roots = record {
-          sound = λ x h. step (h, refl);
-          small = λ x h. root-le l x;
-          joined = λ x y r. sym (ap (root l) (r .1) ∙ root-root l x);
-        }
-
-        joined : Classes A (Also Up a q) (merge (root l) a q)
-        joined = merged A Up (root l) roots a q there aq
-
-        in-clique : (x y : ℕ) → Also Up a q x y → CliqueIn G′ x y
-        in-clique x y (old r) = subst (CliqueIn G′ x) (sym (r .1)) (b .sound x (r .0))
-        in-clique x y (new s t) = rw (s, t) together
-
-        sound-now : (p : ℕ) → A p ≡ true → CliqueIn G′ p (merge (root l) a q p)
-        sound-now p h =
-            moves (CliqueIn G′) (λ x y k. clique-sym rdfs roster k) (λ x y z k m. linked k m) in-clique (joined .sound p h) .0 p
-            (linked (b .sound p h) (clique-sym rdfs roster (b .sound p h)))
-
-        one-root : (x y : ℕ) → A x ≡ true → A y ≡ true → root l x ≡ root l y → merge (root l) a q x ≡ merge (root l) a q y
-        one-root x y h k r = joined .joined x (root l x) (old (h, refl)) ∙ ap (merge (root l) a q) r ∙ sym (joined .joined y (root l y) (old (k, refl)))
-
         pair : ActivePair l a q
         pair = record { A = A; forest = b .forest; left = there; right = aq }
 
@@ -228,7 +191,7 @@ module _ (roster : List ℕ) (e : Side) where
           size = k .len ∙ b .size;
           forest = k .forest;
           marked = b .marked;
-          sound = λ p h. subst (CliqueIn G′ p) (sym (k .roots p h)) (sound-now p h);
+          sound = united-in A l l′ a q there aq k (CliqueIn G′) (λ x y c. clique-sym rdfs roster c) (λ x y z c d. linked c d) together (b .sound);
           none = λ p i m f. k .others p f ∙ b .none p (omega (arith, k .len)) m f;
           first = λ m p h. ⊎-elim (λ o. before m p o) (λ x. now m p (x .0) (x .1)) (g .back m p h);
           held = λ m i v.
@@ -245,10 +208,10 @@ module _ (roster : List ℕ) (e : Side) where
             before m p o =
                 let x = b .first m p o in
                 let E = stays m (o .plain) in
-                (x .0, ap A E ∙ x .1, ap (root l′) E ∙ k .roots (getD l m 0) (x .1) ∙ one-root (getD l m 0) p (x .1) (x .0) (x .2) ∙ sym (k .roots p (x .0)))
+                (x .0, ap A E ∙ x .1, ap (root l′) E ∙ united-same A l l′ a q there aq k (getD l m 0) p (x .1) (x .0) (x .2))
 
             now : (m p : ℕ) → m ≡ n → p ≡ q → (A p ≡ true) × (A (getD l′ m 0) ≡ true) × (root l′ (getD l′ m 0) ≡ root l′ p)
-            now m p s t = rw (s, t, stays n u) (aq, there, k .roots a there ∙ joined .joined a q (new refl refl) ∙ sym (k .roots q aq))
+            now m p s t = rw (s, t, stays n u) (aq, there, united-one A l l′ a q there aq k)
 
       pub linkable : Linkable l n q
       linkable = record { inside = w; pair = pair }

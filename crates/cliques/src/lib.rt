@@ -25,7 +25,7 @@ use union_find::union;
 use union_find::wide;
 
 // The end of a triple at a side: its subject for the sources, its object for the targets.
-fn side_end(sources: bool, t: Triple) -> u32
+pub fn side_end(sources: bool, t: Triple) -> u32
     ensures { λ r. ⌜ r ≡ end (sideOf sources) t ⌝ }
 {
     if sources {
@@ -35,7 +35,7 @@ fn side_end(sources: bool, t: Triple) -> u32
 }
 
 // Whether a triple is a data triple with an unmarked end at the side.
-fn links_at(roster: &[u8], sources: bool, t: Triple) -> bool
+pub fn links_at(roster: &[u8], sources: bool, t: Triple) -> bool
     requires { ⌜ Below (length (now roster)) t ⌝ }
     ensures { λ r. ⌜ r ≡ links rdfs (now (roster .entry)) (sideOf sources) t ⌝ }
 {
@@ -99,7 +99,7 @@ fn link_table(table: &[u32], roster: &[u8], sources: bool, list: &mut [u32])
 }
 
 // Makes every entry absent.
-fn empty(list: &mut [u32])
+pub fn empty(list: &mut [u32])
     ensures { λ r. ⌜ Emptied (now (list .entry)) (now (list .exit)) (length (now (list .entry))) ⌝ }
 {
     let mut i = 0;

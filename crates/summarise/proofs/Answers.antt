@@ -24,7 +24,8 @@ use Rattle.model.specs.Calls.{tableChecks, summariseOutcome, summariseLeaves, S
 use Rattle.theory.proofs.Checks.{no-checks}
 use Rattle.theory.proofs.Lists.{length-tabulate, tabulate-mem, mem-tabulate, map-mem, mem-map}
 use Rattle.theory.proofs.Order.{sorted-members, sorted-length}
-use Rattle.theory.proofs.Accepted.{Right}
+use Rattle.theory.proofs.Accepted.{Right, below}
+use Rattle.theory.proofs.Covered.{AllBelow}
 use Rattle.theory.proofs.Mapped.{length-map-of}
 use Rattle.theory.proofs.Tests.{or-false}
 use borrow.Author.Tests.{eqb-true, not-false}
@@ -96,6 +97,12 @@ module _ (table : List ℕ) (count : ℕ) (roster result map₀ map′ work work
             in-work = w ∙ sym (left-after _ _ _ _ q);
           }
 
+-- the codes of the triples are entries of the map
+pub all-below : (table : List ℕ) (count : ℕ) (roster map′ : List ℕ) → map′ ≡ mapOf rdfs roster (first table count) → Right rdfs roster (first table count) → AllBelow (length map′) (first table count)
+all-below table count roster map′ m R =
+    let size : length map′ ≡ length roster = ap {B = ℕ} (λ (x : List ℕ). length x) m ∙ length-map-of rdfs roster (first table count) in
+    subst (λ (n : ℕ). AllBelow n (first table count)) (sym size) (below rdfs roster (first table count) R)
+
 -- ── the whole call ──
 module _ (table roster result map₀ work : List ℕ) (lengths : Bool) (e : lengths ≡ (not (eqb (length map₀) (length roster)) || wrongWork (length roster) (length work))) where
   -- the verdict of the checks 1 to 4
@@ -121,18 +128,22 @@ module _ (table roster result map₀ work : List ℕ) (lengths : Bool) (e : leng
     at-places : triples table ≡ first table (length table / 3)
     at-places = triples-table table
 
-    pub call-right : Right rdfs roster (first table (length table / 3))
+    call-right : Right rdfs roster (first table (length table / 3))
     call-right = subst (Right rdfs roster) at-places (passed-right lengths table roster passes)
 
     both : (not (eqb (length map₀) (length roster)) ≡ false) × (wrongWork (length roster) (length work) ≡ false)
     both = or-false (not (eqb (length map₀) (length roster))) _ (sym e ∙ passed-lengths lengths table roster passes)
 
-    pub map-size : length map₀ ≡ length roster
+    map-size : length map₀ ≡ length roster
     map-size = eqb-true _ _ (not-false _ (both .0))
 
-    pub work-size : length work ≡ 2 * length roster
+    work-size : length work ≡ 2 * length roster
     unfolding wrongWork
     work-size = eqb-true _ _ (not-false _ (both .1))
+
+    -- what summarising asks for
+    pub call-ready : (3 * (length table / 3) ≤ length table) × Right rdfs roster (first table (length table / 3)) × (length map₀ ≡ length roster) × (length work ≡ 2 * length roster)
+    call-ready = (omega arith, call-right, map-size, work-size)
 
     pub call-condensed : (r : Counted) (result′ map′ work′ : List ℕ) → Condensed roster (first table (length table / 3)) result map₀ work r result′ map′ work′
         → SummariseCall table roster result map₀ work r result′ map′ work′

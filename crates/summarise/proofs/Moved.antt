@@ -1,8 +1,11 @@
 -- Images of triples at places of a flat list.
 -- Assumes nothing.
-use Prim.Native.Nat.{ℕ, _+_, _<_}
+use Prim.Native.Nat.{ℕ, _+_, _*_, _/_, _%_, _<_}
 use mathlib.Core.Path.{_≡_, refl, sym, _∙_, ap, subst}
-use mathlib.Core.Logic.{_↔_}
+use mathlib.Core.Logic.{_⊎_, inl, inr}
+use mathlib.Core.Bool.{Bool, true, false, not, _||_}
+use lib.Dec.{eqb}
+use borrow.Author.Tests.{eqb-true, eqb-false, eq-eqb, ne-eqb}
 use mathlib.Core.List.{List, map, List·Memᴰ as Mem}
 use native.Mathlib.Omega.{arith}
 use lib.ListN.{length, getD}
@@ -12,6 +15,8 @@ use Rattle.model.specs.Lists.{tabulate}
 use Rattle.model.specs.Triples.{triple}
 use Rattle.model.specs.Partition.{label}
 use Rattle.model.specs.Summary.{moved}
+use Rattle.model.specs.Outcomes.{wrongWork}
+use Rattle.theory.proofs.Tests.{or-left, bool-cases}
 use Rattle.theory.proofs.Covered.{Below, AllBelow}
 use Rattle.theory.proofs.Lists.{mem-tabulate}
 use Rattle.theory.proofs.Order.{triple-eq}
@@ -33,3 +38,29 @@ below-at n table count i t b h e = b t (subst (λ (z : Triple). Mem z (first tab
 
 pub image-at : (m table : List ℕ) (i : ℕ) (t u : Triple) → t ≡ at table i → u ≡ moved (label m) t → u ≡ moved (label m) (at table i)
 image-at m table i t u e q = q ∙ ap (moved (label m)) e
+
+-- ── the lengths ──
+module _ (n map work : ℕ) where
+  abbrev wrong : Bool
+  wrong = not (eqb map n) || wrongWork n work
+
+  pub wrong-map : (map ≡ n → ⊥) → true ≡ wrong
+  wrong-map h = sym (or-left (not (eqb map n)) _ (ap not (ne-eqb map n h)))
+
+  twice : (b : Bool) → not (not b) ≡ b
+  twice true = refl
+  twice false = refl
+
+  by-work : map ≡ n → (b : Bool) → eqb work (2 * n) ≡ not b → b ≡ wrong
+  unfolding wrongWork
+  by-work e b h = sym ((λ i. not (eq-eqb map n e i) || not (h i)) ∙ twice b)
+
+  pub wrong-odd : map ≡ n → (work % 2 ≡ 0 → ⊥) → true ≡ wrong
+  wrong-odd e h = by-work e true (ne-eqb work (2 * n) (λ q. h (omega arith)))
+
+  pub wrong-half : map ≡ n → work % 2 ≡ 0 → (r : Bool) → r ≡ not (eqb (work / 2) n) → r ≡ wrong
+  wrong-half e h r q = q ∙ by-work e (not (eqb (work / 2) n)) (halves (bool-cases (eqb (work / 2) n)))
+    where
+      halves : (eqb (work / 2) n ≡ true) ⊎ (eqb (work / 2) n ≡ false) → eqb work (2 * n) ≡ not (not (eqb (work / 2) n))
+      halves (inl t) = eq-eqb work (2 * n) (omega (arith, eqb-true (work / 2) n t)) ∙ sym (ap (λ (b : Bool). not (not b)) t)
+      halves (inr f) = ne-eqb work (2 * n) (λ k. eqb-false (work / 2) n f (omega arith)) ∙ sym (ap (λ (b : Bool). not (not b)) f)

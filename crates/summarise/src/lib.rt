@@ -1,18 +1,31 @@
 // Summarise: the map of representatives, then the images of the triples, each once, in rising order.
 
 ghost use mathlib.Core.Path.{_≡_};
-ghost use Prim.Native.Nat.{_*_, _≤_};
+ghost use Prim.Native.Nat.{_*_, _/_, _≤_};
+ghost use mathlib.Core.Bool.{not, _||_};
+ghost use lib.Dec.{eqb};
 ghost use lib.ListN.{length};
+ghost use Rattle.model.specs.Codes.{rdfs};
+ghost use Rattle.model.specs.Outcomes.{wrongWork};
 ghost use Rattle.model.specs.Partition.{label};
 ghost use Rattle.model.specs.Summary.{moved};
+ghost use Rattle.theory.proofs.Accepted.{Right};
 ghost use Rattle.theory.proofs.Covered.{Below, AllBelow};
 ghost use Rattle.lists.specs.Flat.{at};
 ghost use Rattle.builder.specs.Builder.{first, Collected};
+ghost use Rattle.summarise.specs.Condensed.{Condensed, SummariseCall};
 use builder::Builder;
+use builder::finish;
 use builder::offer;
+use lists::clear;
 use lists::triple_at;
+use model::Counted;
+use model::Refusal;
 use model::Triple;
+use table_checks::Verdict;
+use table_checks::table_refusal;
 use union_find::wide;
+use weak_map::weak_map;
 
 // A triple with its ends replaced by their entries of the map.
 fn image(map: &[u32], t: Triple) -> Triple
@@ -47,4 +60,56 @@ fn images(table: &[u32], count: usize, map: &[u32], list: &mut [u32]) -> Builder
         i += 1;
     }
     state
+}
+
+// Summarises the first `count` triples of a list, which pass the checks 1 to 4 with the roster.
+pub fn condense(
+    table: &[u32],
+    count: usize,
+    roster: &[u8],
+    result: &mut [u32],
+    map: &mut [u32],
+    work: &mut [u32],
+) -> Counted
+    requires { ⌜ (3 * count ≤ length (now table)) × Right rdfs (now roster) (first (now table) count) × (length (now map) ≡ length (now roster)) × (length (now work) ≡ 2 * length (now roster)) ⌝ }
+    ensures { λ r. ⌜ Condensed (now (roster .entry)) (first (now (table .entry)) count) (now (result .entry)) (now (map .entry)) (now (work .entry)) r (now (result .exit)) (now (map .exit)) (now (work .exit)) ⌝ }
+{
+    weak_map(table, count, roster, map, work);
+    let state = images(table, count, map, result);
+    if state.full {
+        clear(result, 0, result.len());
+        clear(map, 0, map.len());
+        return Counted::Refused(Refusal::Slots);
+    }
+    Counted::Count(finish(result, state.filled))
+}
+
+// Whether the map has not n entries, or the work list not two for each.
+fn lengths_wrong(n: usize, map: usize, work: usize) -> bool
+    ensures { λ r. ⌜ r ≡ (not (eqb map n) || wrongWork n work) ⌝ }
+{
+    if map != n {
+        return true;
+    }
+    if work % 2 != 0 {
+        return true;
+    }
+    work / 2 != n
+}
+
+// The summary of a table in rising order, the map of representatives, and the summary's size.
+pub fn summarise(
+    table: &[u32],
+    roster: &[u8],
+    result: &mut [u32],
+    map: &mut [u32],
+    work: &mut [u32],
+) -> Counted
+    ensures { λ r. ⌜ SummariseCall (now (table .entry)) (now (roster .entry)) (now (result .entry)) (now (map .entry)) (now (work .entry)) r (now (result .exit)) (now (map .exit)) (now (work .exit)) ⌝ }
+{
+    let lengths = lengths_wrong(roster.len(), map.len(), work.len());
+    match table_refusal(lengths, table, roster) {
+        Verdict::Refused(r) => Counted::Refused(r),
+        Verdict::Passed => condense(table, table.len() / 3, roster, result, map, work),
+    }
 }
