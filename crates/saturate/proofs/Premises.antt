@@ -16,7 +16,7 @@ use Rattle.model.specs.Rules.{rule, rules, place, fits, gives}
 use Rattle.theory.proofs.Tests.{and-true, or-true, bool-cases}
 use Rattle.theory.proofs.RuleLaws.{All, none, more, all-in}
 use Rattle.lists.proofs.Codes.{kind-low, kind-data}
-use Rattle.saturate.specs.Rounds.{keyOf, firstOf, secondOf}
+use Rattle.saturate.specs.Rounds.{drives, keyOf, firstOf, secondOf}
 
 -- ── places ──
 module _ (a b : Triple) where
@@ -178,3 +178,27 @@ driven r a b = go (bool-cases (eqb (r .left) 0))
     go : (eqb (r .left) 0 ≡ true) ⊎ (eqb (r .left) 0 ≡ false) → Driven r a b
     go (inl e) = let o = order-second r b a (eqb-true _ _ e) in record { driver = b; other = a; first = o .0; second = o .1; which = inl (refl, refl) }
     go (inr e) = let o = order-first r a b (eqb-false _ _ e) in record { driver = a; other = b; first = o .0; second = o .1; which = inr (refl, refl) }
+
+-- ── the kind of the driving premise ──
+pub drives-second : (r : Rule) (d : Triple) (x : Bool) → r .left ≡ 0 → x ≡ (eqb (r .second) 5 || eqb (kind rdfs (d .property)) (r .second)) → x ≡ drives r d
+unfolding drives
+drives-second r d x e h = h ∙ ap (λ (b : Bool). cond b (eqb (r .second) 5 || eqb (kind rdfs (d .property)) (r .second)) (eqb (kind rdfs (d .property)) (r .first))) (sym (eq-eqb (r .left) 0 e))
+
+pub drives-first : (r : Rule) (d : Triple) (k : ℕ) → (r .left ≡ 0 → ⊥) → k ≡ kind rdfs (d .property) → eqb k (r .first) ≡ drives r d
+unfolding drives
+drives-first r d k n h =
+    ap (λ (x : ℕ). eqb x (r .first)) h
+    ∙ ap (λ (b : Bool). cond b (eqb (r .second) 5 || eqb (kind rdfs (d .property)) (r .second)) (eqb (kind rdfs (d .property)) (r .first))) (sym (ne-eqb (r .left) 0 n))
+
+-- a triple that drives nothing is no premise
+pub fits-drives : (r : Rule) (d t : Triple) → fits rdfs r (firstOf r d t) (secondOf r d t) ≡ true → drives r d ≡ true
+unfolding fits firstOf secondOf drives
+fits-drives r d t h = go (bool-cases (eqb (r .left) 0))
+  where
+    go : (eqb (r .left) 0 ≡ true) ⊎ (eqb (r .left) 0 ≡ false) → drives r d ≡ true
+    go (inl e) =
+        let w : fits rdfs r t d ≡ true = subst (λ (b : Bool). fits rdfs r (cond b t d) (cond b d t) ≡ true) e h in
+        sym (drives-second r d _ (eqb-true (r .left) 0 e) refl) ∙ (and-true (eqb (r .second) 5 || eqb (kind rdfs (d .property)) (r .second)) _ ((and-true (eqb (kind rdfs (t .property)) (r .first)) _ w) .1)) .0
+    go (inr e) =
+        let w : fits rdfs r d t ≡ true = subst (λ (b : Bool). fits rdfs r (cond b t d) (cond b d t) ≡ true) e h in
+        sym (drives-first r d _ (eqb-false (r .left) 0 e) refl) ∙ (and-true (eqb (kind rdfs (d .property)) (r .first)) _ w) .0

@@ -27,8 +27,8 @@ use Rattle.lists.proofs.Places.{places-rising}
 use Rattle.builder.specs.declared.Builder.{Builder}
 use Rattle.builder.specs.Builder.{first, Built, State, Step}
 use Rattle.builder.proofs.Collecting.{opening, step-none, step-then}
-use Rattle.saturate.specs.Rounds.{noRule, keyOf, firstOf, secondOf, Drawn, Ready, RoundStep, Concluded, DrawnPartners, DrawnRule, Rounded}
-use Rattle.saturate.proofs.Premises.{Partner, partner, Driven, driven}
+use Rattle.saturate.specs.Rounds.{noRule, keyOf, drives, firstOf, secondOf, Drawn, Ready, RoundStep, Concluded, DrawnPartners, DrawnRule, Rounded}
+use Rattle.saturate.proofs.Premises.{Partner, partner, Driven, driven, fits-drives}
 
 -- ── the front of a triple ──
 abbrev front : Triple → Triple → Bool
@@ -199,6 +199,10 @@ module _ (l₀ l : List ℕ) (b s : Builder) (r : Rule) (d : Triple) (i : ℕ) (
       later j x y p (gt z) = omega arith
 
 -- ── driving premises ──
+-- a triple that is no driving premise has no partner
+pub drives-nothing : (l : List ℕ) (b : Builder) (r : Rule) (d : Triple) → Ready l b → drives r d ≡ false → DrawnPartners l l b b r d
+drives-nothing l b r d R n = record { step = step-none _ _ l b R; drawn = λ f t m w. absurd (true≢false (sym (fits-drives r d t w) ∙ n)) }
+
 pub record Drivers (l₀ l : List ℕ) (b s : Builder) (r : Rule) (i : ℕ) : Type 0 where
   pub going : s .full ≡ false
   pub step : RoundStep l₀ l b s

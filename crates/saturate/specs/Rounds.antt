@@ -2,14 +2,14 @@
 -- Assumes nothing.
 use Prim.Native.Nat.{ℕ, _+_, _*_, _/_, _<_, _≤_}
 use mathlib.Core.Path.{_≡_}
-use mathlib.Core.Bool.{Bool, true, false, cond}
+use mathlib.Core.Bool.{Bool, true, false, cond, _||_}
 use mathlib.Core.Logic.{_↔_}
 use mathlib.Core.List.{List, List·Memᴰ as Mem}
 use lib.Dec.{eqb}
 use lib.ListN.{length, getD}
 use Rattle.model.specs.declared.Rule.{Rule}
 use Rattle.model.specs.declared.Triple.{Triple}
-use Rattle.model.specs.Codes.{rdfs}
+use Rattle.model.specs.Codes.{rdfs, kind}
 use Rattle.model.specs.Triples.{triple}
 use Rattle.model.specs.Rules.{rule, rules, place, fits, gives, Derives}
 use Rattle.model.specs.Saturation.{round}
@@ -24,6 +24,10 @@ noRule = rule 0 0 0 0 0 0 0
 -- the least triple that can be the partner of a driving premise
 unfoldable pub keyOf : Rule → Triple → Triple
 keyOf r d = cond (eqb (r .left) 0) (triple (place rdfs d d (r .right)) (r .first) 0) (triple (place rdfs d d (r .left)) (r .second) 0)
+
+-- a triple's property is of the kind of the driving premise
+unfoldable pub drives : Rule → Triple → Bool
+drives r d = cond (eqb (r .left) 0) (eqb (r .second) 5 || eqb (kind rdfs (d .property)) (r .second)) (eqb (kind rdfs (d .property)) (r .first))
 
 -- the two premises in the rule's order
 unfoldable pub firstOf : Rule → Triple → Triple → Triple

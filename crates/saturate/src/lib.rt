@@ -13,7 +13,7 @@ ghost use Rattle.model.specs.Outcomes.{counted};
 ghost use Rattle.model.specs.Calls.{saturateOutcome, saturateLeaves};
 ghost use Rattle.lists.specs.Flat.{at, RisingPart};
 ghost use Rattle.builder.specs.Builder.{first, Built, Collected};
-ghost use Rattle.saturate.specs.Rounds.{noRule, keyOf, firstOf, secondOf, Ready, Drawn, DrawnPartners, DrawnRule, Rounded, Closed};
+ghost use Rattle.saturate.specs.Rounds.{noRule, keyOf, drives, firstOf, secondOf, Ready, Drawn, DrawnPartners, DrawnRule, Rounded, Closed};
 use builder::Builder;
 use builder::finish;
 use builder::offer;
@@ -171,6 +171,27 @@ fn draw_partners(list: &mut [u32], b: Builder, r: Rule, driver: Triple) -> Build
     state
 }
 
+// Whether a triple's property is of the kind of the rule's driving premise.
+fn drives(r: Rule, driver: Triple) -> bool
+    ensures { λ x. ⌜ x ≡ drives r driver ⌝ }
+{
+    if r.left == 0 {
+        return kind_fits(driver.property, r.second);
+    }
+    Code(driver.property).kind() == r.first
+}
+
+// Draws from a triple of the frozen part, where it is a driving premise, and each of its partners.
+fn draw_driver(list: &mut [u32], b: Builder, r: Rule, driver: Triple) -> Builder
+    requires { ⌜ Ready (now list) b × Mem r rules × Mem driver (first (now list) (b .base)) ⌝ }
+    ensures { λ x. ⌜ DrawnPartners (now (list .entry)) (now (list .exit)) b x r driver ⌝ }
+{
+    if !drives(r, driver) {
+        return b;
+    }
+    draw_partners(list, b, r, driver)
+}
+
 // Draws with one rule from each driving premise of the frozen part.
 fn draw_rule(list: &mut [u32], b: Builder, r: Rule) -> Builder
     requires { ⌜ Ready (now list) b × Mem r rules ⌝ }
@@ -181,7 +202,7 @@ fn draw_rule(list: &mut [u32], b: Builder, r: Rule) -> Builder
     let mut i = 0;
     while i < base {
         let driver = triple_at(list, i);
-        state = draw_partners(list, state, r, driver);
+        state = draw_driver(list, state, r, driver);
         if state.full {
             return state;
         }
