@@ -1,4 +1,4 @@
-mod Stores
-mod Numerals
-mod Lines
-mod Whole
+pub mod Stores
+pub mod Numerals
+pub mod Lines
+pub mod Whole

@@ -1,0 +1,7 @@
+pub mod Insertion
+pub mod Opened
+pub mod Quick
+pub mod Held
+pub mod Places
+pub mod Adding
+pub mod Taking

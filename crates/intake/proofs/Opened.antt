@@ -1,0 +1,97 @@
+-- Opening, answer by answer.
+-- Assumes nothing.
+use Prim.Native.Nat.{ℕ, _/_, _≤_, _<_}
+use mathlib.Core.Path.{_≡_, refl, sym, _∙_, ap}
+use mathlib.Core.Logic.{⊎-elim}
+use mathlib.Core.Bool.{Bool, true, false, cond, not, _||_}
+use mathlib.Core.List.{List}
+use native.Mathlib.Omega.{arith}
+use lib.Dec.{eqb, ltb}
+use lib.ListN.{length, replicate, length-replicate, getD-replicate}
+use lib.Seq.{ext-getD}
+use borrow.Author.Tests.{ne-eqb, eq-eqb}
+use Rattle.model.specs.declared.Done.the-variants.{Accepted, Refused}
+use Rattle.model.specs.declared.Refusal.the-variants.{Length, Roster}
+use Rattle.model.specs.Codes.{rdfs, absent, mostTriples}
+use Rattle.model.specs.Lists.{zeros}
+use Rattle.model.specs.Triples.{slots}
+use Rattle.model.specs.Roster.{wrongRoster}
+use Rattle.model.specs.Outcomes.{Outcome, refused, accepted, number, done, decided, wrongSize}
+use Rattle.model.specs.Intake.{State, wrongLists, openOutcome, opened, openLeaves}
+use Rattle.theory.proofs.Tests.{or-left, or-right, or-false, or-neither}
+use Rattle.theory.proofs.Accepted.{size-bounds}
+use Rattle.lists.specs.Flat.{Cleared}
+use Rattle.lists.proofs.Search.{cleared-all}
+use Rattle.cliques.specs.Grouping.{Emptied}
+use Rattle.intake.specs.Opening.{wrongLengths, stateWith, OpenCall}
+
+-- ── the lengths ──
+module _ (n triples summary map : ℕ) where
+  pub by-size : wrongSize n ≡ true → true ≡ wrongLengths n triples summary map
+  unfolding wrongLengths
+  by-size h = sym (or-left (wrongSize n) _ h)
+
+  module _ (z : wrongSize n ≡ false) where
+    pub by-map : (map ≡ n → ⊥) → true ≡ wrongLengths n triples summary map
+    unfolding wrongLengths
+    by-map h = sym (or-right (wrongSize n) _ (or-left (not (eqb map n)) _ (ap not (ne-eqb map n h))))
+
+    pub by-slots : map ≡ n → (triples / 3 ≡ summary / 3 → ⊥) → true ≡ wrongLengths n triples summary map
+    unfolding wrongLengths
+    by-slots e h = sym (or-right (wrongSize n) _ (or-right (not (eqb map n)) _ (or-left (not (eqb (triples / 3) (summary / 3))) _ (ap not (ne-eqb (triples / 3) (summary / 3) h)))))
+
+    pub by-most : map ≡ n → triples / 3 ≡ summary / 3 → (r : Bool) → r ≡ ltb 1048576 (triples / 3) → r ≡ wrongLengths n triples summary map
+    unfolding wrongLengths
+    by-most e h r q = q ∙ (λ i. sym z i || (not (sym (eq-eqb map n e) i) || (not (sym (eq-eqb (triples / 3) (summary / 3) h) i) || ltb 1048576 (triples / 3))))
+
+pub five : (n triples summary map : ℕ) → wrongLengths n triples summary map ≡ false → 5 ≤ n
+unfolding wrongLengths
+five n triples summary map h = (size-bounds n ((or-false (wrongSize n) _ h) .0)) .0
+
+-- ── the answers ──
+emptied-all : (l m : List ℕ) → Emptied l m (length l) → m ≡ replicate (length l) absent
+emptied-all l m e =
+    ext-getD 0 m (replicate (length l) absent) (e .size ∙ sym (length-replicate (length l) absent))
+    (λ k q. e .absents k (omega (arith, e .size)) ∙ sym (getD-replicate (length l) k absent 0 (omega (arith, e .size))))
+
+module _ (roster triples summary map : List ℕ) where
+  abbrev wrong : Bool
+  wrong = wrongLengths (length roster) (length triples) (length summary) (length map)
+
+  abbrev first-of : Bool → Bool → Outcome (Unit {0})
+  first-of a b = cond a (refused 1) (cond b (refused 2) (accepted tt))
+
+  outcome-is : (a b : Bool) → wrong ≡ a → wrongRoster rdfs roster ≡ b → (held summarised : ℕ) → openOutcome rdfs roster (stateWith triples summary map held summarised) ≡ first-of a b
+  unfolding openOutcome decided wrongLists wrongLengths slots
+  outcome-is a b p q held summarised = λ i. first-of (p i) (q i)
+
+  pub opened-length : wrong ≡ true → OpenCall roster triples summary map (Refused Length) triples summary map
+  unfolding done number openLeaves
+  opened-length p =
+      record {
+        answer = λ h s. sym (outcome-is true (wrongRoster rdfs roster) p refl h s);
+        in-triples = λ h s. refl;
+        in-summary = λ h s. refl;
+        in-map = λ h s. refl;
+      }
+
+  pub opened-roster : wrong ≡ false → wrongRoster rdfs roster ≡ true → OpenCall roster triples summary map (Refused Roster) triples summary map
+  unfolding done number openLeaves
+  opened-roster p q =
+      record {
+        answer = λ h s. sym (outcome-is false true p q h s);
+        in-triples = λ h s. refl;
+        in-summary = λ h s. refl;
+        in-map = λ h s. refl;
+      }
+
+  pub opened-all : wrong ≡ false → wrongRoster rdfs roster ≡ false → (x y z : List ℕ) → Cleared triples x 0 (length triples) → Cleared summary y 0 (length summary) → Emptied map z (length map)
+      → OpenCall roster triples summary map Accepted x y z
+  unfolding done openLeaves opened
+  opened-all p q x y z a b d =
+      record {
+        answer = λ h s. sym (outcome-is false false p q h s);
+        in-triples = λ h s. cleared-all triples x (length triples) a (omega arith);
+        in-summary = λ h s. cleared-all summary y (length summary) b (omega arith);
+        in-map = λ h s. emptied-all map z d;
+      }

@@ -1,0 +1,152 @@
+-- `intake::add` meets its contract.
+-- Assumes nothing.
+use mathlib.Core.Path.{sym, _∙_}
+use native.Mathlib.Omega.{arith}
+use Rattle.intake.proofs.Adding.{below-map, added-quick, added-wrong, right-after, added-never, added-slow}
+use borrow.Author.Needs.{needs}
+use Rattle.intake.proofs.add.Statement.{statement}
+use Rattle.intake.proofs.add.Tie as tie
+
+image-known-requires : tie.Need-image-known-requires
+image-known-requires c κs = 
+    let a = c .before .before .before .before .before .before .before .args in
+    let p = c .before .before .before .before .before .before .before .pre in
+    below-map (a .roster .now) (a .triples .now) (a .summary .now) (a .map .now) (a .work .now) (a .held) (a .summarised) (a .t) (a .i) (p .0) (p .1) (p .2)
+
+insert-at-requires : tie.Need-insert-at-requires
+insert-at-requires c κs = search needs
+
+clear-requires : tie.Need-clear-requires
+clear-requires c κs = search needs
+
+add-t23 : tie.Need-add-t23
+add-t23 c = search needs
+
+same-length : tie.Need-same-length
+same-length c = search needs
+
+same-length-2 : tie.Need-same-length-2
+same-length-2 c = search needs
+
+same-length-3 : tie.Need-same-length-3
+same-length-3 c = search needs
+
+same-length-4 : tie.Need-same-length-4
+same-length-4 c = search needs
+
+returns : tie.Need-returns
+returns c = 
+    let a = c .before .before .before .before .before .before .before .before .before .before .before .before .before .before .before .before .before .args in
+    let p = c .before .before .before .before .before .before .before .before .before .before .before .before .before .before .before .before .before .pre in
+    added-quick (a .roster .now) (a .triples .now) (a .summary .now) (a .map .now) (a .work .now) (a .held) (a .summarised) (a .t) (a .i) (p .0) (p .1) (p .2) _ (c .before .before .before .before .before .before .insert-at .ensures) (c .before .before .before .before .before .before .before .before .before .image-known .ensures (c .before .before .before .before .before .before .before .before .if1 .taken)) _ (c .before .before .clear .ensures)
+
+held-wrong-requires : tie.Need-held-wrong-requires
+held-wrong-requires c κs = search needs
+
+same-length-5 : tie.Need-same-length-5
+same-length-5 c = search needs
+
+same-length-6 : tie.Need-same-length-6
+same-length-6 c = search needs
+
+same-length-7 : tie.Need-same-length-7
+same-length-7 c = search needs
+
+returns-2 : tie.Need-returns-2
+returns-2 c = 
+    let a = c .before .before .before .before .before .before .before .before .before .before .before .before .args in
+    let p = c .before .before .before .before .before .before .before .before .before .before .before .before .pre in
+    added-wrong (a .roster .now) (a .triples .now) (a .summary .now) (a .map .now) (a .work .now) (a .held) (a .summarised) (a .t) (a .i) (p .0) (p .1) (p .2) (sym (c .before .held-wrong .ensures) ∙ c .if2 .taken)
+
+insert-at-requires-2 : tie.Need-insert-at-requires-2
+insert-at-requires-2 c κs = search needs
+
+add-count : tie.Need-add-count
+add-count c = search needs
+
+condense-requires : tie.Need-condense-requires
+condense-requires c κs = 
+    let a = c .before .before .before .before .before .before .before .before .before .before .before .before .before .before .before .before .before .before .before .before .args in
+    let p = c .before .before .before .before .before .before .before .before .before .before .before .before .before .before .before .before .before .before .before .before .pre in
+    let q = c .before .before .before .before .before .before .insert-at2 .ensures in (
+      omega (arith, q .size, p .2),
+      right-after (a .roster .now) (a .triples .now) (a .summary .now) (a .map .now) (a .work .now) (a .held) (a .summarised) (a .t) (a .i) (p .0) (p .1) (p .2) _ q (sym (c .before .before .before .before .before .before .before .before .before .held-wrong .ensures) ∙ c .before .before .before .before .before .before .before .before .if2 .left),
+      p .0 .map-size,
+      p .0 .work-size,
+    )
+
+enum-known-r : tie.Need-enum-known-r
+enum-known-r c = search needs
+
+enum-known-k : tie.Need-enum-known-k
+enum-known-k c = search needs
+
+same-length-8 : tie.Need-same-length-8
+same-length-8 c = search needs
+
+same-length-9 : tie.Need-same-length-9
+same-length-9 c = search needs
+
+same-length-10 : tie.Need-same-length-10
+same-length-10 c = search needs
+
+same-length-11 : tie.Need-same-length-11
+same-length-11 c = search needs
+
+returns-3 : tie.Need-returns-3
+returns-3 c = 
+    let a = c .before .before .before .before .before .before .before .before .before .before .before .before .before .before .before .before .before .before .before .before .before .before .before .before .before .before .before .before .before .before .args in
+    let p = c .before .before .before .before .before .before .before .before .before .before .before .before .before .before .before .before .before .before .before .before .before .before .before .before .before .before .before .before .before .before .pre in
+    added-never (a .roster .now) (a .triples .now) (a .summary .now) (a .map .now) (a .work .now) (a .held) (a .summarised) (a .t) (a .i) (p .0) (p .1) (p .2) _ (c .before .before .before .before .before .before .before .before .before .before .before .before .before .before .before .before .insert-at2 .ensures) _ _ _ _ (c .before .before .before .before .before .before .before .before .before .condense .ensures) _ (c .before .r .given .1)
+
+same-length-12 : tie.Need-same-length-12
+same-length-12 c = search needs
+
+same-length-13 : tie.Need-same-length-13
+same-length-13 c = search needs
+
+same-length-14 : tie.Need-same-length-14
+same-length-14 c = search needs
+
+same-length-15 : tie.Need-same-length-15
+same-length-15 c = search needs
+
+returns-4 : tie.Need-returns-4
+returns-4 c = 
+    let a = c .before .before .before .before .before .before .before .before .before .before .before .before .before .before .before .before .before .before .before .before .before .before .before .before .before .before .before .before .before .before .args in
+    let p = c .before .before .before .before .before .before .before .before .before .before .before .before .before .before .before .before .before .before .before .before .before .before .before .before .before .before .before .before .before .before .pre in
+    added-slow (a .roster .now) (a .triples .now) (a .summary .now) (a .map .now) (a .work .now) (a .held) (a .summarised) (a .t) (a .i) (p .0) (p .1) (p .2) _ (c .before .before .before .before .before .before .before .before .before .before .before .before .before .before .before .before .insert-at2 .ensures) _ _ _ _ (c .before .before .before .before .before .before .before .before .before .condense .ensures) _ (c .before .k .given .1)
+
+pub add-spec : {M : Type 1} → statement M
+add-spec =
+    tie.close
+    (tie.spec
+    image-known-requires
+    insert-at-requires
+    clear-requires
+    add-t23
+    same-length
+    same-length-2
+    same-length-3
+    same-length-4
+    returns
+    held-wrong-requires
+    same-length-5
+    same-length-6
+    same-length-7
+    returns-2
+    insert-at-requires-2
+    add-count
+    condense-requires
+    enum-known-r
+    enum-known-k
+    same-length-8
+    same-length-9
+    same-length-10
+    same-length-11
+    returns-3
+    same-length-12
+    same-length-13
+    same-length-14
+    same-length-15
+    returns-4)

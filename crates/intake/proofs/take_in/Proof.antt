@@ -1,0 +1,79 @@
+-- `intake::take_in` meets its contract.
+-- Assumes nothing.
+use Rattle.intake.proofs.Taking.{taken-over, taken-same, taken-full, taken-new}
+use borrow.Author.Needs.{needs}
+use Rattle.intake.proofs.take_in.Statement.{statement}
+use Rattle.intake.proofs.take_in.Tie as tie
+
+returns : tie.Need-returns
+returns c = 
+    let a = c .before .before .before .before .before .before .args in
+    taken-over (a .roster .now) (a .triples .now) (a .summary .now) (a .map .now) (a .work .now) (a .held) (a .summarised) (a .t) (c .if1 .taken)
+
+find-place-requires : tie.Need-find-place-requires
+find-place-requires c κs = search needs
+
+stands-at-requires : tie.Need-stands-at-requires
+stands-at-requires c κs = search needs
+
+clear-requires : tie.Need-clear-requires
+clear-requires c κs = search needs
+
+same-length : tie.Need-same-length
+same-length c = search needs
+
+same-length-2 : tie.Need-same-length-2
+same-length-2 c = search needs
+
+returns-2 : tie.Need-returns-2
+returns-2 c = 
+    let a = c .before .before .before .before .before .before .before .before .before .before .before .before .before .before .before .args in
+    taken-same (a .roster .now) (a .triples .now) (a .summary .now) (a .map .now) (a .work .now) (a .held) (a .summarised) (a .t) _ (c .before .before .before .before .before .before .before .find-place .ensures) _ (c .before .before .before .before .before .stands-at .ensures) (c .before .before .before .before .if2 .taken) _ (c .before .before .clear .ensures)
+
+add-requires : tie.Need-add-requires
+add-requires c κs = search needs
+
+same-length-3 : tie.Need-same-length-3
+same-length-3 c = search needs
+
+same-length-4 : tie.Need-same-length-4
+same-length-4 c = search needs
+
+same-length-5 : tie.Need-same-length-5
+same-length-5 c = search needs
+
+same-length-6 : tie.Need-same-length-6
+same-length-6 c = search needs
+
+returns-3 : tie.Need-returns-3
+returns-3 c = 
+    let a = c .before .before .before .before .before .before .before .before .before .before .before .before .before .before .before .before .before .before .before .before .before .before .before .before .before .args in
+    taken-new (a .roster .now) (a .triples .now) (a .summary .now) (a .map .now) (a .work .now) (a .held) (a .summarised) (a .t) _ (c .before .before .before .before .before .before .before .before .before .before .before .before .before .before .before .before .before .find-place .ensures) _ (c .before .before .before .before .before .before .before .before .before .before .before .before .before .before .before .stands-at .ensures) (c .before .before .before .before .before .before .before .before .before .before .before .before .before .before .if2 .left) (c .before .before .before .before .before .before .before .before .before .before .before .before .before .if3 .taken) _ _ _ (c .before .before .before .before .before .before .before .before .add .ensures)
+
+same-length-7 : tie.Need-same-length-7
+same-length-7 c = search needs
+
+returns-4 : tie.Need-returns-4
+returns-4 c = 
+    let a = c .before .before .before .before .before .before .before .before .before .before .before .before .args in
+    taken-full (a .roster .now) (a .triples .now) (a .summary .now) (a .map .now) (a .work .now) (a .held) (a .summarised) (a .t) _ (c .before .before .before .before .find-place .ensures) _ (c .before .before .stands-at .ensures) (c .before .if2 .left) (c .if3 .left)
+
+pub take-in-spec : {M : Type 1} → statement M
+take-in-spec =
+    tie.close
+    (tie.spec
+    returns
+    find-place-requires
+    stands-at-requires
+    clear-requires
+    same-length
+    same-length-2
+    returns-2
+    add-requires
+    same-length-3
+    same-length-4
+    same-length-5
+    same-length-6
+    returns-3
+    same-length-7
+    returns-4)

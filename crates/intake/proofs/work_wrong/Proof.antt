@@ -1,0 +1,15 @@
+-- `intake::work_wrong` meets its contract.
+-- Assumes nothing.
+use mathlib.Core.Path.{refl}
+use Rattle.intake.proofs.Places.{work-odd, work-half}
+use Rattle.intake.proofs.work_wrong.Statement.{statement}
+use Rattle.intake.proofs.work_wrong.Tie as tie
+
+returns : tie.Need-returns
+returns c = work-odd _ _ (c .if1 .taken)
+
+returns-2 : tie.Need-returns-2
+returns-2 c = work-half _ _ (c .if1 .left) _ refl
+
+pub work-wrong-spec : {M : Type 1} → statement M
+work-wrong-spec = tie.close (tie.spec returns returns-2)

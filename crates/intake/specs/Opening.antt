@@ -1,0 +1,27 @@
+-- What opening returns and leaves in the lent lists.
+-- Assumes nothing.
+use Prim.Native.Nat.{ℕ, _/_}
+use mathlib.Core.Path.{_≡_}
+use mathlib.Core.Bool.{Bool, not, _||_}
+use mathlib.Core.List.{List}
+use lib.Dec.{eqb, ltb}
+use Rattle.model.specs.declared.Done.{Done}
+use Rattle.model.specs.Codes.{rdfs, mostTriples}
+use Rattle.model.specs.Outcomes.{done, wrongSize}
+use Rattle.model.specs.Intake.{State, openOutcome, openLeaves}
+
+-- the model's `wrongLists`, by the lengths
+unfoldable pub wrongLengths : ℕ → ℕ → ℕ → ℕ → Bool
+wrongLengths n triples summary map =
+    wrongSize n || (not (eqb map n) || (not (eqb (triples / 3) (summary / 3)) || ltb mostTriples (triples / 3)))
+
+-- an intake's lists with two counts
+abbrev pub stateWith : List ℕ → List ℕ → List ℕ → ℕ → ℕ → State
+stateWith triples summary map held summarised = record { triples = triples; summary = summary; map = map; held = held; summarised = summarised }
+
+-- the answer, and the three lists after the call, whatever the counts are
+pub record OpenCall (roster triples summary map : List ℕ) (r : Done) (triples′ summary′ map′ : List ℕ) : Type 0 where
+  pub answer : (held summarised : ℕ) → done r ≡ openOutcome rdfs roster (stateWith triples summary map held summarised)
+  pub in-triples : (held summarised : ℕ) → triples′ ≡ openLeaves rdfs roster (done r) (stateWith triples summary map held summarised) .triples
+  pub in-summary : (held summarised : ℕ) → summary′ ≡ openLeaves rdfs roster (done r) (stateWith triples summary map held summarised) .summary
+  pub in-map : (held summarised : ℕ) → map′ ≡ openLeaves rdfs roster (done r) (stateWith triples summary map held summarised) .map

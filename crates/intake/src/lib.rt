@@ -1,0 +1,299 @@
+// The intake: opening, and taking in one triple after the other.
+
+ghost use mathlib.Core.Bool.{true, false};
+ghost use mathlib.Core.Path.{_≡_};
+ghost use mathlib.Core.List.{List·Memᴰ as Mem};
+ghost use Prim.Native.Nat.{_+_, _*_, _/_, _<_, _≤_};
+ghost use lib.ListN.{length};
+ghost use Rattle.model.specs.Codes.{rdfs};
+ghost use Rattle.model.specs.Lists.{any};
+ghost use Rattle.model.specs.Triples.{triple};
+ghost use Rattle.model.specs.Outcomes.{found, wrongWork};
+ghost use Rattle.model.specs.Intake.{Fed};
+ghost use Rattle.theory.proofs.Covered.{Below};
+ghost use Rattle.builder.specs.Builder.{first};
+ghost use Rattle.intake.specs.Insertion.{Inserted};
+ghost use Rattle.intake.specs.Opening.{wrongLengths, stateWith, OpenCall};
+ghost use Rattle.intake.specs.Feeding.{Place, StandsAt, Known, bad, Ready, AddCall, Taken, refusal};
+use checks::size_wrong;
+use checks::triple_wrong;
+use cliques::empty;
+use lists::Code;
+use lists::before_at;
+use lists::clear;
+use lists::put;
+use lists::same;
+use lists::triple_at;
+use model::Counted;
+use model::Done;
+use model::Found;
+use model::Refusal;
+use model::Triple;
+use roster::covers_triple;
+use roster::roster_wrong;
+use summarise::condense;
+use union_find::wide;
+
+// The most slots of an intake's lists.
+pub const MOST_SLOTS: usize = 1048576;
+
+// Puts t at place i of the first `count` triples; those from there on move up by one.
+pub fn insert_at(list: &mut [u32], count: usize, i: usize, t: Triple)
+    requires { ⌜ (i ≤ count) × (3 * count + 2 < length (now list)) ⌝ }
+    ensures { λ r. ⌜ Inserted (now (list .entry)) (now (list .exit)) count i t ⌝ }
+{
+    let mut j = count;
+    while i < j {
+        let u = triple_at(list, j - 1);
+        put(list, j, u);
+        j -= 1;
+    }
+    put(list, i, t);
+}
+
+// Whether the lengths of an intake's lists are wrong with n codes.
+fn lengths_wrong(n: usize, triples: usize, summary: usize, map: usize) -> bool
+    ensures { λ r. ⌜ r ≡ wrongLengths n triples summary map ⌝ }
+{
+    if size_wrong(n) {
+        return true;
+    }
+    if map != n {
+        return true;
+    }
+    if triples / 3 != summary / 3 {
+        return true;
+    }
+    MOST_SLOTS < triples / 3
+}
+
+// Opens an intake: both lists zero, the map absent.
+pub fn open_lists(roster: &[u8], triples: &mut [u32], summary: &mut [u32], map: &mut [u32]) -> Done
+    ensures { λ r. ⌜ OpenCall (now (roster .entry)) (now (triples .entry)) (now (summary .entry)) (now (map .entry)) r (now (triples .exit)) (now (summary .exit)) (now (map .exit)) ⌝ }
+{
+    if lengths_wrong(roster.len(), triples.len(), summary.len(), map.len()) {
+        return Done::Refused(Refusal::Length);
+    }
+    if roster_wrong(roster) {
+        return Done::Refused(Refusal::Roster);
+    }
+    clear(triples, 0, triples.len());
+    clear(summary, 0, summary.len());
+    empty(map);
+    Done::Accepted
+}
+
+// What an intake's record holds: how many triples are held, and how many their summary has.
+pub struct Counts {
+    pub held: usize,
+    pub summarised: usize,
+}
+
+// What a feed leaves: the answer and the two counts.
+pub struct FedCounts {
+    pub answer: Found,
+    pub held: usize,
+    pub summarised: usize,
+}
+
+// Of the first `count` places, the first whose triple does not come before t, where they are in rising order.
+fn find_place(list: &[u32], count: usize, t: Triple) -> usize
+    requires { ⌜ 3 * count ≤ length (now list) ⌝ }
+    ensures { λ r. ⌜ Place (now (list .entry)) count t r ⌝ }
+{
+    let mut low = 0;
+    let mut high = count;
+    while low < high {
+        let middle = low + (high - low) / 2;
+        if before_at(list, middle, t) {
+            low = middle + 1;
+        } else {
+            high = middle;
+        }
+    }
+    low
+}
+
+// Whether t stands at place i, below `count`.
+fn stands_at(list: &[u32], count: usize, i: usize, t: Triple) -> bool
+    requires { ⌜ 3 * count ≤ length (now list) ⌝ }
+    ensures { λ r. ⌜ StandsAt (now (list .entry)) count i t r ⌝ }
+{
+    if i < count {
+        return same(t, triple_at(list, i));
+    }
+    false
+}
+
+// Whether the ends of t are nodes and its image stands in the summary: then neither the map nor the summary changes with t.
+fn image_known(summary: &[u32], summarised: usize, map: &[u32], t: Triple) -> bool
+    requires { ⌜ Below (length (now map)) t ⌝ }
+    ensures { λ r. ⌜ (r ≡ true → Known (now (summary .entry)) summarised (now (map .entry)) t) ⌝ }
+{
+    if summary.len() / 3 < summarised {
+        return false;
+    }
+    let subject = map[wide(t.subject)];
+    if Code(subject).is_absent() {
+        return false;
+    }
+    let object = map[wide(t.object)];
+    if Code(object).is_absent() {
+        return false;
+    }
+    let image = Triple {
+        subject: subject,
+        property: t.property,
+        object: object,
+    };
+    let i = find_place(summary, summarised, image);
+    stands_at(summary, summarised, i, image)
+}
+
+// Whether one of the first `count` triples has a wrong code or is not covered.
+fn held_wrong(list: &[u32], count: usize, roster: &[u8]) -> bool
+    requires { ⌜ 3 * count ≤ length (now list) ⌝ }
+    ensures { λ r. ⌜ r ≡ any (bad (now (roster .entry))) (first (now (list .entry)) count) ⌝ }
+{
+    let n = roster.len();
+    let mut i = 0;
+    while i < count {
+        let t = triple_at(list, i);
+        if triple_wrong(t, n) {
+            return true;
+        }
+        if !covers_triple(roster, t) {
+            return true;
+        }
+        i += 1;
+    }
+    false
+}
+
+// Takes in a triple that is not held, at its place i. Only an intake altered by hand holds wrong triples.
+fn add(held: usize, summarised: usize, roster: &[u8], triples: &mut [u32], summary: &mut [u32], map: &mut [u32], work: &mut [u32], t: Triple, i: usize) -> FedCounts
+    requires { ⌜ Ready (now roster) (now triples) (now summary) (now map) (now work) t × (i ≤ held) × (held < length (now triples) / 3) ⌝ }
+    ensures { λ r. ⌜ AddCall (now (roster .entry)) (stateWith (now (triples .entry)) (now (summary .entry)) (now (map .entry)) held summarised) (now (work .entry)) t i (found (r .answer)) (stateWith (now (triples .exit)) (now (summary .exit)) (now (map .exit)) (r .held) (r .summarised)) (now (work .exit)) ⌝ }
+{
+    if image_known(summary, summarised, map, t) {
+        insert_at(triples, held, i, t);
+        clear(work, 0, work.len());
+        return FedCounts {
+            answer: Found::Yes,
+            held: held + 1,
+            summarised: summarised,
+        };
+    }
+    if held_wrong(triples, held, roster) {
+        return FedCounts {
+            answer: Found::Refused(Refusal::Full),
+            held: held,
+            summarised: summarised,
+        };
+    }
+    insert_at(triples, held, i, t);
+    let count = held + 1;
+    match condense(triples, count, roster, summary, map, work) {
+        Counted::Refused(r) => FedCounts {
+            answer: Found::Refused(r),
+            held: held,
+            summarised: summarised,
+        },
+        Counted::Count(k) => FedCounts {
+            answer: Found::Yes,
+            held: count,
+            summarised: k,
+        },
+    }
+}
+
+// A feed that no check refuses.
+fn take_in(held: usize, summarised: usize, roster: &[u8], triples: &mut [u32], summary: &mut [u32], map: &mut [u32], work: &mut [u32], t: Triple) -> FedCounts
+    requires { ⌜ Ready (now roster) (now triples) (now summary) (now map) (now work) t ⌝ }
+    ensures { λ r. ⌜ Taken (now (roster .entry)) (stateWith (now (triples .entry)) (now (summary .entry)) (now (map .entry)) held summarised) (now (work .entry)) t (found (r .answer)) (stateWith (now (triples .exit)) (now (summary .exit)) (now (map .exit)) (r .held) (r .summarised)) (now (work .exit)) ⌝ }
+{
+    let slots = triples.len() / 3;
+    if slots < held {
+        return FedCounts {
+            answer: Found::Refused(Refusal::Full),
+            held: held,
+            summarised: summarised,
+        };
+    }
+    let i = find_place(triples, held, t);
+    if stands_at(triples, held, i, t) {
+        clear(work, 0, work.len());
+        return FedCounts {
+            answer: Found::No,
+            held: held,
+            summarised: summarised,
+        };
+    }
+    if held < slots {
+        return add(held, summarised, roster, triples, summary, map, work, t, i);
+    }
+    FedCounts {
+        answer: Found::Refused(Refusal::Full),
+        held: held,
+        summarised: summarised,
+    }
+}
+
+// Whether the work list has not two numbers for each code.
+fn work_wrong(n: usize, work: usize) -> bool
+    ensures { λ r. ⌜ r ≡ wrongWork n work ⌝ }
+{
+    if work % 2 != 0 {
+        return true;
+    }
+    work / 2 != n
+}
+
+// The answer of a refusal, with the counts as they were.
+fn refuse(r: Refusal, held: usize, summarised: usize) -> FedCounts
+    ensures { λ x. ⌜ x ≡ refusal r held summarised ⌝ }
+{
+    FedCounts {
+        answer: Found::Refused(r),
+        held: held,
+        summarised: summarised,
+    }
+}
+
+// Feeds a triple to an intake with two counts, over plain lists.
+pub fn feed_lists(held: usize, summarised: usize, roster: &[u8], triples: &mut [u32], summary: &mut [u32], map: &mut [u32], work: &mut [u32], s: u32, p: u32, o: u32) -> FedCounts
+    ensures { λ r. ⌜ Fed rdfs (now (roster .entry)) (stateWith (now (triples .entry)) (now (summary .entry)) (now (map .entry)) held summarised) (now (work .entry)) (triple s p o) (found (r .answer)) (stateWith (now (triples .exit)) (now (summary .exit)) (now (map .exit)) (r .held) (r .summarised)) (now (work .exit)) ⌝ }
+{
+    let n = roster.len();
+    let t = Triple {
+        subject: s,
+        property: p,
+        object: o,
+    };
+    if lengths_wrong(n, triples.len(), summary.len(), map.len()) {
+        return refuse(Refusal::Length, held, summarised);
+    }
+    if work_wrong(n, work.len()) {
+        return refuse(Refusal::Length, held, summarised);
+    }
+    if roster_wrong(roster) {
+        return refuse(Refusal::Roster, held, summarised);
+    }
+    if triple_wrong(t, n) {
+        return refuse(Refusal::Code, held, summarised);
+    }
+    if !covers_triple(roster, t) {
+        return refuse(Refusal::Cover, held, summarised);
+    }
+    take_in(held, summarised, roster, triples, summary, map, work, t)
+}
+
+// Feeds a triple to an intake: `Found::Yes` for a new triple, `Found::No` for one that is held.
+pub fn feed(counts: &mut Counts, roster: &[u8], triples: &mut [u32], summary: &mut [u32], map: &mut [u32], work: &mut [u32], s: u32, p: u32, o: u32) -> Found
+    ensures { λ r. ⌜ Fed rdfs (now (roster .entry)) (stateWith (now (triples .entry)) (now (summary .entry)) (now (map .entry)) (now (counts .entry) .held) (now (counts .entry) .summarised)) (now (work .entry)) (triple s p o) (found r) (stateWith (now (triples .exit)) (now (summary .exit)) (now (map .exit)) (now (counts .exit) .held) (now (counts .exit) .summarised)) (now (work .exit)) ⌝ }
+{
+    let f = feed_lists(counts.held, counts.summarised, roster, triples, summary, map, work, s, p, o);
+    counts.held = f.held;
+    counts.summarised = f.summarised;
+    f.answer
+}
