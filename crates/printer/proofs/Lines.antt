@@ -84,11 +84,11 @@ module _ (l : List ℕ) (from c rep : ℕ) (h : Room from (pairLine c rep)) wher
           put-then-two l from (bytes "(rep ") _ a i _ out r p
           (put-then-two a i (bytes " ") _ b j _ out r q u)
 
-node-absent : (m : List ℕ) (c : ℕ) → eqb (label m c) absent ≡ true → nodeLine m c ≡ []
+pub node-absent : (m : List ℕ) (c : ℕ) → eqb (label m c) absent ≡ true → nodeLine m c ≡ []
 unfolding nodeLine
 node-absent m c e = ap (λ (b : Bool). cond b [] (bytes "(rep " ++ (numeral c ++ (bytes " " ++ (numeral (label m c) ++ bytes ")\n"))))) e
 
-node-pair : (m : List ℕ) (c : ℕ) → eqb (label m c) absent ≡ false → nodeLine m c ≡ pairLine c (label m c)
+pub node-pair : (m : List ℕ) (c : ℕ) → eqb (label m c) absent ≡ false → nodeLine m c ≡ pairLine c (label m c)
 unfolding nodeLine pairLine
 node-pair m c e = ap (λ (b : Bool). cond b [] (bytes "(rep " ++ (numeral c ++ (bytes " " ++ (numeral (label m c) ++ bytes ")\n"))))) e
 

@@ -1,21 +1,32 @@
 // The site printer: lines of a report, and what is printed of a text.
 
 ghost use mathlib.Core.Path.{_≡_};
-ghost use Prim.Native.Nat.{_<_, _≤_};
+ghost use Prim.Native.Nat.{_%_, _*_, _<_, _≤_};
 ghost use lib.ListN.{length};
-ghost use Rattle.model.specs.Codes.{absent};
-ghost use Rattle.model.specs.Lists.{collect};
+ghost use Rattle.model.specs.Lists.{any, collect};
 ghost use Rattle.model.specs.Outcomes.{refused, number};
+ghost use Rattle.model.specs.Triples.{triples};
 ghost use Rattle.query.specs.Ask.{asked};
-ghost use Rattle.site_form.specs.Printing.{summaryLine, nodeLine, nodeLines, answerLine, shown};
+ghost use Rattle.site_form.specs.Printing.{summaryLine, nodeLine, nodeLines, answerLine, shown, isRefused, report, printed};
 ghost use Rattle.site_writer.specs.Calls.{Room, Put};
 ghost use Rattle.printer.specs.Lines.{refusedLine, pairLine, answersIn};
+ghost use Rattle.printer.specs.Outcomes.{askedOf, asksOutcome, summaryOutcome, saturationOutcome, siteOutcome, Whole, Valid};
 use lists::Code;
+use model::Counted;
 use model::Refusal;
 use query::Asked;
+use query::Query;
+use query::ask;
+use roster::own_roster;
+use saturate::saturate;
+use site_form::Form;
+use site_reader::read;
 use site_writer::put_after;
 use site_writer::put_bytes;
+use site_writer::put_triples;
+use summarise::summarise;
 use union_find::narrow;
+use union_find::wide;
 
 // A refusal's number.
 fn refusal_number(refusal: Refusal) -> u32
@@ -112,4 +123,171 @@ fn put_answers(out: &mut [u8], at: usize, answers: [Asked; 16], count: usize) ->
         i += 1;
     }
     next
+}
+
+// Stores the line of a refusal as all that is printed.
+fn refuse(out: &mut [u8], refusal: Refusal) -> usize
+    ensures { λ r. ⌜ Put (now (out .entry)) 0 (shown (refused (number refusal))) (now (out .exit)) r ⌝ }
+{
+    put_number(out, 0, refusal_number(refusal))
+}
+
+fn is_refused(answer: Asked) -> bool
+    ensures { λ r. ⌜ r ≡ isRefused (asked answer) ⌝ }
+{
+    match answer {
+        Asked::Maybe => false,
+        Asked::None => false,
+        Asked::Refused(r) => true,
+    }
+}
+
+// Whether one of the first `count` answers is a refusal.
+fn any_refused(answers: [Asked; 16], count: usize) -> bool
+    requires { ⌜ count ≤ 16 ⌝ }
+    ensures { λ r. ⌜ r ≡ any isRefused (answersIn answers count) ⌝ }
+{
+    let mut i = 0;
+    while i < count {
+        if is_refused(answers[i]) {
+            return true;
+        }
+        i += 1;
+    }
+    false
+}
+
+// The answers to the first `count` queries.
+fn ask_all(table: &[u32], map: &[u32], queries: [Query; 16], count: usize) -> [Asked; 16]
+    requires { ⌜ count ≤ 16 ⌝ }
+    ensures { λ r. ⌜ answersIn r count ≡ askedOf (now (table .entry)) (now (map .entry)) queries count ⌝ }
+{
+    let mut answers = [Asked::Maybe; 16];
+    let mut i = 0;
+    while i < count {
+        answers[i] = ask(table, map, queries[i]);
+        i += 1;
+    }
+    answers
+}
+
+// Stores the report of a summary, its map and the answers.
+fn put_report(out: &mut [u8], table: &[u32], map: &[u32], answers: [Asked; 16], count: usize) -> usize
+    requires { ⌜ (count ≤ 16) × (length (now table) ≤ 6144) × (length (now map) ≤ 512) × Room 0 (report (triples (now table)) (now map) (answersIn answers count)) ⌝ }
+    ensures { λ r. ⌜ Put (now (out .entry)) 0 (report (triples (now (table .entry))) (now (map .entry)) (answersIn answers count)) (now (out .exit)) r ⌝ }
+{
+    let i = put_summary(out, 0, narrow(table.len() / 3));
+    let j = put_triples(out, i, table);
+    let k = put_nodes(out, j, map);
+    put_answers(out, k, answers, count)
+}
+
+// Asks the queries of a summary and its map: 6 where one is refused, else the report.
+fn print_answers(out: &mut [u8], table: &[u32], map: &[u32], queries: [Query; 16], count: usize) -> usize
+    requires { ⌜ (count ≤ 16) × (length (now table) ≤ 6144) × (length (now map) ≤ 512) × Room 0 (report (triples (now table)) (now map) (askedOf (now table) (now map) queries count)) ⌝ }
+    ensures { λ r. ⌜ Put (now (out .entry)) 0 (shown (asksOutcome (triples (now (table .entry))) (now (map .entry)) (askedOf (now (table .entry)) (now (map .entry)) queries count))) (now (out .exit)) r ⌝ }
+{
+    let answers = ask_all(table, map, queries, count);
+    if any_refused(answers, count) {
+        return refuse(out, Refusal::Query);
+    }
+    put_report(out, table, map, answers, count)
+}
+
+// Summarises a saturated table into lent lists, then prints.
+fn print_summary(
+    out: &mut [u8],
+    table: &[u32],
+    roster: &[u8],
+    result: &mut [u32],
+    map: &mut [u32],
+    work: &mut [u32],
+    queries: [Query; 16],
+    count: usize,
+) -> usize
+    requires { ⌜ (count ≤ 16) × Whole (now table) (now roster) × (length (now result) ≡ 6144) × (length (now map) ≡ length (now roster)) × (length (now work) ≡ 2 * length (now roster)) ⌝ }
+    ensures { λ r. ⌜ Put (now (out .entry)) 0 (shown (summaryOutcome (now (roster .entry)) (triples (now (table .entry))) queries count)) (now (out .exit)) r ⌝ }
+{
+    let Counted::Count(k) = summarise(table, roster, result, map, work) else {
+        return refuse(out, Refusal::Slots); // cannot be: the summary has no more triples than the table
+    };
+    print_answers(out, &result[0..3 * k], map, queries, count)
+}
+
+// Prints the summary of a saturated table.
+fn print_saturated(out: &mut [u8], table: &[u32], roster: &[u8], queries: [Query; 16], count: usize) -> usize
+    requires { ⌜ (count ≤ 16) × Whole (now table) (now roster) ⌝ }
+    ensures { λ r. ⌜ Put (now (out .entry)) 0 (shown (summaryOutcome (now (roster .entry)) (triples (now (table .entry))) queries count)) (now (out .exit)) r ⌝ }
+{
+    let n = roster.len();
+    let mut result: [u32; 6144] = [0; 6144];
+    let mut map: [u32; 512] = [0; 512];
+    let mut work: [u32; 1024] = [0; 1024];
+    print_summary(out, table, roster, &mut result, &mut map[0..n], &mut work[0..2 * n], queries, count)
+}
+
+// Saturates a table with its own roster in lent lists, then prints.
+fn print_saturation(
+    out: &mut [u8],
+    table: &[u32],
+    roster: &mut [u8],
+    list: &mut [u32],
+    queries: [Query; 16],
+    count: usize,
+) -> usize
+    requires { ⌜ (count ≤ 16) × Valid (now table) (length (now roster)) × (length (now list) ≡ 6144) ⌝ }
+    ensures { λ r. ⌜ Put (now (out .entry)) 0 (shown (saturationOutcome (length (now (roster .entry))) (triples (now (table .entry))) queries count)) (now (out .exit)) r ⌝ }
+{
+    own_roster(table, roster);
+    let Counted::Count(k) = saturate(table, roster, list) else {
+        return refuse(out, Refusal::Slots);
+    };
+    print_saturated(out, &list[0..3 * k], roster, queries, count)
+}
+
+// Prints a table that the checks 1 and 3 pass.
+fn print_valid(out: &mut [u8], table: &[u32], n: usize, queries: [Query; 16], count: usize) -> usize
+    requires { ⌜ (count ≤ 16) × Valid (now table) n ⌝ }
+    ensures { λ r. ⌜ Put (now (out .entry)) 0 (shown (saturationOutcome n (triples (now (table .entry))) queries count)) (now (out .exit)) r ⌝ }
+{
+    let mut roster: [u8; 512] = [0; 512];
+    let mut list: [u32; 6144] = [0; 6144];
+    print_saturation(out, table, &mut roster[0..n], &mut list, queries, count)
+}
+
+// Prints a table as it was read.
+fn print_table(out: &mut [u8], table: &[u32], size: u32, queries: [Query; 16], count: usize) -> usize
+    requires { ⌜ (count ≤ 16) × (length (now table) % 3 ≡ 0) × (length (now table) ≤ 3000) ⌝ }
+    ensures { λ r. ⌜ Put (now (out .entry)) 0 (shown (siteOutcome size (triples (now (table .entry))) queries count)) (now (out .exit)) r ⌝ }
+{
+    let n = wide(size);
+    if checks::size_wrong(n) {
+        return refuse(out, Refusal::Length);
+    }
+    if 512 < n {
+        return refuse(out, Refusal::Length);
+    }
+    if checks::codes_wrong(table, n) {
+        return refuse(out, Refusal::Code);
+    }
+    print_valid(out, table, n, queries, count)
+}
+
+// Stores what the site printer prints of a text; the number of bytes.
+// A list of 49,152 bytes is long enough for every text. A byte past the list's end is counted and not stored.
+pub fn print_site(text: &[u8], out: &mut [u8]) -> usize
+    ensures { λ r. ⌜ Put (now (out .entry)) 0 (printed (now (text .entry))) (now (out .exit)) r ⌝ }
+{
+    if 32768 < text.len() {
+        return refuse(out, Refusal::Form);
+    }
+    let mut list: [u32; 3000] = [0; 3000];
+    let answer = read(text, &mut list);
+    let site = answer.site;
+    let form = answer.form;
+    let Form::Read = form else {
+        return refuse(out, Refusal::Form);
+    };
+    let queries = site.queries;
+    print_table(out, &list[0..3 * site.count], site.size, queries, site.asks)
 }

@@ -56,6 +56,10 @@ short (suc k) n h = go (cmp n 10) (short k (n / 10))
     go (eq x) ih = omega (arith, one-longer n (omega arith), ih (omega arith))
     go (gt x) ih = omega (arith, one-longer n (omega arith), ih (omega arith))
 
+pub three-digits : (n : ℕ) → n < 1000 → length (numeral n) ≤ 3
+unfolding power
+three-digits n h = short 2 n h
+
 pub five-digits : (n : ℕ) → n < 100000 → length (numeral n) ≤ 5
 unfolding power
 five-digits n h = short 4 n h

@@ -1,0 +1,198 @@
+-- What is printed of any text fits into 49,152 bytes.
+-- Assumes nothing.
+use Prim.Native.Nat.{ℕ, zero, suc, _+_, _*_, _<_, _≤_}
+use mathlib.Core.Path.{_≡_, refl, sym, _∙_, ap, subst}
+use mathlib.Core.Logic.{_⊎_, inl, inr, ⊎-elim}
+use mathlib.Core.Bool.{Bool, true, false, cond, _||_}
+use mathlib.Core.List.{List, [], _∷_, _++_, List·Memᴰ·head as here, List·Memᴰ·tail as there}
+use mathlib.Core.Option.{Option, none, some}
+use native.Mathlib.Omega.{arith}
+use lib.Dec.{eqb, ltb}
+use lib.ListN.{length, getD, length-append}
+use borrow.Author.Tests.{eq-eqb, ne-eqb, ltb-false}
+use Rattle.model.specs.declared.Triple.{Triple}
+use Rattle.model.specs.Codes.{rdfs, absent}
+use Rattle.model.specs.Lists.{any, collect, tabulate}
+use Rattle.model.specs.Triples.{flat}
+use Rattle.model.specs.Roster.{ownRoster, wrongCodes}
+use Rattle.model.specs.Saturation.{saturation}
+use Rattle.model.specs.Partition.{label}
+use Rattle.model.specs.Classes.{mapOf}
+use Rattle.model.specs.Summary.{summary}
+use Rattle.model.specs.Outcomes.{Outcome, refused, accepted, decided, wrongSize}
+use Rattle.theory.proofs.Tests.{cond-cases, or-false}
+use Rattle.theory.proofs.Lists.{length-tabulate}
+use Rattle.theory.proofs.Covered.{AllBelow}
+use Rattle.theory.proofs.Accepted.{Right, room, below, size-bounds, saturation-right, summary-right}
+use Rattle.theory.proofs.Feeding.{summary-length}
+use Rattle.theory.proofs.Mapped.{node-or, node-below, map-absent, map-node, length-map-of}
+use Rattle.theory.proofs.Theorems.{own-roster-least}
+use Rattle.query.specs.declared.Query.{Query}
+use Rattle.query.specs.Ask.{askOutcome}
+use Rattle.site_form.specs.Text.{bytes, numeral, tripleLine}
+use Rattle.site_form.specs.Reading.{Forms, readForms, queriesOf}
+use Rattle.site_form.specs.Printing.{mostBytes, largestPrinted, printerSlots, isRefused, summaryLine, nodeLine, nodeLines, answerLine, report, shown, printChecked, printForms, printRead, printOutcome, printed, asked}
+use Rattle.site_form.proofs.Whole.{read-says}
+use Rattle.site_writer.proofs.Numerals.{three-digits, five-digits}
+use Rattle.printer.specs.Lines.{refusedLine, pairLine}
+use Rattle.printer.specs.Outcomes.{noQuery, askedOf, asksOutcome, summaryOutcome, saturationOutcome, siteOutcome}
+use Rattle.printer.proofs.Lines.{node-absent, node-pair}
+use Rattle.printer.proofs.Answers.{asked-are}
+use Rattle.printer.proofs.Reports.{refused-short, shown-refused}
+
+-- ── lines ──
+count-short : (n : ℕ) → n < 100000 → length (summaryLine n) ≤ 16
+unfolding summaryLine
+count-short n h = omega (arith, length-append (numeral n) (bytes ")\n"), five-digits n h)
+
+line-short : (t : Triple) → t .subject < 1000 → t .property < 1000 → t .object < 1000 → length (tripleLine t) ≤ 16
+unfolding tripleLine
+line-short t a b c =
+    let o = length-append (numeral (t .object)) (bytes ")\n") in
+    let p = length-append (numeral (t .property)) (bytes " " ++ (numeral (t .object) ++ bytes ")\n")) in
+    let s = length-append (numeral (t .subject)) (bytes " " ++ (numeral (t .property) ++ (bytes " " ++ (numeral (t .object) ++ bytes ")\n")))) in
+    omega (arith, three-digits _ a, three-digits _ b, three-digits _ c)
+
+lines-short : (n : ℕ) → n ≤ 1000 → (ts : List Triple) → AllBelow n ts → length (collect tripleLine ts) ≤ 16 * length ts
+unfolding collect
+lines-short n h [] b = omega arith
+lines-short n h (t ∷ ts) b =
+    let x = b t (here refl) in
+    let l = line-short t (omega (arith, x .subject)) (omega (arith, x .property)) (omega (arith, x .object)) in
+    omega (arith, length-append (tripleLine t) (collect tripleLine ts), lines-short n h ts (λ u m. b u (there m)))
+
+pair-short : (c r : ℕ) → c < 1000 → r < 1000 → length (pairLine c r) ≤ 14
+unfolding pairLine
+pair-short c r h k =
+    omega (arith, length-append (numeral r) (bytes ")\n"), length-append (numeral c) (bytes " " ++ (numeral r ++ bytes ")\n")), three-digits c h, three-digits r k)
+
+Entry : List ℕ → ℕ → Type 0
+Entry m c = (label m c ≡ absent) ⊎ (label m c < 1000)
+
+node-short : (m : List ℕ) (c : ℕ) → c < 1000 → Entry m c → length (nodeLine m c) ≤ 14
+unfolding Entry
+node-short m c h (inl e) = let z : length (nodeLine m c) ≡ 0 = ap length (node-absent m c (eq-eqb _ _ e)) in omega arith
+node-short m c h (inr k) =
+    let z : length (nodeLine m c) ≡ length (pairLine c (label m c)) = ap length (node-pair m c (ne-eqb (label m c) absent (λ (e : label m c ≡ absent). absurd (omega arith)))) in
+    omega (arith, pair-short c (label m c) h k)
+
+some-nodes : (m : List ℕ) (i n : ℕ) → ((c : ℕ) → c < i + n → length (nodeLine m c) ≤ 14) → length (collect (nodeLine m) (tabulate (λ c. c) i n)) ≤ 14 * n
+unfolding collect tabulate
+some-nodes m i zero h = omega arith
+some-nodes m i (suc n) h =
+    omega (arith, length-append (nodeLine m i) (collect (nodeLine m) (tabulate (λ c. c) (suc i) n)), h i (omega arith), some-nodes m (suc i) n (λ c k. h c (omega arith)))
+
+nodes-short : (m : List ℕ) → length m ≤ 512 → ((c : ℕ) → Entry m c) → length (nodeLines m) ≤ 14 * length m
+unfolding nodeLines
+nodes-short m k h = some-nodes m 0 (length m) (λ c l. node-short m c (omega arith) (h c))
+
+answer-short : (a : Outcome Bool) → length (answerLine a) ≤ 12
+unfolding answerLine
+answer-short (refused r) = omega arith
+answer-short (accepted true) = omega arith
+answer-short (accepted false) = omega arith
+
+answers-short : (answers : List (Outcome Bool)) → length (collect answerLine answers) ≤ 12 * length answers
+unfolding collect
+answers-short [] = omega arith
+answers-short (a ∷ answers) = omega (arith, length-append (answerLine a) (collect answerLine answers), answer-short a, answers-short answers)
+
+-- ── a report ──
+report-fits : (ts : List Triple) (m : List ℕ) (answers : List (Outcome Bool)) → length ts ≤ 2048 → AllBelow 512 ts → length m ≤ 512 → ((c : ℕ) → Entry m c) → length answers ≤ 16 → length (report ts m answers) ≤ 49152
+unfolding report
+report-fits ts m answers h b k e l =
+    omega (arith,
+    length-append (summaryLine (length ts)) (collect tripleLine ts ++ (nodeLines m ++ collect answerLine answers)),
+    length-append (collect tripleLine ts) (nodeLines m ++ collect answerLine answers),
+    length-append (nodeLines m) (collect answerLine answers),
+    count-short (length ts) (omega arith), lines-short 512 (omega arith) ts b, nodes-short m k e, answers-short answers)
+
+module _ (roster : List ℕ) (ts : List Triple) (r : Right rdfs roster ts) (size : length roster ≤ 512) where
+  entries : (c : ℕ) → Entry (mapOf rdfs roster ts) c
+  unfolding Entry
+  entries c =
+      ⊎-elim
+      (λ x. let z = node-below (length roster) ts (below rdfs roster ts r) _ (map-node rdfs roster ts (below rdfs roster ts r) (room rdfs roster ts r) c x) in inr (omega arith))
+      (λ f. inl (map-absent rdfs roster ts (below rdfs roster ts r) (room rdfs roster ts r) c f))
+      (node-or ts c)
+
+  -- the report of a summary with codes below 512
+  pub summary-fits : (answers : List (Outcome Bool)) → length ts ≤ 2048 → length answers ≤ 16 → length (report (summary rdfs roster ts) (mapOf rdfs roster ts) answers) ≤ 49152
+  summary-fits answers h l =
+      let s = summary-right rdfs roster ts r in
+      let b = below rdfs roster (summary rdfs roster ts) s in
+      report-fits (summary rdfs roster ts) (mapOf rdfs roster ts) answers (omega (arith, summary-length rdfs roster ts))
+      (λ t m. let x = b t m in record { subject = omega (arith, x .subject); property = omega (arith, x .property); object = omega (arith, x .object) })
+      (omega (arith, length-map-of rdfs roster ts)) entries l
+
+-- ── the outcomes ──
+abbrev Fits : Outcome (List ℕ) → Type 0
+Fits o = length (shown o) ≤ 49152
+
+refused-fits : (n : ℕ) → n < 100000 → Fits (refused n)
+refused-fits n h = let z : length (shown (refused n)) ≡ length (refusedLine n) = ap length (shown-refused n) in omega (arith, refused-short n h)
+
+-- the own roster passes, and so does the saturation with it
+pub own-right : (n : ℕ) (ts : List Triple) → wrongSize n ≡ false → wrongCodes rdfs n ts ≡ false → Right rdfs (ownRoster rdfs n ts) ts
+own-right n ts w h =
+    let O = own-roster-least n ts h in
+    record {
+      size = subst (λ (z : ℕ). wrongSize z ≡ false) (sym (O .size)) w;
+      marks = O .right;
+      codes = subst (λ (z : ℕ). wrongCodes rdfs z ts ≡ false) (sym (O .size)) h;
+      cover = O .covering;
+      type-below = omega (arith, O .size, size-bounds n w);
+    }
+
+pub own-size : (n : ℕ) (ts : List Triple) → wrongCodes rdfs n ts ≡ false → length (ownRoster rdfs n ts) ≡ n
+own-size n ts h = (own-roster-least n ts h) .size
+
+pub sat-right : (n : ℕ) (ts : List Triple) → wrongSize n ≡ false → wrongCodes rdfs n ts ≡ false → Right rdfs (ownRoster rdfs n ts) (saturation rdfs n ts)
+sat-right n ts w h =
+    let own = ownRoster rdfs n ts in
+    subst (λ (z : ℕ). Right rdfs own (saturation rdfs z ts)) (own-size n ts h) (saturation-right rdfs own ts (own-right n ts w h))
+
+module _ (queries : List Query) (k : ℕ) (few : k ≤ 16) where
+  pub asked-few : (table m : List ℕ) → length (askedOf table m queries k) ≤ 16
+  unfolding askedOf
+  asked-few table m = omega (arith, length-tabulate (λ i. askOutcome rdfs table m (getD queries i noQuery)) 0 k)
+
+  summary-outcome-fits : (roster : List ℕ) (ts : List Triple) → Right rdfs roster ts → length roster ≤ 512 → length ts ≤ 2048 → Fits (summaryOutcome roster ts queries k)
+  unfolding summaryOutcome asksOutcome decided shown
+  summary-outcome-fits roster ts r s h =
+      cond-cases Fits (any isRefused _) (λ e. refused-fits 6 (omega arith))
+      (λ e. summary-fits roster ts r s _ h (asked-few _ _))
+
+  site-fits : (n : ℕ) (ts : List Triple) → Fits (siteOutcome n ts queries k)
+  unfolding siteOutcome saturationOutcome decided
+  site-fits n ts =
+      cond-cases Fits (wrongSize n || ltb largestPrinted n) (λ e. refused-fits 1 (omega arith)) (λ e.
+      let w = or-false (wrongSize n) (ltb largestPrinted n) e in
+      cond-cases Fits (wrongCodes rdfs n ts) (λ f. refused-fits 3 (omega arith)) (λ f.
+      cond-cases Fits (ltb printerSlots (length (saturation rdfs n ts))) (λ g. refused-fits 5 (omega arith)) (λ g.
+      summary-outcome-fits (ownRoster rdfs n ts) (saturation rdfs n ts) (sat-right n ts (w .0) f)
+      (omega (arith, own-size n ts f, ltb-false largestPrinted n (w .1))) (ltb-false printerSlots (length (saturation rdfs n ts)) g))))
+
+-- what is printed of forms, with the queries answers they were read
+pub forms-are : (f : Forms) → printForms f ≡ siteOutcome (f .size) (f .triples) (queriesOf (f .asks)) (length (f .asks))
+unfolding printForms printChecked siteOutcome saturationOutcome summaryOutcome asksOutcome decided
+forms-are f =
+    let own = ownRoster rdfs (f .size) (f .triples) in
+    let sat = saturation rdfs (f .size) (f .triples) in
+    ap
+    (λ (answers : List (Outcome Bool)).
+    cond (wrongSize (f .size) || ltb largestPrinted (f .size)) (refused 1)
+    (cond (wrongCodes rdfs (f .size) (f .triples)) (refused 3)
+    (cond (ltb printerSlots (length sat)) (refused 5)
+    (cond (any isRefused answers) (refused 6) (accepted (report (summary rdfs own sat) (mapOf rdfs own sat) answers))))))
+    (asked-are (summary rdfs own sat) (mapOf rdfs own sat) (f .asks))
+
+read-fits : (text : List ℕ) (o : Option Forms) → readForms text ≡ o → Fits (printRead o)
+read-fits text none e = refused-fits 8 (omega arith)
+read-fits text (some f) e =
+    subst Fits (sym (forms-are f)) (site-fits (queriesOf (f .asks)) (length (f .asks)) ((read-says text f e) .few-asks) (f .size) (f .triples))
+
+-- its list is always long enough
+pub printed-fits : (text : List ℕ) → length (printed text) ≤ 49152
+unfolding printed printOutcome
+printed-fits text = cond-cases Fits (ltb mostBytes (length text)) (λ e. refused-fits 8 (omega arith)) (λ e. read-fits text (readForms text) refl)

@@ -1,0 +1,276 @@
+-- The calls within the printer, answer by answer.
+-- Assumes nothing.
+use Prim.Native.Nat.{ℕ, _+_, _-_, _*_, _/_, _%_, _<_, _≤_}
+use mathlib.Core.Path.{_≡_, refl, sym, _∙_, ap, subst}
+use mathlib.Core.Logic.{_⊎_, inl, inr, ⊎-elim}
+use mathlib.Core.Bool.{Bool, true, false, cond, not, _||_}
+use mathlib.Core.List.{List, [], _∷_, _++_}
+use mathlib.Core.Option.{Option, none, some}
+use native.Mathlib.Omega.{arith}
+use lib.Dec.{eqb, ltb}
+use lib.ListN.{length, take}
+use lib.Seq.{take-append-seam, length-take-le}
+use borrow.Author.Tests.{eq-eqb, lt-ltb, le-ltb, ltb-false, ltb-true}
+use Rattle.model.specs.declared.Refusal.{Refusal}
+use Rattle.model.specs.declared.Refusal.the-variants.{Length, Code, Slots, Form}
+use Rattle.model.specs.declared.Counted.{Counted}
+use Rattle.model.specs.declared.Counted.the-variants.{Count, Refused as counted-refused}
+use Rattle.model.specs.declared.Done.{Done}
+use Rattle.model.specs.declared.Triple.{Triple}
+use Rattle.model.specs.Codes.{rdfs, mostTriples}
+use Rattle.model.specs.Lists.{padded, zeros}
+use Rattle.model.specs.Triples.{triples, flat, slots, listed}
+use Rattle.model.specs.Roster.{ownRoster, wrongCodes}
+use Rattle.model.specs.Saturation.{saturation}
+use Rattle.model.specs.Classes.{mapOf}
+use Rattle.model.specs.Summary.{summary}
+use Rattle.model.specs.Outcomes.{Outcome, refused, accepted, number, counted, checked, check, decided, Passes, left, wrongSize, wrongLength, wrongWork}
+use Rattle.model.specs.Calls.{tableChecks, Accepted, Summarised, saturated, ownRosterOutcome, ownRosterLeaves, saturateOutcome, saturateLeaves, summariseOutcome, summariseLeaves}
+use Rattle.theory.proofs.Tests.{or-left, or-right, or-neither, bool-cases}
+use Rattle.theory.proofs.Checks.{first-passes, no-checks, decided-passes, not-accepted, passed-all}
+use Rattle.theory.proofs.Flat.{triples-flat, flat-triples, length-flat, length-triples, length-listed}
+use Rattle.theory.proofs.Accepted.{Right, right-accepted}
+use Rattle.theory.proofs.Feeding.{summary-length}
+use Rattle.theory.proofs.Mapped.{length-map-of}
+use Rattle.table_checks.proofs.Laws.{too-few, enough, left-after}
+use Rattle.roster.specs.Calls.{OwnRosterCall}
+use Rattle.summarise.specs.Condensed.{SummariseCall}
+use Rattle.query.specs.declared.Query.{Query}
+use Rattle.site_form.specs.Printing.{largestPrinted, printerSlots, report, shown}
+use Rattle.site_writer.specs.Calls.{Room, Put}
+use Rattle.printer.specs.Outcomes.{askedOf, asksOutcome, summaryOutcome, saturationOutcome, siteOutcome, Whole, Valid}
+use Rattle.printer.proofs.Lines.{room-as}
+use Rattle.printer.proofs.Reports.{shows}
+use Rattle.printer.proofs.Fits.{summary-fits, own-right, own-size, sat-right, asked-few}
+
+pub part-length : (n : ℕ) (l : List ℕ) → n ≤ length l → length (take (n - 0) l) ≡ n
+part-length n l h = let e : n - 0 ≡ n = omega arith in ap (λ (k : ℕ). length (take k l)) e ∙ length-take-le n l h
+
+-- the triples that a list begins with
+pub front : (n : ℕ) (ts : List Triple) (k : ℕ) → length ts ≡ k → take (3 * k - 0) (listed n ts) ≡ flat ts
+unfolding listed padded
+front n ts k e =
+    let q : 3 * k - 0 ≡ length (flat ts) = omega (arith, e, length-flat ts) in
+    ap (λ (j : ℕ). take j (listed n ts)) q ∙ take-append-seam (flat ts) _
+
+pub same-value : {A : Type 0} (x y : A) → _≡_ {A = Outcome A} (accepted x) (accepted y) → x ≡ y
+unfolding decided
+same-value x y e = passed-all x y e
+
+flat-accepted : (table roster : List ℕ) → Right rdfs roster (triples table) → length table % 3 ≡ 0 → length table ≤ 6144 → Accepted rdfs table roster
+flat-accepted table roster R m l =
+    subst (λ (t : List ℕ). Accepted rdfs t roster) (flat-triples table m) (right-accepted rdfs roster (triples table) R (omega (arith, length-triples table)))
+
+-- ── summarise ──
+module _ (table roster result map work : List ℕ) (W : Whole table roster) (hr : length result ≡ 6144) (hm : length map ≡ length roster) (hw : length work ≡ 2 * length roster) where
+  abbrev sum : List Triple
+  sum = summary rdfs roster (triples table)
+
+  abbrev lengths : Bool
+  lengths = not (eqb (length map) (length roster)) || wrongWork (length roster) (length work)
+
+  lengths-right : lengths ≡ false
+  unfolding wrongWork
+  lengths-right = or-neither (not (eqb (length map) (length roster))) _ (ap not (eq-eqb _ _ hm)) (ap not (eq-eqb _ _ hw))
+
+  passes : Passes (tableChecks rdfs lengths table roster)
+  passes = subst (λ (b : Bool). Passes (tableChecks rdfs b table roster)) (sym lengths-right) (flat-accepted table roster (W .right) (W .flat) (W .slots))
+
+  few : length (triples table) ≤ 2048
+  few = omega (arith, length-triples table, W .slots)
+
+  outcome : summariseOutcome rdfs table roster result map work ≡ accepted (length sum)
+  unfolding summariseOutcome slots
+  outcome =
+      let f = few in
+      enough (tableChecks rdfs lengths table roster) (length result / 3) (length sum) passes (omega (arith, summary-length rdfs roster (triples table)))
+
+  module _ (r : Counted) (result′ map′ work′ : List ℕ) (S : SummariseCall table roster result map work r result′ map′ work′) where
+    pub never-refused : (x : Refusal) → r ≡ counted-refused x → ⊥
+    unfolding counted
+    never-refused x e = not-accepted (sym (ap counted e) ∙ S .answer ∙ outcome)
+
+    result-is : result′ ≡ listed (length result) sum
+    unfolding summariseLeaves
+    result-is = ap (λ (s : Summarised rdfs). s .result) (S .leaves) ∙ left-after _ _ _ _ outcome
+
+    map-is : map′ ≡ mapOf rdfs roster (triples table)
+    unfolding summariseLeaves
+    map-is = ap (λ (s : Summarised rdfs). s .map) (S .leaves) ∙ left-after _ _ _ _ outcome
+
+    module _ (k : ℕ) (e : r ≡ Count k) where
+      count-is : length sum ≡ k
+      unfolding counted
+      count-is = same-value _ _ (sym outcome ∙ sym (S .answer) ∙ ap counted e)
+
+      pub sum-few : 3 * k ≤ 6144
+      sum-few = let f = few in omega (arith, count-is, summary-length rdfs roster (triples table))
+
+      pub sum-end : 3 * k ≤ length result′
+      sum-end =
+          let f = sum-few in
+          let l : length result′ ≡ length result = ap length result-is ∙ length-listed (length result) sum (omega (arith, count-is)) in
+          omega arith
+
+      part-is : take (3 * k - 0) result′ ≡ flat sum
+      part-is = ap (take (3 * k - 0)) result-is ∙ front (length result) sum k count-is
+
+      pub sum-table : length (take (3 * k - 0) result′) ≤ 6144
+      sum-table = let l : length (take (3 * k - 0) result′) ≡ length (flat sum) = ap length part-is in omega (arith, length-flat sum, count-is, sum-few)
+
+      pub sum-map : length map′ ≤ 512
+      sum-map = let l : length map′ ≡ length (mapOf rdfs roster (triples table)) = ap length map-is in omega (arith, length-map-of rdfs roster (triples table), W .size)
+
+      triples-are : triples (take (3 * k - 0) result′) ≡ sum
+      triples-are = ap triples part-is ∙ triples-flat sum
+
+      module _ (queries : List Query) (count : ℕ) (few-asks : count ≤ 16) where
+        pub sum-room : Room 0 (report (triples (take (3 * k - 0) result′)) map′ (askedOf (take (3 * k - 0) result′) map′ queries count))
+        sum-room =
+            let b = summary-fits roster (triples table) (W .right) (W .size) (askedOf (flat sum) (mapOf rdfs roster (triples table)) queries count) few (asked-few queries count few-asks _ _) in
+            room-as 0 (λ i. report (sym triples-are i) (sym map-is i) (askedOf (sym part-is i) (sym map-is i) queries count)) (omega arith)
+
+        pub sum-put : (l out : List ℕ) (x : ℕ) → Put l 0 (shown (asksOutcome (triples (take (3 * k - 0) result′)) map′ (askedOf (take (3 * k - 0) result′) map′ queries count))) out x → Put l 0 (shown (summaryOutcome roster (triples table) queries count)) out x
+        unfolding summaryOutcome
+        sum-put l out x p = shows l _ _ (λ i. asksOutcome (sym triples-are i) (sym map-is i) (askedOf (sym part-is i) (sym map-is i) queries count)) out x p
+
+-- ── saturate ──
+module _ (table roster list : List ℕ) (given : Valid table (length roster)) (hl : length list ≡ 6144) (d : Done) (own : List ℕ) (O : OwnRosterCall table roster d own) where
+  abbrev ts : List Triple
+  ts = triples table
+
+  abbrev sat : List Triple
+  sat = saturation rdfs (length roster) ts
+
+  table-right : wrongLength (length table) ≡ false
+  unfolding wrongLength
+  table-right = or-neither (not (eqb (length table % 3) 0)) _ (ap not (eq-eqb _ _ (given .flat))) (le-ltb (3 * mostTriples) (length table) (omega (arith, given .few)))
+
+  own-accepted : ownRosterOutcome rdfs table roster ≡ accepted tt
+  unfolding ownRosterOutcome
+  own-accepted = decided-passes _ _ (first-passes _ _ (or-neither (wrongSize (length roster)) _ (given .size) table-right) (first-passes _ _ (given .codes) no-checks))
+
+  own-is : own ≡ ownRoster rdfs (length roster) ts
+  unfolding ownRosterLeaves
+  own-is = O .leaves ∙ left-after _ _ _ _ own-accepted
+
+  own-long : length own ≡ length roster
+  own-long = ap length own-is ∙ own-size (length roster) ts (given .codes)
+
+  own-passes : Accepted rdfs table own
+  own-passes = flat-accepted table own (subst (λ (z : List ℕ). Right rdfs z ts) (sym own-is) (own-right (length roster) ts (given .size) (given .codes))) (given .flat) (omega (arith, given .few))
+
+  sat-as : saturated rdfs table own ≡ sat
+  unfolding saturated
+  sat-as = ap (λ (z : ℕ). saturation rdfs z ts) own-long
+
+  sat-count : length (saturated rdfs table own) ≡ length sat
+  sat-count = ap {B = ℕ} (λ (x : List Triple). length x) sat-as
+
+  over : 2048 < length sat → saturateOutcome rdfs table own list ≡ refused 5
+  unfolding saturateOutcome slots
+  over h = let c = sat-count in too-few (tableChecks rdfs false table own) (length list / 3) _ own-passes (omega arith)
+
+  within : length sat ≤ 2048 → saturateOutcome rdfs table own list ≡ accepted (length (saturated rdfs table own))
+  unfolding saturateOutcome slots
+  within h = let c = sat-count in enough (tableChecks rdfs false table own) (length list / 3) _ own-passes (omega arith)
+
+  outcome-is : (queries : List Query) (count : ℕ) (b : Bool) → ltb printerSlots (length sat) ≡ b → saturationOutcome (length roster) ts queries count ≡ cond b (refused 5) (summaryOutcome (ownRoster rdfs (length roster) ts) sat queries count)
+  unfolding saturationOutcome decided
+  outcome-is queries count b e = ap (λ (x : Bool). cond x (refused 5) (summaryOutcome (ownRoster rdfs (length roster) ts) sat queries count)) e
+
+  module _ (r : Counted) (list′ : List ℕ) (S : (counted r ≡ saturateOutcome rdfs table own list) × (list′ ≡ saturateLeaves rdfs table own list)) where
+    pub sat-refused : (x : Refusal) → r ≡ counted-refused x → (queries : List Query) (count : ℕ) → saturationOutcome (length roster) ts queries count ≡ refused (number Slots)
+    unfolding counted number
+    sat-refused x e queries count =
+        ⊎-elim
+        (λ t. outcome-is queries count true t)
+        (λ f. absurd (not-accepted (sym (ap counted e) ∙ S .0 ∙ within (ltb-false printerSlots (length sat) f))))
+        (bool-cases (ltb printerSlots (length sat)))
+
+    module _ (k : ℕ) (e : r ≡ Count k) where
+      fits : ltb printerSlots (length sat) ≡ false
+      unfolding counted
+      fits =
+          ⊎-elim
+          (λ t. absurd (not-accepted (sym (over (ltb-true printerSlots (length sat) t)) ∙ sym (S .0) ∙ ap counted e)))
+          (λ f. f)
+          (bool-cases (ltb printerSlots (length sat)))
+
+      few-sat : length sat ≤ 2048
+      few-sat = ltb-false printerSlots (length sat) fits
+
+      count-sat : length sat ≡ k
+      unfolding counted
+      count-sat = sym sat-count ∙ same-value _ _ (sym (within few-sat) ∙ sym (S .0) ∙ ap counted e)
+
+      list-is : list′ ≡ listed (length list) sat
+      unfolding saturateLeaves
+      list-is = S .1 ∙ left-after _ _ _ _ (within few-sat) ∙ ap (listed (length list)) sat-as
+
+      pub sat-few : 3 * k ≤ 6144
+      sat-few = omega (arith, count-sat, few-sat)
+
+      pub sat-end : 3 * k ≤ length list′
+      sat-end =
+          let f = sat-few in
+          let l : length list′ ≡ length list = ap length list-is ∙ length-listed (length list) sat (omega (arith, count-sat)) in
+          omega arith
+
+      sat-part : take (3 * k - 0) list′ ≡ flat sat
+      sat-part = ap (take (3 * k - 0)) list-is ∙ front (length list) sat k count-sat
+
+      sat-triples : triples (take (3 * k - 0) list′) ≡ sat
+      sat-triples = ap triples sat-part ∙ triples-flat sat
+
+      pub sat-whole : Whole (take (3 * k - 0) list′) own
+      sat-whole =
+          let l : length (take (3 * k - 0) list′) ≡ length (flat sat) = ap length sat-part in
+          let m = length-flat sat in
+          let c = count-sat in
+          let f = sat-few in
+          let o = own-long in
+          record {
+            right = subst (λ (z : List ℕ). Right rdfs z (triples (take (3 * k - 0) list′))) (sym own-is) (subst (λ (z : List Triple). Right rdfs (ownRoster rdfs (length roster) ts) z) (sym sat-triples) (sat-right (length roster) ts (given .size) (given .codes)));
+            flat = omega arith;
+            slots = omega arith;
+            size = omega (arith, given .printed);
+          }
+
+      pub sat-put : (queries : List Query) (count : ℕ) (l out : List ℕ) (x : ℕ) → Put l 0 (shown (summaryOutcome own (triples (take (3 * k - 0) list′)) queries count)) out x → Put l 0 (shown (saturationOutcome (length roster) ts queries count)) out x
+      sat-put queries count l out x p =
+          shows l _ _ (outcome-is queries count false fits ∙ (λ i. summaryOutcome (sym own-is i) (sym sat-triples i) queries count)) out x p
+
+pub valid-as : (table : List ℕ) (n k : ℕ) → k ≡ n → Valid table n → Valid table k
+valid-as table n k e v = subst (Valid table) (sym e) v
+
+pub sat-as-put : (n k : ℕ) → k ≡ n → (ts : List Triple) (queries : List Query) (count : ℕ) (l out : List ℕ) (x : ℕ) → Put l 0 (shown (saturationOutcome k ts queries count)) out x → Put l 0 (shown (saturationOutcome n ts queries count)) out x
+sat-as-put n k e ts queries count l out x p = shows l _ _ (ap (λ (z : ℕ). saturationOutcome z ts queries count) (sym e)) out x p
+
+-- ── the checks 1 and 3 ──
+module _ (size n : ℕ) (e : n ≡ size) (table : List ℕ) (queries : List Query) (count : ℕ) where
+  site-is : (a b : Bool) → (wrongSize n || ltb largestPrinted n) ≡ a → wrongCodes rdfs n (triples table) ≡ b → siteOutcome size (triples table) queries count ≡ cond a (refused 1) (cond b (refused 3) (saturationOutcome n (triples table) queries count))
+  unfolding siteOutcome decided
+  site-is a b p q = ap (λ (z : ℕ). siteOutcome z (triples table) queries count) (sym e) ∙ (λ i. cond (p i) (refused 1) (cond (q i) (refused 3) (saturationOutcome n (triples table) queries count)))
+
+  pub site-small : wrongSize n ≡ true → siteOutcome size (triples table) queries count ≡ refused (number Length)
+  unfolding number
+  site-small p = site-is true _ (or-left (wrongSize n) _ p) refl
+
+  pub site-large : 512 < n → siteOutcome size (triples table) queries count ≡ refused (number Length)
+  unfolding number
+  site-large p = site-is true _ (or-right (wrongSize n) _ (lt-ltb largestPrinted n p)) refl
+
+  module _ (s : wrongSize n ≡ false) (l : n ≤ 512) where
+    right-size : (wrongSize n || ltb largestPrinted n) ≡ false
+    right-size = or-neither (wrongSize n) _ s (le-ltb largestPrinted n l)
+
+    pub site-codes : wrongCodes rdfs n (triples table) ≡ true → siteOutcome size (triples table) queries count ≡ refused (number Code)
+    unfolding number
+    site-codes q = site-is false true right-size q
+
+    pub site-valid : wrongCodes rdfs n (triples table) ≡ false → siteOutcome size (triples table) queries count ≡ saturationOutcome n (triples table) queries count
+    site-valid q = site-is false false right-size q
+
+    pub is-valid : wrongCodes rdfs n (triples table) ≡ false → length table % 3 ≡ 0 → length table ≤ 3000 → Valid table n
+    is-valid q m f = record { size = s; printed = l; codes = q; flat = m; few = f }

@@ -1,0 +1,84 @@
+use mathlib.Core.Path.{refl}
+use native.Mathlib.Omega.{arith}
+use Rattle.printer.proofs.Texts.{too-long, text-refused, count-few, count-end, part-flat, part-few, asks-few, text-put}
+use borrow.Author.Needs.{needs}
+use Rattle.printer.proofs.print_site.Statement.{statement}
+use Rattle.printer.proofs.print_site.Tie as tie
+use Rattle.printer.proofs.print_site.Reads as reads
+use Rattle.printer.proofs.print_site.Lts as lts
+use Rattle.printer.proofs.print_table.Reads as print-table-reads
+use Rattle.printer.proofs.refuse.Reads as refuse-reads
+use Rattle.site_reader.proofs.read.Reads as read-reads
+
+refuse-requires : tie.Need-refuse-requires
+refuse-requires c κs = search needs
+
+same-length : tie.Need-same-length
+same-length c = search needs
+
+returns : tie.Need-returns
+returns c = too-long _ _ _ _ (c .before .before .before .before .if1 .taken) (c .before .before .refuse .ensures)
+
+slice-aggregate-read : tie.Need-slice-aggregate-read
+slice-aggregate-read c = search needs
+
+read-requires : tie.Need-read-requires
+read-requires c κs = search needs
+
+enum-told : tie.Need-enum-told
+enum-told c = search needs
+
+enum-told-2 : tie.Need-enum-told-2
+enum-told-2 c = search needs
+
+refuse-requires-2 : tie.Need-refuse-requires-2
+refuse-requires-2 c κs = search needs
+
+same-length-2 : tie.Need-same-length-2
+same-length-2 c = search needs
+
+returns-2 : tie.Need-returns-2
+returns-2 c = text-refused _ _ refl (c .before .before .before .before .before .before .before .before .before .before .if1 .left) _ _ (c .before .before .before .before .before .before .before .before .read .ensures) _ (c .before .before .before .before .enum-told2 .given .1) _ _ _ (c .before .before .refuse2 .ensures)
+
+mul-print-table : tie.Need-mul-print-table
+mul-print-table c = let h = count-few _ _ refl (c .before .before .before .before .before .before .before .before .before .if1 .left) _ _ (c .before .before .before .before .before .before .before .read .ensures) (c .before .before .before .enum-told .given .1) in omega arith
+
+sub-print-table : tie.Need-sub-print-table
+sub-print-table c = search needs
+
+part-print-table-start : tie.Need-part-print-table-start
+part-print-table-start c = search needs
+
+part-print-table-end : tie.Need-part-print-table-end
+part-print-table-end c = count-end _ _ refl (c .before .before .before .before .before .before .before .before .before .before .if1 .left) _ _ (c .before .before .before .before .before .before .before .before .read .ensures) (c .before .before .before .before .enum-told .given .1)
+
+print-table-requires : tie.Need-print-table-requires
+print-table-requires c κs = (asks-few _ _ refl (c .before .before .before .before .before .before .before .before .before .before .before .if1 .left) _ _ (c .before .before .before .before .before .before .before .before .before .read .ensures) (c .before .before .before .before .before .enum-told .given .1), part-flat _ _ refl (c .before .before .before .before .before .before .before .before .before .before .before .if1 .left) _ _ (c .before .before .before .before .before .before .before .before .before .read .ensures) (c .before .before .before .before .before .enum-told .given .1), part-few _ _ refl (c .before .before .before .before .before .before .before .before .before .before .before .if1 .left) _ _ (c .before .before .before .before .before .before .before .before .before .read .ensures) (c .before .before .before .before .before .enum-told .given .1))
+
+same-length-3 : tie.Need-same-length-3
+same-length-3 c = search needs
+
+returns-3 : tie.Need-returns-3
+returns-3 c = text-put _ _ refl (c .before .before .before .before .before .before .before .before .before .before .before .before .before .before .if1 .left) _ _ (c .before .before .before .before .before .before .before .before .before .before .before .before .read .ensures) (c .before .before .before .before .before .before .before .before .enum-told .given .1) _ _ _ (c .before .before .print-table .ensures)
+
+pub print-site-spec : {M : Type 1} → statement M
+print-site-spec =
+    tie.close
+    (tie.spec
+    refuse-requires
+    same-length
+    returns
+    slice-aggregate-read
+    read-requires
+    enum-told
+    enum-told-2
+    refuse-requires-2
+    same-length-2
+    returns-2
+    mul-print-table
+    sub-print-table
+    part-print-table-start
+    part-print-table-end
+    print-table-requires
+    same-length-3
+    returns-3)

@@ -1,0 +1,23 @@
+use Rattle.printer.proofs.Reports.{room-refusal, refusal-put}
+use borrow.Author.Needs.{needs}
+use Rattle.printer.proofs.refuse.Statement.{statement}
+use Rattle.printer.proofs.refuse.Tie as tie
+use Rattle.printer.proofs.refuse.Reads as reads
+use Rattle.printer.proofs.refuse.Lts as lts
+use Rattle.printer.proofs.put_number.Reads as put-number-reads
+use Rattle.printer.proofs.refusal_number.Reads as refusal-number-reads
+
+refusal-number-requires : tie.Need-refusal-number-requires
+refusal-number-requires c κs = search needs
+
+put-number-requires : tie.Need-put-number-requires
+put-number-requires c κs = room-refusal _ _ (c .refusal-number .ensures)
+
+same-length : tie.Need-same-length
+same-length c = search needs
+
+returns : tie.Need-returns
+returns c = refusal-put _ _ _ (c .before .before .before .refusal-number .ensures) _ _ (c .before .before .put-number .ensures)
+
+pub refuse-spec : {M : Type 1} → statement M
+refuse-spec = tie.close (tie.spec refusal-number-requires put-number-requires same-length returns)
