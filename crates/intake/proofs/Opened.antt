@@ -1,7 +1,7 @@
 -- Opening, answer by answer.
 -- Assumes nothing.
 use Prim.Native.Nat.{ℕ, _/_, _≤_, _<_}
-use mathlib.Core.Path.{_≡_, refl, sym, _∙_, ap}
+use mathlib.Core.Path.{_≡_, refl, sym, subst, _∙_, ap}
 use mathlib.Core.Logic.{⊎-elim}
 use mathlib.Core.Bool.{Bool, true, false, cond, not, _||_}
 use mathlib.Core.List.{List}
@@ -10,6 +10,8 @@ use lib.Dec.{eqb, ltb}
 use lib.ListN.{length, replicate, length-replicate, getD-replicate}
 use lib.Seq.{ext-getD}
 use borrow.Author.Tests.{ne-eqb, eq-eqb}
+use Rattle.model.specs.declared.Done.{Done}
+use Rattle.model.specs.declared.Refusal.{Refusal}
 use Rattle.model.specs.declared.Done.the-variants.{Accepted, Refused}
 use Rattle.model.specs.declared.Refusal.the-variants.{Length, Roster}
 use Rattle.model.specs.Codes.{rdfs, absent, mostTriples}
@@ -23,7 +25,7 @@ use Rattle.theory.proofs.Accepted.{size-bounds}
 use Rattle.lists.specs.Flat.{Cleared}
 use Rattle.lists.proofs.Search.{cleared-all}
 use Rattle.cliques.specs.Grouping.{Emptied}
-use Rattle.intake.specs.Opening.{wrongLengths, stateWith, OpenCall}
+use Rattle.intake.specs.Opening.{wrongLengths, stateWith, OpenCall, Opens}
 
 -- ── the lengths ──
 module _ (n triples summary map : ℕ) where
@@ -95,3 +97,20 @@ module _ (roster triples summary map : List ℕ) where
         in-summary = λ h s. cleared-all summary y (length summary) b (omega arith);
         in-map = λ h s. emptied-all map z d;
       }
+
+  -- ── with the counts ──
+  module _ (held summarised : ℕ) (d : Done) (x y z : List ℕ) (C : OpenCall roster triples summary map d x y z) where
+    abbrev s : State
+    s = stateWith triples summary map held summarised
+
+    pub opens-refused : (r : Refusal) → d ≡ Refused r → Opens roster s (done (Refused r)) (stateWith x y z held summarised)
+    unfolding done openLeaves
+    opens-refused r e =
+        let K = subst (λ (d : Done). OpenCall roster triples summary map d x y z) e C in
+        record { answer = K .answer held summarised; leaves = λ i. stateWith (K .in-triples held summarised i) (K .in-summary held summarised i) (K .in-map held summarised i) held summarised }
+
+    pub opens-accepted : d ≡ Accepted → Opens roster s (done Accepted) (stateWith x y z 0 0)
+    unfolding done openLeaves opened
+    opens-accepted e =
+        let K = subst (λ (d : Done). OpenCall roster triples summary map d x y z) e C in
+        record { answer = K .answer held summarised; leaves = λ i. stateWith (K .in-triples held summarised i) (K .in-summary held summarised i) (K .in-map held summarised i) 0 0 }

@@ -7,7 +7,7 @@ use mathlib.Core.List.{List}
 use lib.Dec.{eqb, ltb}
 use Rattle.model.specs.declared.Done.{Done}
 use Rattle.model.specs.Codes.{rdfs, mostTriples}
-use Rattle.model.specs.Outcomes.{done, wrongSize}
+use Rattle.model.specs.Outcomes.{Outcome, done, wrongSize}
 use Rattle.model.specs.Intake.{State, openOutcome, openLeaves}
 
 -- the model's `wrongLists`, by the lengths
@@ -25,3 +25,8 @@ pub record OpenCall (roster triples summary map : List ℕ) (r : Done) (triples�
   pub in-triples : (held summarised : ℕ) → triples′ ≡ openLeaves rdfs roster (done r) (stateWith triples summary map held summarised) .triples
   pub in-summary : (held summarised : ℕ) → summary′ ≡ openLeaves rdfs roster (done r) (stateWith triples summary map held summarised) .summary
   pub in-map : (held summarised : ℕ) → map′ ≡ openLeaves rdfs roster (done r) (stateWith triples summary map held summarised) .map
+
+-- the whole call: its outcome, and the lists and counts after it
+pub record Opens (roster : List ℕ) (s : State) (outcome : Outcome (Unit {0})) (after : State) : Type 0 where
+  pub answer : outcome ≡ openOutcome rdfs roster s
+  pub leaves : after ≡ openLeaves rdfs roster outcome s

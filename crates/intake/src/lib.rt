@@ -8,12 +8,12 @@ ghost use lib.ListN.{length};
 ghost use Rattle.model.specs.Codes.{rdfs};
 ghost use Rattle.model.specs.Lists.{any};
 ghost use Rattle.model.specs.Triples.{triple};
-ghost use Rattle.model.specs.Outcomes.{found, wrongWork};
+ghost use Rattle.model.specs.Outcomes.{done, found, wrongWork};
 ghost use Rattle.model.specs.Intake.{Fed};
 ghost use Rattle.theory.proofs.Covered.{Below};
 ghost use Rattle.builder.specs.Builder.{first};
 ghost use Rattle.intake.specs.Insertion.{Inserted};
-ghost use Rattle.intake.specs.Opening.{wrongLengths, stateWith, OpenCall};
+ghost use Rattle.intake.specs.Opening.{wrongLengths, stateWith, OpenCall, Opens};
 ghost use Rattle.intake.specs.Feeding.{Place, StandsAt, Known, bad, Ready, AddCall, Taken, refusal};
 use checks::size_wrong;
 use checks::triple_wrong;
@@ -96,6 +96,13 @@ pub struct FedCounts {
     pub summarised: usize,
 }
 
+// What opening leaves: the answer and the two counts.
+pub struct OpenedCounts {
+    pub answer: Done,
+    pub held: usize,
+    pub summarised: usize,
+}
+
 // Of the first `count` places, the first whose triple does not come before t, where they are in rising order.
 fn find_place(list: &[u32], count: usize, t: Triple) -> usize
     requires { ⌜ 3 * count ≤ length (now list) ⌝ }
@@ -171,7 +178,17 @@ fn held_wrong(list: &[u32], count: usize, roster: &[u8]) -> bool
 }
 
 // Takes in a triple that is not held, at its place i. Only an intake altered by hand holds wrong triples.
-fn add(held: usize, summarised: usize, roster: &[u8], triples: &mut [u32], summary: &mut [u32], map: &mut [u32], work: &mut [u32], t: Triple, i: usize) -> FedCounts
+fn add(
+    held: usize,
+    summarised: usize,
+    roster: &[u8],
+    triples: &mut [u32],
+    summary: &mut [u32],
+    map: &mut [u32],
+    work: &mut [u32],
+    t: Triple,
+    i: usize,
+) -> FedCounts
     requires { ⌜ Ready (now roster) (now triples) (now summary) (now map) (now work) t × (i ≤ held) × (held < length (now triples) / 3) ⌝ }
     ensures { λ r. ⌜ AddCall (now (roster .entry)) (stateWith (now (triples .entry)) (now (summary .entry)) (now (map .entry)) held summarised) (now (work .entry)) t i (found (r .answer)) (stateWith (now (triples .exit)) (now (summary .exit)) (now (map .exit)) (r .held) (r .summarised)) (now (work .exit)) ⌝ }
 {
@@ -208,7 +225,16 @@ fn add(held: usize, summarised: usize, roster: &[u8], triples: &mut [u32], summa
 }
 
 // A feed that no check refuses.
-fn take_in(held: usize, summarised: usize, roster: &[u8], triples: &mut [u32], summary: &mut [u32], map: &mut [u32], work: &mut [u32], t: Triple) -> FedCounts
+fn take_in(
+    held: usize,
+    summarised: usize,
+    roster: &[u8],
+    triples: &mut [u32],
+    summary: &mut [u32],
+    map: &mut [u32],
+    work: &mut [u32],
+    t: Triple,
+) -> FedCounts
     requires { ⌜ Ready (now roster) (now triples) (now summary) (now map) (now work) t ⌝ }
     ensures { λ r. ⌜ Taken (now (roster .entry)) (stateWith (now (triples .entry)) (now (summary .entry)) (now (map .entry)) held summarised) (now (work .entry)) t (found (r .answer)) (stateWith (now (triples .exit)) (now (summary .exit)) (now (map .exit)) (r .held) (r .summarised)) (now (work .exit)) ⌝ }
 {
@@ -261,7 +287,18 @@ fn refuse(r: Refusal, held: usize, summarised: usize) -> FedCounts
 }
 
 // Feeds a triple to an intake with two counts, over plain lists.
-pub fn feed_lists(held: usize, summarised: usize, roster: &[u8], triples: &mut [u32], summary: &mut [u32], map: &mut [u32], work: &mut [u32], s: u32, p: u32, o: u32) -> FedCounts
+pub fn feed_lists(
+    held: usize,
+    summarised: usize,
+    roster: &[u8],
+    triples: &mut [u32],
+    summary: &mut [u32],
+    map: &mut [u32],
+    work: &mut [u32],
+    s: u32,
+    p: u32,
+    o: u32,
+) -> FedCounts
     ensures { λ r. ⌜ Fed rdfs (now (roster .entry)) (stateWith (now (triples .entry)) (now (summary .entry)) (now (map .entry)) held summarised) (now (work .entry)) (triple s p o) (found (r .answer)) (stateWith (now (triples .exit)) (now (summary .exit)) (now (map .exit)) (r .held) (r .summarised)) (now (work .exit)) ⌝ }
 {
     let n = roster.len();
@@ -288,12 +325,81 @@ pub fn feed_lists(held: usize, summarised: usize, roster: &[u8], triples: &mut [
     take_in(held, summarised, roster, triples, summary, map, work, t)
 }
 
+// Opens an intake with two counts, over plain lists.
+pub fn open_counts(
+    held: usize,
+    summarised: usize,
+    roster: &[u8],
+    triples: &mut [u32],
+    summary: &mut [u32],
+    map: &mut [u32],
+) -> OpenedCounts
+    ensures { λ r. ⌜ Opens (now (roster .entry)) (stateWith (now (triples .entry)) (now (summary .entry)) (now (map .entry)) held summarised) (done (r .answer)) (stateWith (now (triples .exit)) (now (summary .exit)) (now (map .exit)) (r .held) (r .summarised)) ⌝ }
+{
+    match open_lists(roster, triples, summary, map) {
+        Done::Refused(r) => OpenedCounts {
+            answer: Done::Refused(r),
+            held: held,
+            summarised: summarised,
+        },
+        Done::Accepted => OpenedCounts {
+            answer: Done::Accepted,
+            held: 0,
+            summarised: 0,
+        },
+    }
+}
+
+// Opens an intake: it holds nothing.
+pub fn open(
+    counts: &mut Counts,
+    roster: &[u8],
+    triples: &mut [u32],
+    summary: &mut [u32],
+    map: &mut [u32],
+) -> Done
+    ensures { λ r. ⌜ Opens (now (roster .entry)) (stateWith (now (triples .entry)) (now (summary .entry)) (now (map .entry)) (now (counts .entry) .held) (now (counts .entry) .summarised)) (done r) (stateWith (now (triples .exit)) (now (summary .exit)) (now (map .exit)) (now (counts .exit) .held) (now (counts .exit) .summarised)) ⌝ }
+{
+    let opened = open_counts(
+        counts.held,
+        counts.summarised,
+        roster,
+        triples,
+        summary,
+        map,
+    );
+    counts.held = opened.held;
+    counts.summarised = opened.summarised;
+    opened.answer
+}
+
 // Feeds a triple to an intake: `Found::Yes` for a new triple, `Found::No` for one that is held.
-pub fn feed(counts: &mut Counts, roster: &[u8], triples: &mut [u32], summary: &mut [u32], map: &mut [u32], work: &mut [u32], s: u32, p: u32, o: u32) -> Found
+pub fn feed(
+    counts: &mut Counts,
+    roster: &[u8],
+    triples: &mut [u32],
+    summary: &mut [u32],
+    map: &mut [u32],
+    work: &mut [u32],
+    s: u32,
+    p: u32,
+    o: u32,
+) -> Found
     ensures { λ r. ⌜ Fed rdfs (now (roster .entry)) (stateWith (now (triples .entry)) (now (summary .entry)) (now (map .entry)) (now (counts .entry) .held) (now (counts .entry) .summarised)) (now (work .entry)) (triple s p o) (found r) (stateWith (now (triples .exit)) (now (summary .exit)) (now (map .exit)) (now (counts .exit) .held) (now (counts .exit) .summarised)) (now (work .exit)) ⌝ }
 {
-    let f = feed_lists(counts.held, counts.summarised, roster, triples, summary, map, work, s, p, o);
-    counts.held = f.held;
-    counts.summarised = f.summarised;
-    f.answer
+    let fed = feed_lists(
+        counts.held,
+        counts.summarised,
+        roster,
+        triples,
+        summary,
+        map,
+        work,
+        s,
+        p,
+        o,
+    );
+    counts.held = fed.held;
+    counts.summarised = fed.summarised;
+    fed.answer
 }

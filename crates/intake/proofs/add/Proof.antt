@@ -8,7 +8,7 @@ use Rattle.intake.proofs.add.Statement.{statement}
 use Rattle.intake.proofs.add.Tie as tie
 
 image-known-requires : tie.Need-image-known-requires
-image-known-requires c κs = 
+image-known-requires c κs =
     let a = c .before .before .before .before .before .before .before .args in
     let p = c .before .before .before .before .before .before .before .pre in
     below-map (a .roster .now) (a .triples .now) (a .summary .now) (a .map .now) (a .work .now) (a .held) (a .summarised) (a .t) (a .i) (p .0) (p .1) (p .2)
@@ -35,7 +35,7 @@ same-length-4 : tie.Need-same-length-4
 same-length-4 c = search needs
 
 returns : tie.Need-returns
-returns c = 
+returns c =
     let a = c .before .before .before .before .before .before .before .before .before .before .before .before .before .before .before .before .before .args in
     let p = c .before .before .before .before .before .before .before .before .before .before .before .before .before .before .before .before .before .pre in
     added-quick (a .roster .now) (a .triples .now) (a .summary .now) (a .map .now) (a .work .now) (a .held) (a .summarised) (a .t) (a .i) (p .0) (p .1) (p .2) _ (c .before .before .before .before .before .before .insert-at .ensures) (c .before .before .before .before .before .before .before .before .before .image-known .ensures (c .before .before .before .before .before .before .before .before .if1 .taken)) _ (c .before .before .clear .ensures)
@@ -53,7 +53,7 @@ same-length-7 : tie.Need-same-length-7
 same-length-7 c = search needs
 
 returns-2 : tie.Need-returns-2
-returns-2 c = 
+returns-2 c =
     let a = c .before .before .before .before .before .before .before .before .before .before .before .before .args in
     let p = c .before .before .before .before .before .before .before .before .before .before .before .before .pre in
     added-wrong (a .roster .now) (a .triples .now) (a .summary .now) (a .map .now) (a .work .now) (a .held) (a .summarised) (a .t) (a .i) (p .0) (p .1) (p .2) (sym (c .before .held-wrong .ensures) ∙ c .if2 .taken)
@@ -65,7 +65,7 @@ add-count : tie.Need-add-count
 add-count c = search needs
 
 condense-requires : tie.Need-condense-requires
-condense-requires c κs = 
+condense-requires c κs =
     let a = c .before .before .before .before .before .before .before .before .before .before .before .before .before .before .before .before .before .before .before .before .args in
     let p = c .before .before .before .before .before .before .before .before .before .before .before .before .before .before .before .before .before .before .before .before .pre in
     let q = c .before .before .before .before .before .before .insert-at2 .ensures in (
@@ -94,7 +94,7 @@ same-length-11 : tie.Need-same-length-11
 same-length-11 c = search needs
 
 returns-3 : tie.Need-returns-3
-returns-3 c = 
+returns-3 c =
     let a = c .before .before .before .before .before .before .before .before .before .before .before .before .before .before .before .before .before .before .before .before .before .before .before .before .before .before .before .before .before .before .args in
     let p = c .before .before .before .before .before .before .before .before .before .before .before .before .before .before .before .before .before .before .before .before .before .before .before .before .before .before .before .before .before .before .pre in
     added-never (a .roster .now) (a .triples .now) (a .summary .now) (a .map .now) (a .work .now) (a .held) (a .summarised) (a .t) (a .i) (p .0) (p .1) (p .2) _ (c .before .before .before .before .before .before .before .before .before .before .before .before .before .before .before .before .insert-at2 .ensures) _ _ _ _ (c .before .before .before .before .before .before .before .before .before .condense .ensures) _ (c .before .r .given .1)
@@ -112,7 +112,7 @@ same-length-15 : tie.Need-same-length-15
 same-length-15 c = search needs
 
 returns-4 : tie.Need-returns-4
-returns-4 c = 
+returns-4 c =
     let a = c .before .before .before .before .before .before .before .before .before .before .before .before .before .before .before .before .before .before .before .before .before .before .before .before .before .before .before .before .before .before .args in
     let p = c .before .before .before .before .before .before .before .before .before .before .before .before .before .before .before .before .before .before .before .before .before .before .before .before .before .before .before .before .before .before .pre in
     added-slow (a .roster .now) (a .triples .now) (a .summary .now) (a .map .now) (a .work .now) (a .held) (a .summarised) (a .t) (a .i) (p .0) (p .1) (p .2) _ (c .before .before .before .before .before .before .before .before .before .before .before .before .before .before .before .before .insert-at2 .ensures) _ _ _ _ (c .before .before .before .before .before .before .before .before .before .condense .ensures) _ (c .before .k .given .1)

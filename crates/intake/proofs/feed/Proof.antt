@@ -1,4 +1,4 @@
--- `intake::feed` meets its contract: a walk of its MIR, by hand. 
+-- `intake::feed` meets its contract: a walk of its MIR, by hand.
 -- The record's borrow is opened and its fields are read; the other arguments go to `feed_lists` for good, each at its own lifetime; the counts of the result are stored, and the borrow is closed at the new record.
 -- Assumes nothing.
 use mathlib.Core.Path.{_≡_, refl, ap}

@@ -17,7 +17,7 @@ refuse-requires : tie.Need-refuse-requires
 refuse-requires c κs = search needs
 
 returns : tie.Need-returns
-returns c = 
+returns c =
     let a = c .before .before .before .before .before .before .before .before .args in
     by-lengths (a .roster .now) (a .triples .now) (a .summary .now) (a .map .now) (a .work .now) (a .held) (a .summarised) (triple (a .s) (a .p) (a .o)) _ (sym (c .before .before .lengths-wrong .ensures) ∙ c .before .if1 .taken) (c .refuse .ensures)
 
@@ -28,19 +28,19 @@ refuse-requires-2 : tie.Need-refuse-requires-2
 refuse-requires-2 c κs = search needs
 
 returns-2 : tie.Need-returns-2
-returns-2 c = 
+returns-2 c =
     let a = c .before .before .before .before .before .before .before .before .before .before .args in
     by-work (a .roster .now) (a .triples .now) (a .summary .now) (a .map .now) (a .work .now) (a .held) (a .summarised) (triple (a .s) (a .p) (a .o)) _ (sym (c .before .before .work-wrong .ensures) ∙ c .before .if2 .taken) (c .refuse2 .ensures)
 
 roster-wrong-requires : tie.Need-roster-wrong-requires
-roster-wrong-requires c κs = 
+roster-wrong-requires c κs =
     five _ _ _ _ (sym (c .before .before .before .lengths-wrong .ensures) ∙ c .before .before .if1 .left)
 
 refuse-requires-3 : tie.Need-refuse-requires-3
 refuse-requires-3 c κs = search needs
 
 returns-3 : tie.Need-returns-3
-returns-3 c = 
+returns-3 c =
     let a = c .before .before .before .before .before .before .before .before .before .before .before .before .args in
     by-roster (a .roster .now) (a .triples .now) (a .summary .now) (a .map .now) (a .work .now) (a .held) (a .summarised) (triple (a .s) (a .p) (a .o)) _ (sym (c .before .before .before .before .before .before .lengths-wrong .ensures) ∙ c .before .before .before .before .before .if1 .left) (sym (c .before .before .before .before .work-wrong .ensures) ∙ c .before .before .before .if2 .left) (sym (c .before .before .roster-wrong .ensures) ∙ c .before .if3 .taken) (c .refuse3 .ensures)
 
@@ -51,24 +51,24 @@ refuse-requires-4 : tie.Need-refuse-requires-4
 refuse-requires-4 c κs = search needs
 
 returns-4 : tie.Need-returns-4
-returns-4 c = 
+returns-4 c =
     let a = c .before .before .before .before .before .before .before .before .before .before .before .before .before .before .args in
     by-codes (a .roster .now) (a .triples .now) (a .summary .now) (a .map .now) (a .work .now) (a .held) (a .summarised) (triple (a .s) (a .p) (a .o)) _ (sym (c .before .before .before .before .before .before .before .before .lengths-wrong .ensures) ∙ c .before .before .before .before .before .before .before .if1 .left) (sym (c .before .before .before .before .before .before .work-wrong .ensures) ∙ c .before .before .before .before .before .if2 .left) (sym (c .before .before .before .before .roster-wrong .ensures) ∙ c .before .before .before .if3 .left) (sym (c .before .before .triple-wrong .ensures) ∙ c .before .if4 .taken) (c .refuse4 .ensures)
 
 covers-triple-requires : tie.Need-covers-triple-requires
-covers-triple-requires c κs = 
+covers-triple-requires c κs =
     below-of _ _ (sym (c .before .triple-wrong .ensures) ∙ c .if4 .left)
 
 refuse-requires-5 : tie.Need-refuse-requires-5
 refuse-requires-5 c κs = search needs
 
 returns-5 : tie.Need-returns-5
-returns-5 c = 
+returns-5 c =
     let a = c .before .before .before .before .before .before .before .before .before .before .before .before .before .before .before .before .args in
     by-cover (a .roster .now) (a .triples .now) (a .summary .now) (a .map .now) (a .work .now) (a .held) (a .summarised) (triple (a .s) (a .p) (a .o)) _ (sym (c .before .before .before .before .before .before .before .before .before .before .lengths-wrong .ensures) ∙ c .before .before .before .before .before .before .before .before .before .if1 .left) (sym (c .before .before .before .before .before .before .before .before .work-wrong .ensures) ∙ c .before .before .before .before .before .before .before .if2 .left) (sym (c .before .before .before .before .before .before .roster-wrong .ensures) ∙ c .before .before .before .before .before .if3 .left) (sym (c .before .before .before .before .triple-wrong .ensures) ∙ c .before .before .before .if4 .left) (sym (c .before .before .covers-triple .ensures) ∙ not-true _ (c .before .if5 .taken)) (c .refuse5 .ensures)
 
 take-in-requires : tie.Need-take-in-requires
-take-in-requires c κs = 
+take-in-requires c κs =
     let a = c .before .before .before .before .before .before .before .before .before .before .before .before .before .before .before .before .before .before .before .args in
     ready (a .roster .now) (a .triples .now) (a .summary .now) (a .map .now) (a .work .now) (a .held) (a .summarised) (triple (a .s) (a .p) (a .o)) (sym (c .before .before .before .before .before .before .before .before .before .before .before .before .before .lengths-wrong .ensures) ∙ c .before .before .before .before .before .before .before .before .before .before .before .before .if1 .left) (sym (c .before .before .before .before .before .before .before .before .before .before .before .work-wrong .ensures) ∙ c .before .before .before .before .before .before .before .before .before .before .if2 .left) (sym (c .before .before .before .before .before .before .before .before .before .roster-wrong .ensures) ∙ c .before .before .before .before .before .before .before .before .if3 .left) (sym (c .before .before .before .before .before .before .before .triple-wrong .ensures) ∙ c .before .before .before .before .before .before .if4 .left) (sym (c .before .before .before .before .before .covers-triple .ensures) ∙ not-false _ (c .before .before .before .before .if5 .left))
 
@@ -85,7 +85,7 @@ same-length-4 : tie.Need-same-length-4
 same-length-4 c = search needs
 
 returns-6 : tie.Need-returns-6
-returns-6 c = 
+returns-6 c =
     let a = c .before .before .before .before .before .before .before .before .before .before .before .before .before .before .before .before .before .before .before .before .before .before .before .before .before .before .before .before .args in
     by-taking (a .roster .now) (a .triples .now) (a .summary .now) (a .map .now) (a .work .now) (a .held) (a .summarised) (triple (a .s) (a .p) (a .o)) (sym (c .before .before .before .before .before .before .before .before .before .before .before .before .before .before .before .before .before .before .before .before .before .before .lengths-wrong .ensures) ∙ c .before .before .before .before .before .before .before .before .before .before .before .before .before .before .before .before .before .before .before .before .before .if1 .left) (sym (c .before .before .before .before .before .before .before .before .before .before .before .before .before .before .before .before .before .before .before .before .work-wrong .ensures) ∙ c .before .before .before .before .before .before .before .before .before .before .before .before .before .before .before .before .before .before .before .if2 .left) (sym (c .before .before .before .before .before .before .before .before .before .before .before .before .before .before .before .before .before .before .roster-wrong .ensures) ∙ c .before .before .before .before .before .before .before .before .before .before .before .before .before .before .before .before .before .if3 .left) (sym (c .before .before .before .before .before .before .before .before .before .before .before .before .before .before .before .before .triple-wrong .ensures) ∙ c .before .before .before .before .before .before .before .before .before .before .before .before .before .before .before .if4 .left) (sym (c .before .before .before .before .before .before .before .before .before .before .before .before .before .before .covers-triple .ensures) ∙ not-false _ (c .before .before .before .before .before .before .before .before .before .before .before .before .before .if5 .left)) _ _ _ (c .before .before .before .before .before .before .before .before .take-in .ensures)
 

@@ -6,7 +6,7 @@ use Rattle.intake.proofs.take_in.Statement.{statement}
 use Rattle.intake.proofs.take_in.Tie as tie
 
 returns : tie.Need-returns
-returns c = 
+returns c =
     let a = c .before .before .before .before .before .before .args in
     taken-over (a .roster .now) (a .triples .now) (a .summary .now) (a .map .now) (a .work .now) (a .held) (a .summarised) (a .t) (c .if1 .taken)
 
@@ -26,7 +26,7 @@ same-length-2 : tie.Need-same-length-2
 same-length-2 c = search needs
 
 returns-2 : tie.Need-returns-2
-returns-2 c = 
+returns-2 c =
     let a = c .before .before .before .before .before .before .before .before .before .before .before .before .before .before .before .args in
     taken-same (a .roster .now) (a .triples .now) (a .summary .now) (a .map .now) (a .work .now) (a .held) (a .summarised) (a .t) _ (c .before .before .before .before .before .before .before .find-place .ensures) _ (c .before .before .before .before .before .stands-at .ensures) (c .before .before .before .before .if2 .taken) _ (c .before .before .clear .ensures)
 
@@ -46,7 +46,7 @@ same-length-6 : tie.Need-same-length-6
 same-length-6 c = search needs
 
 returns-3 : tie.Need-returns-3
-returns-3 c = 
+returns-3 c =
     let a = c .before .before .before .before .before .before .before .before .before .before .before .before .before .before .before .before .before .before .before .before .before .before .before .before .before .args in
     taken-new (a .roster .now) (a .triples .now) (a .summary .now) (a .map .now) (a .work .now) (a .held) (a .summarised) (a .t) _ (c .before .before .before .before .before .before .before .before .before .before .before .before .before .before .before .before .before .find-place .ensures) _ (c .before .before .before .before .before .before .before .before .before .before .before .before .before .before .before .stands-at .ensures) (c .before .before .before .before .before .before .before .before .before .before .before .before .before .before .if2 .left) (c .before .before .before .before .before .before .before .before .before .before .before .before .before .if3 .taken) _ _ _ (c .before .before .before .before .before .before .before .before .add .ensures)
 
@@ -54,7 +54,7 @@ same-length-7 : tie.Need-same-length-7
 same-length-7 c = search needs
 
 returns-4 : tie.Need-returns-4
-returns-4 c = 
+returns-4 c =
     let a = c .before .before .before .before .before .before .before .before .before .before .before .before .args in
     taken-full (a .roster .now) (a .triples .now) (a .summary .now) (a .map .now) (a .work .now) (a .held) (a .summarised) (a .t) _ (c .before .before .before .before .find-place .ensures) _ (c .before .before .stands-at .ensures) (c .before .if2 .left) (c .if3 .left)
 
