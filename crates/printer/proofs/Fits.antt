@@ -101,11 +101,16 @@ answers-short (a ∷ answers) = omega (arith, length-append (answerLine a) (coll
 report-fits : (ts : List Triple) (m : List ℕ) (answers : List (Outcome Bool)) → length ts ≤ 2048 → AllBelow 512 ts → length m ≤ 512 → ((c : ℕ) → Entry m c) → length answers ≤ 16 → length (report ts m answers) ≤ 49152
 unfolding report
 report-fits ts m answers h b k e l =
-    omega (arith,
-    length-append (summaryLine (length ts)) (collect tripleLine ts ++ (nodeLines m ++ collect answerLine answers)),
-    length-append (collect tripleLine ts) (nodeLines m ++ collect answerLine answers),
-    length-append (nodeLines m) (collect answerLine answers),
-    count-short (length ts) (omega arith), lines-short 512 (omega arith) ts b, nodes-short m k e, answers-short answers)
+    omega (
+      arith,
+      length-append (summaryLine (length ts)) (collect tripleLine ts ++ (nodeLines m ++ collect answerLine answers)),
+      length-append (collect tripleLine ts) (nodeLines m ++ collect answerLine answers),
+      length-append (nodeLines m) (collect answerLine answers),
+      count-short (length ts) (omega arith),
+      lines-short 512 (omega arith) ts b,
+      nodes-short m k e,
+      answers-short answers,
+    )
 
 module _ (roster : List ℕ) (ts : List Triple) (r : Right rdfs roster ts) (size : length roster ≤ 512) where
   entries : (c : ℕ) → Entry (mapOf rdfs roster ts) c

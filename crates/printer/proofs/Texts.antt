@@ -68,14 +68,17 @@ module _ (text list : List ℕ) (size : length list ≡ 3000) (short : length te
     taken-by : (o : Option Forms) → readForms text ≡ o → (f : Forms) × Taken text list′ (r .site) f
     unfolding readList
     taken-by none q = absurd (not-accepted (sym (none-is q) ∙ sym (C .outcome) ∙ ap (λ z. formed z (r .site)) e))
-    taken-by (some f) q = (f, record {
-      says = q;
-      is-site = same-value _ _ (sym (ap (λ z. formed z (r .site)) e) ∙ C .outcome ∙ some-is f q);
-      is-list =
-          C .list
-          ∙ left-after _ _ _ _ (some-is f q)
-          ∙ (λ i. listed (size i) (triplesIn (q i)));
-    })
+    taken-by (some f) q = (
+      f,
+      record {
+        says = q;
+        is-site = same-value _ _ (sym (ap (λ z. formed z (r .site)) e) ∙ C .outcome ∙ some-is f q);
+        is-list =
+            C .list
+            ∙ left-after _ _ _ _ (some-is f q)
+            ∙ (λ i. listed (size i) (triplesIn (q i)));
+      },
+    )
 
     taken : (f : Forms) × Taken text list′ (r .site) f
     taken = taken-by (readForms text) refl

@@ -172,7 +172,13 @@ fn ask_all(table: &[u32], map: &[u32], queries: [Query; 16], count: usize) -> [A
 }
 
 // Stores the report of a summary, its map and the answers.
-fn put_report(out: &mut [u8], table: &[u32], map: &[u32], answers: [Asked; 16], count: usize) -> usize
+fn put_report(
+    out: &mut [u8],
+    table: &[u32],
+    map: &[u32],
+    answers: [Asked; 16],
+    count: usize,
+) -> usize
     requires { ⌜ (count ≤ 16) × (length (now table) ≤ 6144) × (length (now map) ≤ 512) × Room 0 (report (triples (now table)) (now map) (answersIn answers count)) ⌝ }
     ensures { λ r. ⌜ Put (now (out .entry)) 0 (report (triples (now (table .entry))) (now (map .entry)) (answersIn answers count)) (now (out .exit)) r ⌝ }
 {
@@ -183,7 +189,13 @@ fn put_report(out: &mut [u8], table: &[u32], map: &[u32], answers: [Asked; 16], 
 }
 
 // Asks the queries of a summary and its map: 6 where one is refused, else the report.
-fn print_answers(out: &mut [u8], table: &[u32], map: &[u32], queries: [Query; 16], count: usize) -> usize
+fn print_answers(
+    out: &mut [u8],
+    table: &[u32],
+    map: &[u32],
+    queries: [Query; 16],
+    count: usize,
+) -> usize
     requires { ⌜ (count ≤ 16) × (length (now table) ≤ 6144) × (length (now map) ≤ 512) × Room 0 (report (triples (now table)) (now map) (askedOf (now table) (now map) queries count)) ⌝ }
     ensures { λ r. ⌜ Put (now (out .entry)) 0 (shown (asksOutcome (triples (now (table .entry))) (now (map .entry)) (askedOf (now (table .entry)) (now (map .entry)) queries count))) (now (out .exit)) r ⌝ }
 {
@@ -215,7 +227,13 @@ fn print_summary(
 }
 
 // Prints the summary of a saturated table.
-fn print_saturated(out: &mut [u8], table: &[u32], roster: &[u8], queries: [Query; 16], count: usize) -> usize
+fn print_saturated(
+    out: &mut [u8],
+    table: &[u32],
+    roster: &[u8],
+    queries: [Query; 16],
+    count: usize,
+) -> usize
     requires { ⌜ (count ≤ 16) × Whole (now table) (now roster) ⌝ }
     ensures { λ r. ⌜ Put (now (out .entry)) 0 (shown (summaryOutcome (now (roster .entry)) (triples (now (table .entry))) queries count)) (now (out .exit)) r ⌝ }
 {
@@ -223,7 +241,16 @@ fn print_saturated(out: &mut [u8], table: &[u32], roster: &[u8], queries: [Query
     let mut result: [u32; 6144] = [0; 6144];
     let mut map: [u32; 512] = [0; 512];
     let mut work: [u32; 1024] = [0; 1024];
-    print_summary(out, table, roster, &mut result, &mut map[0..n], &mut work[0..2 * n], queries, count)
+    print_summary(
+        out,
+        table,
+        roster,
+        &mut result,
+        &mut map[0..n],
+        &mut work[0..2 * n],
+        queries,
+        count,
+    )
 }
 
 // Saturates a table with its own roster in lent lists, then prints.
@@ -256,7 +283,13 @@ fn print_valid(out: &mut [u8], table: &[u32], n: usize, queries: [Query; 16], co
 }
 
 // Prints a table as it was read.
-fn print_table(out: &mut [u8], table: &[u32], size: u32, queries: [Query; 16], count: usize) -> usize
+fn print_table(
+    out: &mut [u8],
+    table: &[u32],
+    size: u32,
+    queries: [Query; 16],
+    count: usize,
+) -> usize
     requires { ⌜ (count ≤ 16) × (length (now table) % 3 ≡ 0) × (length (now table) ≤ 3000) ⌝ }
     ensures { λ r. ⌜ Put (now (out .entry)) 0 (shown (siteOutcome size (triples (now (table .entry))) queries count)) (now (out .exit)) r ⌝ }
 {
