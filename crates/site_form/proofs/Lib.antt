@@ -6,3 +6,4 @@ pub mod Queries
 pub mod Filled
 pub mod Back
 pub mod Example
+pub mod Order

@@ -2,6 +2,7 @@
 -- Assumes nothing.
 use Prim.Native.Nat.{ℕ}
 use mathlib.Core.Bool.{Bool, true, false, cond, _||_}
+use mathlib.Core.Path.{_≡_}
 use mathlib.Core.List.{List, [], _∷_, _++_, map}
 use mathlib.Core.Option.{Option, none, some}
 use lib.Dec.{eqb, ltb}
@@ -102,3 +103,11 @@ printOutcome text = cond (ltb mostBytes (length text)) (refused 8) (printRead (r
 -- what is printed of the text on standard input
 unfoldable pub printed : List ℕ → List ℕ
 printed text = shown (printOutcome text)
+
+-- 3 comes before 5 and 6: with a wrong code neither the saturation nor the queries matter
+abbrev pub CodesBeforeQueries : Type 0
+CodesBeforeQueries =
+    (n : ℕ) (triples saturated summarised : List Triple) (representatives : List ℕ) (answers : List (Outcome Bool))
+    → (wrongSize n || ltb largestPrinted n) ≡ false
+    → wrongCodes rdfs n triples ≡ true
+    → printChecked n triples saturated summarised representatives answers ≡ refused 3
