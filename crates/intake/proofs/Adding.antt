@@ -43,7 +43,8 @@ use Rattle.builder.specs.Builder.{first}
 use Rattle.summarise.specs.Condensed.{condensedOutcome, Condensed}
 use Rattle.intake.specs.Insertion.{Inserted}
 use Rattle.intake.specs.Opening.{stateWith}
-use Rattle.intake.specs.Feeding.{Known, bad, Ready, Kept, AddCall}
+use Rattle.intake.specs.declared.FedCounts.{FedCounts}
+use Rattle.intake.specs.Feeding.{Known, bad, Ready, Kept, AddCall, refusal}
 use Rattle.intake.proofs.Insertion.{new-mem, inserted-first}
 use Rattle.intake.proofs.Held.{listed-first, held-first, inserted-listed}
 use Rattle.intake.proofs.Quick.{quick-map, quick-summary}
@@ -120,6 +121,9 @@ module _ (roster triples sums map₀ work : List ℕ) (held summarised : ℕ) (t
           steps = λ H W B f. absurd (true≢false (sym h ∙ none-bad H W));
           kept = record { in-triples = refl; in-summary = refl; in-map = refl; in-work = refl };
         }
+
+    pub refused-wrong : any (bad roster) (first triples held) ≡ true → (y : FedCounts) → y ≡ refusal Full held summarised → Adds (found (y .answer)) (stateWith triples sums map₀ (y .held) (y .summarised)) work
+    refused-wrong h y e = subst (λ (y : FedCounts). Adds (found (y .answer)) (stateWith triples sums map₀ (y .held) (y .summarised)) work) (sym e) (added-wrong h)
 
     module _ (m : List ℕ) (I : Inserted triples m held i t) where
       front-is : (H : List Triple) → Valid rdfs roster s H → Bound (at triples) 0 held t i → holds t H ≡ false → first m (held + 1) ≡ insert t H

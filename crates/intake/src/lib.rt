@@ -177,6 +177,17 @@ fn held_wrong(list: &[u32], count: usize, roster: &[u8]) -> bool
     false
 }
 
+// The answer of a refusal, with the counts as they were.
+fn refuse(r: Refusal, held: usize, summarised: usize) -> FedCounts
+    ensures { λ x. ⌜ x ≡ refusal r held summarised ⌝ }
+{
+    FedCounts {
+        answer: Found::Refused(r),
+        held: held,
+        summarised: summarised,
+    }
+}
+
 // Takes in a triple that is not held, at its place i. Only an intake altered by hand holds wrong triples.
 fn add(
     held: usize,
@@ -194,7 +205,7 @@ fn add(
 {
     if image_known(summary, summarised, map, t) {
         insert_at(triples, held, i, t);
-        clear(work, 0, work.len());
+        clear(work, 0, work.len()); // as after a summary
         return FedCounts {
             answer: Found::Yes,
             held: held + 1,
@@ -202,20 +213,12 @@ fn add(
         };
     }
     if held_wrong(triples, held, roster) {
-        return FedCounts {
-            answer: Found::Refused(Refusal::Full),
-            held: held,
-            summarised: summarised,
-        };
+        return refuse(Refusal::Full, held, summarised);
     }
     insert_at(triples, held, i, t);
     let count = held + 1;
     match condense(triples, count, roster, summary, map, work) {
-        Counted::Refused(r) => FedCounts {
-            answer: Found::Refused(r),
-            held: held,
-            summarised: summarised,
-        },
+        Counted::Refused(r) => refuse(r, held, summarised),
         Counted::Count(k) => FedCounts {
             answer: Found::Yes,
             held: count,
@@ -273,17 +276,6 @@ fn work_wrong(n: usize, work: usize) -> bool
         return true;
     }
     work / 2 != n
-}
-
-// The answer of a refusal, with the counts as they were.
-fn refuse(r: Refusal, held: usize, summarised: usize) -> FedCounts
-    ensures { λ x. ⌜ x ≡ refusal r held summarised ⌝ }
-{
-    FedCounts {
-        answer: Found::Refused(r),
-        held: held,
-        summarised: summarised,
-    }
 }
 
 // Feeds a triple to an intake with two counts, over plain lists.

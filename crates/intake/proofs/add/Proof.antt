@@ -2,7 +2,7 @@
 -- Assumes nothing.
 use mathlib.Core.Path.{sym, _∙_}
 use native.Mathlib.Omega.{arith}
-use Rattle.intake.proofs.Adding.{below-map, added-quick, added-wrong, right-after, added-never, added-slow}
+use Rattle.intake.proofs.Adding.{below-map, added-quick, refused-wrong, right-after, added-never, added-slow}
 use borrow.Author.Needs.{needs}
 use Rattle.intake.proofs.add.Statement.{statement}
 use Rattle.intake.proofs.add.Tie as tie
@@ -43,6 +43,9 @@ returns c =
 held-wrong-requires : tie.Need-held-wrong-requires
 held-wrong-requires c κs = search needs
 
+refuse-requires : tie.Need-refuse-requires
+refuse-requires c κs = search needs
+
 same-length-5 : tie.Need-same-length-5
 same-length-5 c = search needs
 
@@ -54,9 +57,9 @@ same-length-7 c = search needs
 
 returns-2 : tie.Need-returns-2
 returns-2 c =
-    let a = c .before .before .before .before .before .before .before .before .before .before .before .before .args in
-    let p = c .before .before .before .before .before .before .before .before .before .before .before .before .pre in
-    added-wrong (a .roster .now) (a .triples .now) (a .summary .now) (a .map .now) (a .work .now) (a .held) (a .summarised) (a .t) (a .i) (p .0) (p .1) (p .2) (sym (c .before .held-wrong .ensures) ∙ c .if2 .taken)
+    let a = c .before .before .before .before .before .before .before .before .before .before .before .before .before .args in
+    let p = c .before .before .before .before .before .before .before .before .before .before .before .before .before .pre in
+    refused-wrong (a .roster .now) (a .triples .now) (a .summary .now) (a .map .now) (a .work .now) (a .held) (a .summarised) (a .t) (a .i) (p .0) (p .1) (p .2) (sym (c .before .before .held-wrong .ensures) ∙ c .before .if2 .taken) _ (c .refuse .ensures)
 
 insert-at-requires-2 : tie.Need-insert-at-requires-2
 insert-at-requires-2 c κs = search needs
@@ -78,6 +81,9 @@ condense-requires c κs =
 enum-known-r : tie.Need-enum-known-r
 enum-known-r c = search needs
 
+refuse-requires-2 : tie.Need-refuse-requires-2
+refuse-requires-2 c κs = search needs
+
 enum-known-k : tie.Need-enum-known-k
 enum-known-k c = search needs
 
@@ -95,9 +101,9 @@ same-length-11 c = search needs
 
 returns-3 : tie.Need-returns-3
 returns-3 c =
-    let a = c .before .before .before .before .before .before .before .before .before .before .before .before .before .before .before .before .before .before .before .before .before .before .before .before .before .before .before .before .before .before .args in
-    let p = c .before .before .before .before .before .before .before .before .before .before .before .before .before .before .before .before .before .before .before .before .before .before .before .before .before .before .before .before .before .before .pre in
-    added-never (a .roster .now) (a .triples .now) (a .summary .now) (a .map .now) (a .work .now) (a .held) (a .summarised) (a .t) (a .i) (p .0) (p .1) (p .2) _ (c .before .before .before .before .before .before .before .before .before .before .before .before .before .before .before .before .insert-at2 .ensures) _ _ _ _ (c .before .before .before .before .before .before .before .before .before .condense .ensures) _ (c .before .r .given .1)
+    let a = c .before .before .before .before .before .before .before .before .before .before .before .before .before .before .before .before .before .before .before .before .before .before .before .before .before .before .before .before .before .before .before .args in
+    let p = c .before .before .before .before .before .before .before .before .before .before .before .before .before .before .before .before .before .before .before .before .before .before .before .before .before .before .before .before .before .before .before .pre in
+    added-never (a .roster .now) (a .triples .now) (a .summary .now) (a .map .now) (a .work .now) (a .held) (a .summarised) (a .t) (a .i) (p .0) (p .1) (p .2) _ (c .before .before .before .before .before .before .before .before .before .before .before .before .before .before .before .before .before .insert-at2 .ensures) _ _ _ _ (c .before .before .before .before .before .before .before .before .before .before .condense .ensures) _ (c .before .before .r .given .1)
 
 same-length-12 : tie.Need-same-length-12
 same-length-12 c = search needs
@@ -131,6 +137,7 @@ add-spec =
     same-length-4
     returns
     held-wrong-requires
+    refuse-requires
     same-length-5
     same-length-6
     same-length-7
@@ -139,6 +146,7 @@ add-spec =
     add-count
     condense-requires
     enum-known-r
+    refuse-requires-2
     enum-known-k
     same-length-8
     same-length-9
