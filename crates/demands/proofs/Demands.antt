@@ -9,6 +9,7 @@ use Rattle.site_form.proofs.Queries.{counts-patterns}
 use Rattle.site_form.proofs.Example.{sign-bytes, prints-example}
 use Rattle.demands.specs.Demands.{GraphsRight, Demand2, Demand3, SiteForms}
 use Rattle.demands.proofs.NoneMeansNone.{none-means-none}
+use Rattle.demands.proofs.Feeds.{list-of-calls}
 use Rattle.demands.proofs.Routes.{shortcut-of-calls, none-of-calls, ask-refuses-six}
 
 pub graphs-right : GraphsRight
@@ -36,6 +37,7 @@ demand-3 =
       none-means-none = none-means-none;
       none-of-calls = none-of-calls;
       whole-list = theorems.whole-list;
+      list-of-calls = list-of-calls;
     }
 
 pub site-forms : SiteForms

@@ -8,6 +8,7 @@ use Rattle.site_form.specs.Writing.{WrittenIsRead}
 use Rattle.site_form.specs.Example.{SignBytes, PrintsExample}
 use Rattle.theory.specs.Theorems.{SaturationExact, CliquesExact, RepresentativesExact, SummaryExact, OwnRosterLeast, ShortcutHolds, RoutesAccepted, AnyOrder, FedInAnyOrder, WholeList}
 use Rattle.demands.specs.NoneMeansNone.{NoneMeansNone}
+use Rattle.demands.specs.Feeds.{ListOfCalls}
 use Rattle.demands.specs.Routes.{ShortcutOfCalls, NoneOfCalls, AskRefusesSix}
 
 -- the small graphs of 01, computed
@@ -31,6 +32,7 @@ pub record Demand3 : Type 0 where
   pub none-means-none : NoneMeansNone
   pub none-of-calls : NoneOfCalls
   pub whole-list : WholeList
+  pub list-of-calls : ListOfCalls
 
 -- the site form: read exactly, read back as written, and 01's example printed
 pub record SiteForms : Type 0 where

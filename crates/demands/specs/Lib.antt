@@ -1,3 +1,4 @@
 pub mod NoneMeansNone
 pub mod Routes
+pub mod Feeds
 pub mod Demands
