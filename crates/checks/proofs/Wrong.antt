@@ -3,17 +3,19 @@
 use Prim.Native.Nat.{ℕ, _+_, _*_, _/_, _%_, _<_, _≤_}
 use native.Mathlib.Omega.{arith}
 use mathlib.Core.Path.{_≡_, refl, sym, ap, _∙_}
-use mathlib.Core.Bool.{Bool, true, false}
+use mathlib.Core.Bool.{Bool, true, false, not}
+use mathlib.Core.Logic.{_⊎_, inl, inr}
 use mathlib.Core.List.{List}
-use lib.Dec.{ltb}
+use lib.Dec.{ltb, eqb}
 use lib.ListN.{length}
-use borrow.Author.Tests.{lt-ltb, le-ltb, le-leb, lt-leb, eq-eqb, ne-eqb}
+use borrow.Author.Tests.{lt-ltb, le-ltb, le-leb, lt-leb, eqb-true, eqb-false, eq-eqb, ne-eqb}
 use Rattle.model.specs.declared.Triple.{Triple}
 use Rattle.model.specs.Codes.{rdfs, reserved}
 use Rattle.model.specs.Lists.{any, tabulate}
 use Rattle.model.specs.Triples.{triples}
 use Rattle.model.specs.Roster.{wrongEnd, wrongTriple, wrongCodes}
-use Rattle.model.specs.Outcomes.{wrongSize, wrongLength}
+use Rattle.model.specs.Outcomes.{wrongSize, wrongLength, wrongWork}
+use Rattle.theory.proofs.Tests.{bool-cases}
 use Rattle.lists.specs.Flat.{at}
 use Rattle.checks.proofs.Places.{run-none, run-more, run-holds}
 use Rattle.lists.proofs.Places.{triples-table}
@@ -88,3 +90,17 @@ module _ (table : List ℕ) (n : ℕ) where
   codes-end i h l =
       let e : length table / 3 ≡ i = omega (arith, h .within) in
       sym (ap (any (wrongTriple rdfs n)) (triples-table table ∙ ap (tabulate (at table) 0) e) ∙ h .none)
+
+-- ── the work list ──
+module _ (n work : ℕ) where
+  pub work-odd : (work % 2 ≡ 0 → ⊥) → true ≡ wrongWork n work
+  unfolding wrongWork
+  work-odd h = sym (ap not (ne-eqb work (2 * n) (λ q. h (omega arith))))
+
+  pub work-half : work % 2 ≡ 0 → (r : Bool) → r ≡ not (eqb (work / 2) n) → r ≡ wrongWork n work
+  unfolding wrongWork
+  work-half h r q = q ∙ ap not (halves (bool-cases (eqb (work / 2) n)))
+    where
+      halves : (eqb (work / 2) n ≡ true) ⊎ (eqb (work / 2) n ≡ false) → eqb (work / 2) n ≡ eqb work (2 * n)
+      halves (inl e) = e ∙ sym (eq-eqb work (2 * n) (omega (arith, eqb-true (work / 2) n e)))
+      halves (inr e) = e ∙ sym (ne-eqb work (2 * n) (λ z. eqb-false (work / 2) n e (omega arith)))

@@ -4,7 +4,7 @@ ghost use mathlib.Core.Path.{_≡_};
 ghost use Rattle.model.specs.Codes.{rdfs};
 ghost use Rattle.model.specs.Triples.{triples};
 ghost use Rattle.model.specs.Roster.{wrongEnd, wrongTriple, wrongCodes};
-ghost use Rattle.model.specs.Outcomes.{wrongSize, wrongLength};
+ghost use Rattle.model.specs.Outcomes.{wrongSize, wrongLength, wrongWork};
 use lists::Code;
 use model::Triple;
 
@@ -32,6 +32,16 @@ pub fn length_wrong(l: usize) -> bool
         return true;
     }
     LONGEST_TABLE < l
+}
+
+// Whether the work list has not two numbers for each code.
+pub fn work_wrong(n: usize, work: usize) -> bool
+    ensures { λ r. ⌜ r ≡ wrongWork n work ⌝ }
+{
+    if work % 2 != 0 {
+        return true;
+    }
+    work / 2 != n
 }
 
 // A subject or an object: not below n, or reserved.

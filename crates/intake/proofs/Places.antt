@@ -113,17 +113,3 @@ good-end l roster i n g h = any-nowhere (bad roster) (at l) n i h (g .good)
 
 pub below-of : (n : ℕ) (t : Triple) → wrongTriple rdfs n t ≡ false → Below n t
 below-of n t h = (codes-right rdfs n t h) .below
-
--- ── the work list's length ──
-module _ (n work : ℕ) where
-  pub work-odd : (work % 2 ≡ 0 → ⊥) → true ≡ wrongWork n work
-  unfolding wrongWork
-  work-odd h = sym (ap not (ne-eqb work (2 * n) (λ q. h (omega arith))))
-
-  pub work-half : work % 2 ≡ 0 → (r : Bool) → r ≡ not (eqb (work / 2) n) → r ≡ wrongWork n work
-  unfolding wrongWork
-  work-half h r q = q ∙ ap not (halves (bool-cases (eqb (work / 2) n)))
-    where
-      halves : (eqb (work / 2) n ≡ true) ⊎ (eqb (work / 2) n ≡ false) → eqb (work / 2) n ≡ eqb work (2 * n)
-      halves (inl e) = e ∙ sym (eq-eqb work (2 * n) (omega (arith, eqb-true (work / 2) n e)))
-      halves (inr e) = e ∙ sym (ne-eqb work (2 * n) (λ z. eqb-false (work / 2) n e (omega arith)))

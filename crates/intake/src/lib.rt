@@ -8,7 +8,7 @@ ghost use lib.ListN.{length};
 ghost use Rattle.model.specs.Codes.{rdfs};
 ghost use Rattle.model.specs.Lists.{any};
 ghost use Rattle.model.specs.Triples.{triple};
-ghost use Rattle.model.specs.Outcomes.{done, found, wrongWork};
+ghost use Rattle.model.specs.Outcomes.{done, found};
 ghost use Rattle.model.specs.Intake.{Fed};
 ghost use Rattle.theory.proofs.Covered.{Below};
 ghost use Rattle.builder.specs.Builder.{first};
@@ -17,6 +17,7 @@ ghost use Rattle.intake.specs.Opening.{wrongLengths, stateWith, OpenCall
 ghost use Rattle.intake.specs.Feeding.{Place, StandsAt, Known, bad, Ready, AddCall, Taken, refusal};
 use checks::size_wrong;
 use checks::triple_wrong;
+use checks::work_wrong;
 use cliques::empty;
 use lists::Code;
 use lists::before_at;
@@ -266,16 +267,6 @@ fn take_in(
         held: held,
         summarised: summarised,
     }
-}
-
-// Whether the work list has not two numbers for each code.
-fn work_wrong(n: usize, work: usize) -> bool
-    ensures { λ r. ⌜ r ≡ wrongWork n work ⌝ }
-{
-    if work % 2 != 0 {
-        return true;
-    }
-    work / 2 != n
 }
 
 // Feeds a triple to an intake with two counts, over plain lists.

@@ -47,20 +47,5 @@ module _ (n map work : ℕ) where
   pub wrong-map : (map ≡ n → ⊥) → true ≡ wrong
   wrong-map h = sym (or-left (not (eqb map n)) _ (ap not (ne-eqb map n h)))
 
-  twice : (b : Bool) → not (not b) ≡ b
-  twice true = refl
-  twice false = refl
-
-  by-work : map ≡ n → (b : Bool) → eqb work (2 * n) ≡ not b → b ≡ wrong
-  unfolding wrongWork
-  by-work e b h = sym ((λ i. not (eq-eqb map n e i) || not (h i)) ∙ twice b)
-
-  pub wrong-odd : map ≡ n → (work % 2 ≡ 0 → ⊥) → true ≡ wrong
-  wrong-odd e h = by-work e true (ne-eqb work (2 * n) (λ q. h (omega arith)))
-
-  pub wrong-half : map ≡ n → work % 2 ≡ 0 → (r : Bool) → r ≡ not (eqb (work / 2) n) → r ≡ wrong
-  wrong-half e h r q = q ∙ by-work e (not (eqb (work / 2) n)) (halves (bool-cases (eqb (work / 2) n)))
-    where
-      halves : (eqb (work / 2) n ≡ true) ⊎ (eqb (work / 2) n ≡ false) → eqb work (2 * n) ≡ not (not (eqb (work / 2) n))
-      halves (inl t) = eq-eqb work (2 * n) (omega (arith, eqb-true (work / 2) n t)) ∙ sym (ap (λ (b : Bool). not (not b)) t)
-      halves (inr f) = ne-eqb work (2 * n) (λ k. eqb-false (work / 2) n f (omega arith)) ∙ sym (ap (λ (b : Bool). not (not b)) f)
+  pub wrong-work : map ≡ n → (r : Bool) → r ≡ wrongWork n work → r ≡ wrong
+  wrong-work e r q = q ∙ sym (ap (λ (b : Bool). not b || wrongWork n work) (eq-eqb map n e))

@@ -17,6 +17,7 @@ ghost use Rattle.summarise.specs.Condensed.{Condensed, SummariseCall};
 use builder::Builder;
 use builder::finish;
 use builder::offer;
+use checks::work_wrong;
 use lists::clear;
 use lists::triple_at;
 use model::Counted;
@@ -91,10 +92,7 @@ fn lengths_wrong(n: usize, map: usize, work: usize) -> bool
     if map != n {
         return true;
     }
-    if work % 2 != 0 {
-        return true;
-    }
-    work / 2 != n
+    work_wrong(n, work)
 }
 
 // The summary of a table in rising order, the map of representatives, and the summary's size.

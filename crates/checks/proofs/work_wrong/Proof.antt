@@ -1,9 +1,9 @@
--- `intake::work_wrong` meets its contract.
+-- `checks::work_wrong` meets its contract.
 -- Assumes nothing.
 use mathlib.Core.Path.{refl}
-use Rattle.intake.proofs.Places.{work-odd, work-half}
-use Rattle.intake.proofs.work_wrong.Statement.{statement}
-use Rattle.intake.proofs.work_wrong.Tie as tie
+use Rattle.checks.proofs.Wrong.{work-odd, work-half}
+use Rattle.checks.proofs.work_wrong.Statement.{statement}
+use Rattle.checks.proofs.work_wrong.Tie as tie
 
 returns : tie.Need-returns
 returns c = work-odd _ _ (c .if1 .taken)
