@@ -1,0 +1,83 @@
+use Prim.Native.Nat.{ℕ, _+_, _*_, _-_, _<_, _≤_}
+use mathlib.Core.Path.{_≡_}
+use native.Mathlib.Omega.{arith}
+use lib.ListN.{length}
+use borrow.Author.Needs.{needs}
+use Rattle.weak_summary.proofs.put_query.Statement.{statement}
+use Rattle.weak_summary.proofs.put_query.Tie as tie
+use Rattle.weak_summary.proofs.put_query.Reads as reads
+use Rattle.weak_summary.proofs.put_query.Lts as lts
+use Rattle.weak_summary.proofs.put_pattern.Reads as put-pattern-reads
+
+abbrev Inv-loop : tie.InvT-loop
+Inv-loop list₀ k q i j₀ list j = (length list ≡ 656) × (j ≤ 8) × (i ≡ 41 * k)
+
+abbrev μ-loop : tie.MeasureT-loop
+μ-loop list₀ k q i j₀ list j = 8 - j
+
+mul-i : tie.Need-mul-i Inv-loop μ-loop
+mul-i c = search needs
+
+mul-list : tie.Need-mul-list Inv-loop μ-loop
+mul-list c = search needs
+
+slice-write-list : tie.Need-slice-write-list Inv-loop μ-loop
+slice-write-list c = search needs
+
+loop-holds : tie.Need-loop-holds Inv-loop μ-loop
+loop-holds c = search needs
+
+mul-p : tie.Need-mul-p Inv-loop μ-loop
+mul-p c = search needs
+
+element-copy-out-p : tie.Need-element-copy-out-p Inv-loop μ-loop
+element-copy-out-p c = search needs
+
+add-put-pattern : tie.Need-add-put-pattern Inv-loop μ-loop
+add-put-pattern c = search needs
+
+mul-put-pattern : tie.Need-mul-put-pattern Inv-loop μ-loop
+mul-put-pattern c = search needs
+
+add-put-pattern-2 : tie.Need-add-put-pattern-2 Inv-loop μ-loop
+add-put-pattern-2 c = search needs
+
+put-pattern-requires : tie.Need-put-pattern-requires Inv-loop μ-loop
+put-pattern-requires c κs = search needs
+
+add-j : tie.Need-add-j Inv-loop μ-loop
+add-j c = search needs
+
+loop-less : tie.Need-loop-less Inv-loop μ-loop
+loop-less c = search needs
+
+loop-again : tie.Need-loop-again Inv-loop μ-loop
+loop-again c = search needs
+
+same-length : tie.Need-same-length Inv-loop μ-loop
+same-length c = search needs
+
+returns : tie.Need-returns Inv-loop μ-loop
+returns c = search needs
+
+pub put-query-spec : {M : Type 1} → statement M
+put-query-spec =
+    tie.close
+    (tie.spec
+    Inv-loop
+    μ-loop
+    mul-i
+    mul-list
+    slice-write-list
+    loop-holds
+    mul-p
+    element-copy-out-p
+    add-put-pattern
+    mul-put-pattern
+    add-put-pattern-2
+    put-pattern-requires
+    add-j
+    loop-less
+    loop-again
+    same-length
+    returns)

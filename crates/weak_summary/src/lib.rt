@@ -1,0 +1,331 @@
+// The calls of the scope paper for other languages: numbers and slices only. Each call answers 0 or the number of its refusal;
+// what else it gives is stored through the numbers that are lent, and a refusal leaves these alone.
+
+ghost use mathlib.Core.Path.{_≡_};
+ghost use Prim.Native.Nat.{_+_, _*_, _<_, _≤_};
+ghost use lib.ListN.{length};
+use cliques::cliques;
+use intake::feed_lists;
+use intake::open_counts;
+use look_up::look_up;
+use model::Counted;
+use model::Done;
+use model::Found;
+use model::Refusal;
+use model::Triple;
+use query::Asked;
+use query::End;
+use query::Pattern;
+use query::Query;
+use query::ask;
+use roster::own_roster;
+use saturate::saturate;
+use site_form::Form;
+use site_reader::read;
+use site_writer::write;
+use summarise::summarise;
+
+// The numbers of a flat query: the count, and five for each of eight patterns.
+pub const QUERY_NUMBERS: usize = 41;
+
+// The numbers of the sixteen flat queries of a text.
+pub const QUERIES_NUMBERS: usize = 656;
+
+// The number of a refusal.
+pub fn status(r: Refusal) -> u32 {
+    match r {
+        Refusal::Length => 1,
+        Refusal::Roster => 2,
+        Refusal::Code => 3,
+        Refusal::Cover => 4,
+        Refusal::Slots => 5,
+        Refusal::Query => 6,
+        Refusal::Full => 7,
+        Refusal::Form => 8,
+    }
+}
+
+fn done_status(d: Done) -> u32 {
+    match d {
+        Done::Accepted => 0,
+        Done::Refused(r) => status(r),
+    }
+}
+
+// Stores the count of an accepted call.
+fn counted_status(c: Counted, count: &mut usize) -> u32 {
+    match c {
+        Counted::Count(k) => {
+            *count = k;
+            0
+        },
+        Counted::Refused(r) => status(r),
+    }
+}
+
+// Stores 1 for yes and 0 for no.
+fn found_status(f: Found, found: &mut u32) -> u32 {
+    match f {
+        Found::Yes => {
+            *found = 1;
+            0
+        },
+        Found::No => {
+            *found = 0;
+            0
+        },
+        Found::Refused(r) => status(r),
+    }
+}
+
+// Stores 1 for maybe and 0 for none.
+fn asked_status(a: Asked, maybe: &mut u32) -> u32 {
+    match a {
+        Asked::Maybe => {
+            *maybe = 1;
+            0
+        },
+        Asked::None => {
+            *maybe = 0;
+            0
+        },
+        Asked::Refused(r) => status(r),
+    }
+}
+
+// An end from its two numbers: 0 and a variable, or 1 and a code. Another first number gives a variable over 7, which ask refuses.
+fn end_of(kind: u32, value: u32) -> End {
+    if kind == 0 {
+        return End::Var(value);
+    }
+    if kind == 1 {
+        return End::Code(value);
+    }
+    End::Var(8)
+}
+
+// The pattern at place k of a flat query.
+fn pattern_at(query: &[u32], k: usize) -> Pattern
+    requires { ⌜ (length (now query) ≡ 41) × (k < 8) ⌝ }
+{
+    let i = 5 * k + 1;
+    let subject = end_of(query[i], query[i + 1]);
+    let property = query[i + 2];
+    let object = end_of(query[i + 3], query[i + 4]);
+    Pattern {
+        subject,
+        property,
+        object,
+    }
+}
+
+// The query of a flat query.
+fn query_of(query: &[u32]) -> Query
+    requires { ⌜ length (now query) ≡ 41 ⌝ }
+{
+    let mut patterns = [pattern_at(query, 0); 8];
+    let mut k = 1;
+    while k < 8 {
+        patterns[k] = pattern_at(query, k);
+        k += 1;
+    }
+    let count = query[0];
+    Query { patterns, count }
+}
+
+#[no_mangle]
+pub extern "C" fn ws_own_roster(table: &[u32], roster: &mut [u8]) -> u32 {
+    done_status(own_roster(table, roster))
+}
+
+#[no_mangle]
+pub extern "C" fn ws_saturate(
+    table: &[u32],
+    roster: &[u8],
+    result: &mut [u32],
+    count: &mut usize,
+) -> u32 {
+    counted_status(saturate(table, roster, result), count)
+}
+
+#[no_mangle]
+pub extern "C" fn ws_cliques(
+    table: &[u32],
+    roster: &[u8],
+    sources: &mut [u32],
+    targets: &mut [u32],
+) -> u32 {
+    done_status(cliques(table, roster, sources, targets))
+}
+
+#[no_mangle]
+pub extern "C" fn ws_summarise(
+    table: &[u32],
+    roster: &[u8],
+    result: &mut [u32],
+    map: &mut [u32],
+    work: &mut [u32],
+    count: &mut usize,
+) -> u32 {
+    counted_status(summarise(table, roster, result, map, work), count)
+}
+
+#[no_mangle]
+pub extern "C" fn ws_look_up(list: &[u32], s: u32, p: u32, o: u32, found: &mut u32) -> u32 {
+    let t = Triple {
+        subject: s,
+        property: p,
+        object: o,
+    };
+    found_status(look_up(list, t), found)
+}
+
+#[no_mangle]
+pub extern "C" fn ws_ask(table: &[u32], map: &[u32], query: &[u32], maybe: &mut u32) -> u32 {
+    if query.len() != QUERY_NUMBERS {
+        return status(Refusal::Length);
+    }
+    asked_status(ask(table, map, query_of(query)), maybe)
+}
+
+#[no_mangle]
+pub extern "C" fn ws_open(
+    roster: &[u8],
+    triples: &mut [u32],
+    summary: &mut [u32],
+    map: &mut [u32],
+    held: &mut usize,
+    summarised: &mut usize,
+) -> u32 {
+    let opened = open_counts(*held, *summarised, roster, triples, summary, map);
+    let answer = opened.answer;
+    *held = opened.held;
+    *summarised = opened.summarised;
+    done_status(answer)
+}
+
+#[no_mangle]
+pub extern "C" fn ws_feed(
+    roster: &[u8],
+    triples: &mut [u32],
+    summary: &mut [u32],
+    map: &mut [u32],
+    work: &mut [u32],
+    s: u32,
+    p: u32,
+    o: u32,
+    held: &mut usize,
+    summarised: &mut usize,
+    new: &mut u32,
+) -> u32 {
+    let fed = feed_lists(
+        *held,
+        *summarised,
+        roster,
+        triples,
+        summary,
+        map,
+        work,
+        s,
+        p,
+        o,
+    );
+    let answer = fed.answer;
+    *held = fed.held;
+    *summarised = fed.summarised;
+    found_status(answer, new)
+}
+
+#[no_mangle]
+pub extern "C" fn ws_write(n: u32, table: &[u32], out: &mut [u8], count: &mut usize) -> u32 {
+    counted_status(write(n, table, out), count)
+}
+
+// Stores an end's two numbers.
+fn put_end(list: &mut [u32], i: usize, e: End)
+    requires { ⌜ i + 1 < length (now list) ⌝ }
+    ensures { λ r. ⌜ length (now (list .exit)) ≡ length (now (list .entry)) ⌝ }
+{
+    match e {
+        End::Var(v) => {
+            list[i] = 0;
+            list[i + 1] = v;
+        },
+        End::Code(c) => {
+            list[i] = 1;
+            list[i + 1] = c;
+        },
+    }
+}
+
+// Stores a pattern's five numbers.
+fn put_pattern(list: &mut [u32], i: usize, p: Pattern)
+    requires { ⌜ i + 4 < length (now list) ⌝ }
+    ensures { λ r. ⌜ length (now (list .exit)) ≡ length (now (list .entry)) ⌝ }
+{
+    let subject = p.subject;
+    let object = p.object;
+    put_end(list, i, subject);
+    list[i + 2] = p.property;
+    put_end(list, i + 3, object);
+}
+
+// Stores a query as the k-th flat query of the list.
+fn put_query(list: &mut [u32], k: usize, q: Query)
+    requires { ⌜ (length (now list) ≡ 656) × (k < 16) ⌝ }
+    ensures { λ r. ⌜ length (now (list .exit)) ≡ length (now (list .entry)) ⌝ }
+{
+    let i = QUERY_NUMBERS * k;
+    list[i] = q.count;
+    let mut j = 0;
+    while j < 8 {
+        let p = q.patterns[j];
+        put_pattern(list, i + 1 + 5 * j, p);
+        j += 1;
+    }
+}
+
+// Stores sixteen queries as flat queries.
+fn put_queries(list: &mut [u32], queries: [Query; 16])
+    requires { ⌜ length (now list) ≡ 656 ⌝ }
+    ensures { λ r. ⌜ length (now (list .exit)) ≡ length (now (list .entry)) ⌝ }
+{
+    let mut k = 0;
+    while k < 16 {
+        put_query(list, k, queries[k]);
+        k += 1;
+    }
+}
+
+// The status of a text that was read.
+fn form_status(f: Form) -> u32 {
+    match f {
+        Form::Read => 0,
+        Form::Refused(r) => status(r),
+    }
+}
+
+// Reads a text. N, the number of triples and of queries are 0 after refusals 8 and 5; the list of queries is then all blank, as
+// queries past the number read are: count 0, and patterns of two variables 0 and property 0, that is all zero.
+#[no_mangle]
+pub extern "C" fn ws_read(
+    text: &[u8],
+    list: &mut [u32],
+    queries: &mut [u32],
+    n: &mut u32,
+    count: &mut usize,
+    asks: &mut usize,
+) -> u32 {
+    if queries.len() != QUERIES_NUMBERS {
+        return status(Refusal::Length);
+    }
+    let answer = read(text, list);
+    let site = answer.site;
+    *n = site.size;
+    *count = site.count;
+    *asks = site.asks;
+    let read_queries = site.queries;
+    put_queries(queries, read_queries);
+    let form = answer.form;
+    form_status(form)
+}
