@@ -1,8 +1,9 @@
-use Prim.Native.Nat.{ℕ, _+_, _*_, _-_, _<_, _≤_}
-use mathlib.Core.Path.{_≡_}
-use native.Mathlib.Omega.{arith}
-use lib.ListN.{length}
+use mathlib.Core.Path.{_≡_, refl, _∙_}
+use lib.ListN.{length, length-set}
 use borrow.Author.Needs.{needs}
+use Prim.Native.Nat.{_+_, _*_, _-_}
+use native.Mathlib.Omega.{arith}
+use Rattle.weak_summary.proofs.Queries.{PuttingPatterns, putting-start, putting-length, putting-step, query-put}
 use Rattle.weak_summary.proofs.put_query.Statement.{statement}
 use Rattle.weak_summary.proofs.put_query.Tie as tie
 use Rattle.weak_summary.proofs.put_query.Reads as reads
@@ -10,7 +11,7 @@ use Rattle.weak_summary.proofs.put_query.Lts as lts
 use Rattle.weak_summary.proofs.put_pattern.Reads as put-pattern-reads
 
 abbrev Inv-loop : tie.InvT-loop
-Inv-loop list₀ k q i j₀ list j = (length list ≡ 656) × (j ≤ 8) × (i ≡ 41 * k)
+Inv-loop list₀ k q i j₀ list j = (length list₀ ≡ 656) × (i ≡ 41 * k) × PuttingPatterns list₀ (i + 1) q list j
 
 abbrev μ-loop : tie.MeasureT-loop
 μ-loop list₀ k q i j₀ list j = 8 - j
@@ -25,7 +26,7 @@ slice-write-list : tie.Need-slice-write-list Inv-loop μ-loop
 slice-write-list c = search needs
 
 loop-holds : tie.Need-loop-holds Inv-loop μ-loop
-loop-holds c = search needs
+loop-holds c = (simp length-set (c .before .pre .0), refl, putting-start _ _ _)
 
 mul-p : tie.Need-mul-p Inv-loop μ-loop
 mul-p c = search needs
@@ -43,22 +44,22 @@ add-put-pattern-2 : tie.Need-add-put-pattern-2 Inv-loop μ-loop
 add-put-pattern-2 c = search needs
 
 put-pattern-requires : tie.Need-put-pattern-requires Inv-loop μ-loop
-put-pattern-requires c κs = search needs
+put-pattern-requires c κs = omega (arith, putting-length _ _ _ _ _ (c .before .before .before .loop .inv .2))
 
 add-j : tie.Need-add-j Inv-loop μ-loop
 add-j c = search needs
 
 loop-less : tie.Need-loop-less Inv-loop μ-loop
-loop-less c = search needs
+loop-less c = omega arith
 
 loop-again : tie.Need-loop-again Inv-loop μ-loop
-loop-again c = search needs
+loop-again c = (c .before .before .before .before .before .before .loop .inv .0, c .before .before .before .before .before .before .loop .inv .1, putting-step _ _ _ _ _ (c .before .before .before .before .before .before .loop .inv .2) (c .before .before .before .before .before .loop-test .taken) _ (c .before .before .put-pattern .ensures))
 
 same-length : tie.Need-same-length Inv-loop μ-loop
-same-length c = search needs
+same-length c = putting-length _ _ _ _ _ (c .before .loop .inv .2) ∙ simp length-set
 
 returns : tie.Need-returns Inv-loop μ-loop
-returns c = search needs
+returns c = query-put _ _ _ _ _ (c .before .loop .inv .2) (c .loop-test .left)
 
 pub put-query-spec : {M : Type 1} → statement M
 put-query-spec =

@@ -1,7 +1,7 @@
-use Prim.Native.Nat.{ℕ, _+_, _*_, _-_, _<_, _≤_}
-use mathlib.Core.Path.{_≡_}
+use Prim.Native.Nat.{_-_}
 use native.Mathlib.Omega.{arith}
-use lib.ListN.{length}
+use mathlib.Core.Path.{refl}
+use Rattle.weak_summary.proofs.Queries.{Patterns, patterns-start, patterns-step, patterns-end}
 use borrow.Author.Needs.{needs}
 use Rattle.weak_summary.proofs.query_of.Statement.{statement}
 use Rattle.weak_summary.proofs.query_of.Tie as tie
@@ -10,19 +10,16 @@ use Rattle.weak_summary.proofs.query_of.Lts as lts
 use Rattle.weak_summary.proofs.pattern_at.Reads as pattern-at-reads
 
 abbrev Inv-loop : tie.InvT-loop
-Inv-loop query patterns₀ k₀ patterns k = (0 < k) × (k ≤ 8)
+Inv-loop query patterns₀ k₀ patterns k = Patterns query patterns k
 
 abbrev μ-loop : tie.MeasureT-loop
 μ-loop query patterns₀ k₀ patterns k = 8 - k
 
+loop-holds : tie.Need-loop-holds Inv-loop μ-loop
+loop-holds c = patterns-start _ _ refl
+
 pattern-at-requires : tie.Need-pattern-at-requires Inv-loop μ-loop
 pattern-at-requires c κs = search needs
-
-loop-holds : tie.Need-loop-holds Inv-loop μ-loop
-loop-holds c = search needs
-
-pattern-at-requires-2 : tie.Need-pattern-at-requires-2 Inv-loop μ-loop
-pattern-at-requires-2 c κs = search needs
 
 mul-patterns : tie.Need-mul-patterns Inv-loop μ-loop
 mul-patterns c = search needs
@@ -34,16 +31,16 @@ add-k : tie.Need-add-k Inv-loop μ-loop
 add-k c = search needs
 
 loop-less : tie.Need-loop-less Inv-loop μ-loop
-loop-less c = search needs
+loop-less c = omega arith
 
 loop-again : tie.Need-loop-again Inv-loop μ-loop
-loop-again c = search needs
+loop-again c = patterns-step _ _ _ (c .before .before .loop .inv) (c .before .loop-test .taken) _ (c .pattern-at .ensures)
 
 shared-slice-read-count : tie.Need-shared-slice-read-count Inv-loop μ-loop
 shared-slice-read-count c = search needs
 
 returns : tie.Need-returns Inv-loop μ-loop
-returns c = search needs
+returns c = patterns-end _ _ _ (c .before .before .loop .inv) (c .before .loop-test .left)
 
 pub query-of-spec : {M : Type 1} → statement M
 query-of-spec =
@@ -51,9 +48,8 @@ query-of-spec =
     (tie.spec
     Inv-loop
     μ-loop
-    pattern-at-requires
     loop-holds
-    pattern-at-requires-2
+    pattern-at-requires
     mul-patterns
     array-set-from-patterns
     add-k

@@ -1,0 +1,4 @@
+pub mod Outcomes
+pub mod Blocks
+pub mod Queries
+pub mod Calls

@@ -1,0 +1,48 @@
+use Rattle.weak_summary.specs.Calls.{lent}
+use Rattle.weak_summary.proofs.Calls.{read-length, read-status, read-leaves}
+use borrow.Author.Needs.{needs}
+use Rattle.weak_summary.proofs.ws_read.Statement.{statement}
+use Rattle.weak_summary.proofs.ws_read.Tie as tie
+use Rattle.weak_summary.proofs.ws_read.Reads as reads
+use Rattle.weak_summary.proofs.ws_read.Lts as lts
+use Rattle.site_reader.proofs.read.Reads as read-reads
+use Rattle.weak_summary.proofs.form_status.Reads as form-status-reads
+use Rattle.weak_summary.proofs.put_queries.Reads as put-queries-reads
+use Rattle.weak_summary.proofs.status.Reads as status-reads
+
+status-requires : tie.Need-status-requires
+status-requires c κs = search needs
+
+returns : tie.Need-returns
+returns c = let a = c .before .before .before .before .before .args in read-length (a .text .now) (lent (a .list .now) (a .queries .now) (a .n .now) (a .count .now) (a .asks .now)) _ (c .before .if1 .taken) (c .status .ensures)
+
+read-requires : tie.Need-read-requires
+read-requires c κs = search needs
+
+put-queries-requires : tie.Need-put-queries-requires
+put-queries-requires c κs = search needs
+
+form-status-requires : tie.Need-form-status-requires
+form-status-requires c κs = search needs
+
+same-length : tie.Need-same-length
+same-length c = search needs
+
+same-length-2 : tie.Need-same-length-2
+same-length-2 c = search needs
+
+returns-2 : tie.Need-returns-2
+returns-2 c = let a = c .before .before .before .before .before .before .before .before .before .before .before .before .before .before .before .args in let s = lent (a .list .now) (a .queries .now) (a .n .now) (a .count .now) (a .asks .now) in (read-status (a .text .now) s (c .before .before .before .before .before .before .before .before .before .before .before .if1 .left) (c .before .before .before .before .before .before .before .before .before .read .result) _ (a .queries .now) (c .before .before .before .before .before .before .before .before .before .read .ensures) _ (c .form-status .ensures), read-leaves (a .text .now) s (c .before .before .before .before .before .before .before .before .before .before .before .if1 .left) (c .before .before .before .before .before .before .before .before .before .read .result) _ _ (c .before .before .before .before .before .before .before .before .before .read .ensures) (c .before .before .before .put-queries .ensures))
+
+pub ws-read-spec : {M : Type 1} → statement M
+ws-read-spec =
+    tie.close
+    (tie.spec
+    status-requires
+    returns
+    read-requires
+    put-queries-requires
+    form-status-requires
+    same-length
+    same-length-2
+    returns-2)

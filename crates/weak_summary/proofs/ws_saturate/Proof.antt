@@ -1,0 +1,24 @@
+use Rattle.weak_summary.proofs.Outcomes.{stores-as}
+use borrow.Author.Needs.{needs}
+use Rattle.weak_summary.proofs.ws_saturate.Statement.{statement}
+use Rattle.weak_summary.proofs.ws_saturate.Tie as tie
+use Rattle.weak_summary.proofs.ws_saturate.Reads as reads
+use Rattle.weak_summary.proofs.ws_saturate.Lts as lts
+use Rattle.saturate.proofs.saturate.Reads as saturate-reads
+use Rattle.weak_summary.proofs.counted_status.Reads as counted-status-reads
+
+saturate-requires : tie.Need-saturate-requires
+saturate-requires c κs = search needs
+
+counted-status-requires : tie.Need-counted-status-requires
+counted-status-requires c κs = search needs
+
+same-length : tie.Need-same-length
+same-length c = search needs
+
+returns : tie.Need-returns
+returns c = let h = c .before .before .before .before .saturate .ensures in (stores-as (h .0) (c .counted-status .ensures), h .1)
+
+pub ws-saturate-spec : {M : Type 1} → statement M
+ws-saturate-spec =
+    tie.close (tie.spec saturate-requires counted-status-requires same-length returns)
