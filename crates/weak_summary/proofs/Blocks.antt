@@ -1,13 +1,13 @@
 -- Lists of equal length stored one behind the other.
 -- Assumes nothing.
-use Prim.Native.Nat.{ℕ, zero, suc, _+_, _*_, _≤_}
+use Prim.Native.Nat.{ℕ, zero, suc, _+_, _*_, _≤_, _<_}
 use mathlib.Core.Path.{_≡_, refl, sym, _∙_, ap}
 use mathlib.Core.List.{List, [], _∷_, _++_, append-assoc, append-nil}
 use native.Mathlib.Nat.{mul-suc}
 use native.Mathlib.Numerals.{add-one}
 use native.Mathlib.Omega.{arith}
-use lib.ListN.{length, drop, length-append, drop-of-length-le}
-use lib.Seq.{sets, sets-eq, length-sets}
+use lib.ListN.{length, getD, set, take, drop, length-append, drop-of-length-le}
+use lib.Seq.{sets, sets-eq, take-at, drop-append-add, getD-drop, getD-take}
 use Rattle.model.specs.Lists.{collect, tabulate}
 
 module _ {B : Type 0} where
@@ -15,7 +15,7 @@ module _ {B : Type 0} where
   sets-append l at [] ys = let e : at ≡ at + 0 = omega arith in ap (λ (k : ℕ). sets l k ys) e
   sets-append l at (x ∷ xs) ys =
       let e : suc at + length xs ≡ at + suc (length xs) = omega arith in
-      sets-append (lib.ListN.set l at x) (suc at) xs ys ∙ ap (λ (k : ℕ). sets (sets (lib.ListN.set l at x) (suc at) xs) k ys) e
+      sets-append (set l at x) (suc at) xs ys ∙ ap (λ (k : ℕ). sets (sets (set l at x) (suc at) xs) k ys) e
 
   -- a list of the same length is stored whole
   pub sets-whole : (l vs : List B) → length l ≡ length vs → sets l 0 vs ≡ vs
@@ -59,3 +59,30 @@ module _ {B : Type 0} where
           ∙ (λ i. sets (p i) (e i) (f (g n)))
           ∙ sym (sets-append l at (blocks n) (f (g n)))
           ∙ ap (sets l at) (ap (λ (k : ℕ). blocks n ++ f (g k)) (sym z) ∙ sym (more-from 0 n) ∙ ap blocks (sym (add-one n)))
+
+      -- a block taken out again
+      take-from : (i n k : ℕ) → k < n → take size (drop (size * k) (collect f (tabulate g i n))) ≡ f (g (i + k))
+      unfolding collect tabulate
+      take-from i zero k h = absurd (omega arith)
+      take-from i (suc n) zero h =
+          let z : size * 0 ≡ 0 = omega arith in
+          let e : i ≡ i + 0 = omega arith in
+          ap (λ (x : ℕ). take size (drop x (f (g i) ++ collect f (tabulate g (suc i) n)))) z
+          ∙ take-at (f (g i)) (collect f (tabulate g (suc i) n)) size (sized (g i))
+          ∙ ap (λ (x : ℕ). f (g x)) e
+      take-from i (suc n) (suc k) h =
+          let z : size * suc k ≡ length (f (g i)) + size * k = omega (arith, mul-suc size k, sized (g i)) in
+          let e : suc i + k ≡ i + suc k = omega arith in
+          ap (λ (x : ℕ). take size (drop x (f (g i) ++ collect f (tabulate g (suc i) n)))) z
+          ∙ ap (take size) (drop-append-add (f (g i)) (collect f (tabulate g (suc i) n)) (size * k))
+          ∙ take-from (suc i) n k (omega arith)
+          ∙ ap (λ (x : ℕ). f (g x)) e
+
+      pub blocks-take : (n k : ℕ) → k < n → take size (drop (size * k) (blocks n)) ≡ f (g k)
+      blocks-take n k h = let e : 0 + k ≡ k = omega arith in take-from 0 n k h ∙ ap (λ (x : ℕ). f (g x)) e
+
+      pub blocks-at : (n k j : ℕ) (d : B) → k < n → j < size → getD (blocks n) (size * k + j) d ≡ getD (f (g k)) j d
+      blocks-at n k j d h m =
+          sym (getD-drop (size * k) (blocks n) j d)
+          ∙ sym (getD-take size (drop (size * k) (blocks n)) j d m)
+          ∙ ap (λ (l : List B). getD l j d) (blocks-take n k h)

@@ -2,3 +2,4 @@ pub mod Outcomes
 pub mod Blocks
 pub mod Queries
 pub mod Calls
+pub mod Faithful

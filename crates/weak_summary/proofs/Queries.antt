@@ -91,7 +91,7 @@ unfolding endNumbers
 length-end (Var v) = refl
 length-end (Code c) = refl
 
-length-pattern : (p : Pattern) → length (patternNumbers p) ≡ 5
+pub length-pattern : (p : Pattern) → length (patternNumbers p) ≡ 5
 unfolding patternNumbers
 length-pattern p =
     length-append (endNumbers (p .subject)) (p .property ∷ endNumbers (p .object))
@@ -144,7 +144,7 @@ query-put l i q m j h k =
     let e : j ≡ 8 = omega (arith, h .few) in
     h .list ∙ (λ x. sets (set l i (q .count)) (add-one i x) (blocks patternNumbers (pattern q) (e x)))
 
-length-query : (q : Query) → length (queryNumbers q) ≡ 41
+pub length-query : (q : Query) → length (queryNumbers q) ≡ 41
 unfolding queryNumbers
 length-query q = omega (arith, length-blocks patternNumbers (pattern q) 5 length-pattern 8)
 

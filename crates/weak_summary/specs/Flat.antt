@@ -14,6 +14,7 @@ use Rattle.query.specs.declared.End.the-variants.{Var, Code}
 use Rattle.query.specs.declared.Pattern.{Pattern}
 use Rattle.query.specs.declared.Query.{Query}
 use Rattle.query.specs.Ask.{pattern}
+use Rattle.site_form.specs.Reading.{readSite}
 
 -- ── numbers to a query ──
 -- Another kind than 0 and 1 gives a variable over 7, so that ask refuses it in a counted pattern, with 6 and in its place.
@@ -58,3 +59,8 @@ flatQueries qs = collect queryNumbers (tabulate (queryAt qs) 0 16)
 -- the query of a query's numbers is the query
 abbrev pub FlatIsFaithful : Type 0
 FlatIsFaithful = (q : Query) → length (q .patterns) ≡ 8 → flatQuery (queryNumbers q) ≡ q
+
+-- what was read can be asked: the k-th 41 numbers that reading leaves are the k-th query of the text
+abbrev pub ReadCanBeAsked : Type 0
+ReadCanBeAsked = (text list : List ℕ) (k : ℕ) → k < 16
+    → flatQuery (take 41 (drop (41 * k) (flatQueries (readSite text list .queries)))) ≡ queryAt (readSite text list .queries) k

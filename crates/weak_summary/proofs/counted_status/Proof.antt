@@ -1,10 +1,9 @@
-use Rattle.weak_summary.proofs.Outcomes.{counted-stores, counted-refuses}
+-- `weak_summary::counted_status` meets its contract.
+-- Assumes nothing.
 use borrow.Author.Needs.{needs}
+use Rattle.weak_summary.proofs.Outcomes.{counted-stores, counted-refuses}
 use Rattle.weak_summary.proofs.counted_status.Statement.{statement}
 use Rattle.weak_summary.proofs.counted_status.Tie as tie
-use Rattle.weak_summary.proofs.counted_status.Reads as reads
-use Rattle.weak_summary.proofs.counted_status.Lts as lts
-use Rattle.weak_summary.proofs.status.Reads as status-reads
 
 enum-known-c : tie.Need-enum-known-c
 enum-known-c c = search needs

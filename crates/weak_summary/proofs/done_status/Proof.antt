@@ -1,10 +1,9 @@
-use Rattle.weak_summary.proofs.Outcomes.{done-zero, done-number}
+-- `weak_summary::done_status` meets its contract.
+-- Assumes nothing.
 use borrow.Author.Needs.{needs}
+use Rattle.weak_summary.proofs.Outcomes.{done-zero, done-number}
 use Rattle.weak_summary.proofs.done_status.Statement.{statement}
 use Rattle.weak_summary.proofs.done_status.Tie as tie
-use Rattle.weak_summary.proofs.done_status.Reads as reads
-use Rattle.weak_summary.proofs.done_status.Lts as lts
-use Rattle.weak_summary.proofs.status.Reads as status-reads
 
 enum-told : tie.Need-enum-told
 enum-told c = search needs

@@ -1,8 +1,8 @@
+-- `weak_summary::end_of` meets its contract.
+-- Assumes nothing.
 use Rattle.weak_summary.proofs.Queries.{end-variable, end-code, end-other}
 use Rattle.weak_summary.proofs.end_of.Statement.{statement}
 use Rattle.weak_summary.proofs.end_of.Tie as tie
-use Rattle.weak_summary.proofs.end_of.Reads as reads
-use Rattle.weak_summary.proofs.end_of.Lts as lts
 
 returns : tie.Need-returns
 returns c = end-variable _ _ (c .if1 .taken)

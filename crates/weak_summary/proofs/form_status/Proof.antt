@@ -1,11 +1,10 @@
-use Rattle.weak_summary.specs.Calls.{formStatus}
+-- `weak_summary::form_status` meets its contract.
+-- Assumes nothing.
 use mathlib.Core.Path.{_∙_, sym, ap}
 use borrow.Author.Needs.{needs}
+use Rattle.weak_summary.specs.Calls.{formStatus}
 use Rattle.weak_summary.proofs.form_status.Statement.{statement}
 use Rattle.weak_summary.proofs.form_status.Tie as tie
-use Rattle.weak_summary.proofs.form_status.Reads as reads
-use Rattle.weak_summary.proofs.form_status.Lts as lts
-use Rattle.weak_summary.proofs.status.Reads as status-reads
 
 enum-told : tie.Need-enum-told
 enum-told c = search needs

@@ -1,10 +1,9 @@
-use Rattle.weak_summary.proofs.Queries.{pattern-made}
+-- `weak_summary::pattern_at` meets its contract.
+-- Assumes nothing.
 use borrow.Author.Needs.{needs}
+use Rattle.weak_summary.proofs.Queries.{pattern-made}
 use Rattle.weak_summary.proofs.pattern_at.Statement.{statement}
 use Rattle.weak_summary.proofs.pattern_at.Tie as tie
-use Rattle.weak_summary.proofs.pattern_at.Reads as reads
-use Rattle.weak_summary.proofs.pattern_at.Lts as lts
-use Rattle.weak_summary.proofs.end_of.Reads as end-of-reads
 
 mul-i : tie.Need-mul-i
 mul-i c = search needs

@@ -1,9 +1,9 @@
-use Rattle.weak_summary.proofs.Queries.{variable-put, code-put}
+-- `weak_summary::put_end` meets its contract.
+-- Assumes nothing.
 use borrow.Author.Needs.{needs}
+use Rattle.weak_summary.proofs.Queries.{variable-put, code-put}
 use Rattle.weak_summary.proofs.put_end.Statement.{statement}
 use Rattle.weak_summary.proofs.put_end.Tie as tie
-use Rattle.weak_summary.proofs.put_end.Reads as reads
-use Rattle.weak_summary.proofs.put_end.Lts as lts
 
 enum-known-e : tie.Need-enum-known-e
 enum-known-e c = search needs

@@ -1,10 +1,9 @@
-use Rattle.weak_summary.proofs.Queries.{object-room, pattern-put, pattern-length}
+-- `weak_summary::put_pattern` meets its contract.
+-- Assumes nothing.
 use borrow.Author.Needs.{needs}
+use Rattle.weak_summary.proofs.Queries.{object-room, pattern-put, pattern-length}
 use Rattle.weak_summary.proofs.put_pattern.Statement.{statement}
 use Rattle.weak_summary.proofs.put_pattern.Tie as tie
-use Rattle.weak_summary.proofs.put_pattern.Reads as reads
-use Rattle.weak_summary.proofs.put_pattern.Lts as lts
-use Rattle.weak_summary.proofs.put_end.Reads as put-end-reads
 
 put-end-requires : tie.Need-put-end-requires
 put-end-requires c κs = search needs

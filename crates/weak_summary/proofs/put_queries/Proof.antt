@@ -1,14 +1,12 @@
-use borrow.Author.Needs.{needs}
+-- `weak_summary::put_queries` meets its contract.
+-- Assumes nothing.
 use Prim.Native.Nat.{_-_}
-use mathlib.Core.Path.{_≡_, _∙_}
+use mathlib.Core.Path.{_∙_}
 use native.Mathlib.Omega.{arith}
-use lib.ListN.{length}
+use borrow.Author.Needs.{needs}
 use Rattle.weak_summary.proofs.Queries.{PuttingQueries, queries-start, queries-length, queries-step, queries-end}
 use Rattle.weak_summary.proofs.put_queries.Statement.{statement}
 use Rattle.weak_summary.proofs.put_queries.Tie as tie
-use Rattle.weak_summary.proofs.put_queries.Reads as reads
-use Rattle.weak_summary.proofs.put_queries.Lts as lts
-use Rattle.weak_summary.proofs.put_query.Reads as put-query-reads
 
 abbrev Inv-loop : tie.InvT-loop
 Inv-loop list₀ queries k₀ list k = PuttingQueries list₀ queries list k

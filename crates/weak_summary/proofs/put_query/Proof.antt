@@ -1,14 +1,13 @@
+-- `weak_summary::put_query` meets its contract.
+-- Assumes nothing.
+use Prim.Native.Nat.{_+_, _*_, _-_}
 use mathlib.Core.Path.{_≡_, refl, _∙_}
+use native.Mathlib.Omega.{arith}
 use lib.ListN.{length, length-set}
 use borrow.Author.Needs.{needs}
-use Prim.Native.Nat.{_+_, _*_, _-_}
-use native.Mathlib.Omega.{arith}
 use Rattle.weak_summary.proofs.Queries.{PuttingPatterns, putting-start, putting-length, putting-step, query-put}
 use Rattle.weak_summary.proofs.put_query.Statement.{statement}
 use Rattle.weak_summary.proofs.put_query.Tie as tie
-use Rattle.weak_summary.proofs.put_query.Reads as reads
-use Rattle.weak_summary.proofs.put_query.Lts as lts
-use Rattle.weak_summary.proofs.put_pattern.Reads as put-pattern-reads
 
 abbrev Inv-loop : tie.InvT-loop
 Inv-loop list₀ k q i j₀ list j = (length list₀ ≡ 656) × (i ≡ 41 * k) × PuttingPatterns list₀ (i + 1) q list j

@@ -1,13 +1,12 @@
+-- `weak_summary::query_of` meets its contract.
+-- Assumes nothing.
 use Prim.Native.Nat.{_-_}
-use native.Mathlib.Omega.{arith}
 use mathlib.Core.Path.{refl}
-use Rattle.weak_summary.proofs.Queries.{Patterns, patterns-start, patterns-step, patterns-end}
+use native.Mathlib.Omega.{arith}
 use borrow.Author.Needs.{needs}
+use Rattle.weak_summary.proofs.Queries.{Patterns, patterns-start, patterns-step, patterns-end}
 use Rattle.weak_summary.proofs.query_of.Statement.{statement}
 use Rattle.weak_summary.proofs.query_of.Tie as tie
-use Rattle.weak_summary.proofs.query_of.Reads as reads
-use Rattle.weak_summary.proofs.query_of.Lts as lts
-use Rattle.weak_summary.proofs.pattern_at.Reads as pattern-at-reads
 
 abbrev Inv-loop : tie.InvT-loop
 Inv-loop query patterns₀ k₀ patterns k = Patterns query patterns k

@@ -1,9 +1,9 @@
-use Rattle.model.specs.Outcomes.{number}
+-- `weak_summary::status` meets its contract.
+-- Assumes nothing.
 use borrow.Author.Needs.{needs}
+use Rattle.model.specs.Outcomes.{number}
 use Rattle.weak_summary.proofs.status.Statement.{statement}
 use Rattle.weak_summary.proofs.status.Tie as tie
-use Rattle.weak_summary.proofs.status.Reads as reads
-use Rattle.weak_summary.proofs.status.Lts as lts
 
 enum-told : tie.Need-enum-told
 enum-told c = search needs

@@ -1,18 +1,14 @@
+-- `weak_summary::ws_ask` meets its contract.
+-- Assumes nothing.
 use mathlib.Core.Path.{_∙_, ap}
+use borrow.Author.Needs.{needs}
 use Rattle.model.specs.Codes.{rdfs}
 use Rattle.query.specs.Ask.{askOutcome}
 use Rattle.weak_summary.specs.Status.{bits}
 use Rattle.weak_summary.proofs.Outcomes.{stores-as}
 use Rattle.weak_summary.proofs.Calls.{ask-length, ask-passed}
-use borrow.Author.Needs.{needs}
 use Rattle.weak_summary.proofs.ws_ask.Statement.{statement}
 use Rattle.weak_summary.proofs.ws_ask.Tie as tie
-use Rattle.weak_summary.proofs.ws_ask.Reads as reads
-use Rattle.weak_summary.proofs.ws_ask.Lts as lts
-use Rattle.query.proofs.ask.Reads as ask-reads
-use Rattle.weak_summary.proofs.asked_status.Reads as asked-status-reads
-use Rattle.weak_summary.proofs.query_of.Reads as query-of-reads
-use Rattle.weak_summary.proofs.status.Reads as status-reads
 
 status-requires : tie.Need-status-requires
 status-requires c κs = search needs

@@ -1,12 +1,10 @@
+-- `weak_summary::ws_cliques` meets its contract.
+-- Assumes nothing.
 use mathlib.Core.Path.{_∙_, ap}
-use Rattle.weak_summary.specs.Status.{statusOf}
 use borrow.Author.Needs.{needs}
+use Rattle.weak_summary.specs.Status.{statusOf}
 use Rattle.weak_summary.proofs.ws_cliques.Statement.{statement}
 use Rattle.weak_summary.proofs.ws_cliques.Tie as tie
-use Rattle.weak_summary.proofs.ws_cliques.Reads as reads
-use Rattle.weak_summary.proofs.ws_cliques.Lts as lts
-use Rattle.cliques.proofs.cliques.Reads as cliques-reads
-use Rattle.weak_summary.proofs.done_status.Reads as done-status-reads
 
 cliques-requires : tie.Need-cliques-requires
 cliques-requires c κs = search needs

@@ -1,13 +1,11 @@
+-- `weak_summary::ws_look_up` meets its contract.
+-- Assumes nothing.
 use mathlib.Core.Path.{ap}
+use borrow.Author.Needs.{needs}
 use Rattle.weak_summary.specs.Status.{bits}
 use Rattle.weak_summary.proofs.Outcomes.{stores-as}
-use borrow.Author.Needs.{needs}
 use Rattle.weak_summary.proofs.ws_look_up.Statement.{statement}
 use Rattle.weak_summary.proofs.ws_look_up.Tie as tie
-use Rattle.weak_summary.proofs.ws_look_up.Reads as reads
-use Rattle.weak_summary.proofs.ws_look_up.Lts as lts
-use Rattle.look_up.proofs.look_up.Reads as look-up-reads
-use Rattle.weak_summary.proofs.found_status.Reads as found-status-reads
 
 look-up-requires : tie.Need-look-up-requires
 look-up-requires c κs = search needs

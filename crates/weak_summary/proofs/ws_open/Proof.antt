@@ -1,11 +1,9 @@
-use Rattle.weak_summary.proofs.Calls.{open-status}
+-- `weak_summary::ws_open` meets its contract.
+-- Assumes nothing.
 use borrow.Author.Needs.{needs}
+use Rattle.weak_summary.proofs.Calls.{open-status}
 use Rattle.weak_summary.proofs.ws_open.Statement.{statement}
 use Rattle.weak_summary.proofs.ws_open.Tie as tie
-use Rattle.weak_summary.proofs.ws_open.Reads as reads
-use Rattle.weak_summary.proofs.ws_open.Lts as lts
-use Rattle.intake.proofs.open_counts.Reads as open-counts-reads
-use Rattle.weak_summary.proofs.done_status.Reads as done-status-reads
 
 open-counts-requires : tie.Need-open-counts-requires
 open-counts-requires c κs = search needs

@@ -1,12 +1,10 @@
+-- `weak_summary::ws_own_roster` meets its contract.
+-- Assumes nothing.
 use mathlib.Core.Path.{_∙_, ap}
-use Rattle.weak_summary.specs.Status.{statusOf}
 use borrow.Author.Needs.{needs}
+use Rattle.weak_summary.specs.Status.{statusOf}
 use Rattle.weak_summary.proofs.ws_own_roster.Statement.{statement}
 use Rattle.weak_summary.proofs.ws_own_roster.Tie as tie
-use Rattle.weak_summary.proofs.ws_own_roster.Reads as reads
-use Rattle.weak_summary.proofs.ws_own_roster.Lts as lts
-use Rattle.roster.proofs.own_roster.Reads as own-roster-reads
-use Rattle.weak_summary.proofs.done_status.Reads as done-status-reads
 
 own-roster-requires : tie.Need-own-roster-requires
 own-roster-requires c κs = search needs

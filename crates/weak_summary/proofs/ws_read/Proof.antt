@@ -1,14 +1,10 @@
+-- `weak_summary::ws_read` meets its contract.
+-- Assumes nothing.
+use borrow.Author.Needs.{needs}
 use Rattle.weak_summary.specs.Calls.{lent}
 use Rattle.weak_summary.proofs.Calls.{read-length, read-status, read-leaves}
-use borrow.Author.Needs.{needs}
 use Rattle.weak_summary.proofs.ws_read.Statement.{statement}
 use Rattle.weak_summary.proofs.ws_read.Tie as tie
-use Rattle.weak_summary.proofs.ws_read.Reads as reads
-use Rattle.weak_summary.proofs.ws_read.Lts as lts
-use Rattle.site_reader.proofs.read.Reads as read-reads
-use Rattle.weak_summary.proofs.form_status.Reads as form-status-reads
-use Rattle.weak_summary.proofs.put_queries.Reads as put-queries-reads
-use Rattle.weak_summary.proofs.status.Reads as status-reads
 
 status-requires : tie.Need-status-requires
 status-requires c κs = search needs

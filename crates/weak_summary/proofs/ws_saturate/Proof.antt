@@ -1,11 +1,9 @@
-use Rattle.weak_summary.proofs.Outcomes.{stores-as}
+-- `weak_summary::ws_saturate` meets its contract.
+-- Assumes nothing.
 use borrow.Author.Needs.{needs}
+use Rattle.weak_summary.proofs.Outcomes.{stores-as}
 use Rattle.weak_summary.proofs.ws_saturate.Statement.{statement}
 use Rattle.weak_summary.proofs.ws_saturate.Tie as tie
-use Rattle.weak_summary.proofs.ws_saturate.Reads as reads
-use Rattle.weak_summary.proofs.ws_saturate.Lts as lts
-use Rattle.saturate.proofs.saturate.Reads as saturate-reads
-use Rattle.weak_summary.proofs.counted_status.Reads as counted-status-reads
 
 saturate-requires : tie.Need-saturate-requires
 saturate-requires c κs = search needs

@@ -1,11 +1,9 @@
-use Rattle.weak_summary.proofs.Outcomes.{stores-as}
+-- `weak_summary::ws_summarise` meets its contract.
+-- Assumes nothing.
 use borrow.Author.Needs.{needs}
+use Rattle.weak_summary.proofs.Outcomes.{stores-as}
 use Rattle.weak_summary.proofs.ws_summarise.Statement.{statement}
 use Rattle.weak_summary.proofs.ws_summarise.Tie as tie
-use Rattle.weak_summary.proofs.ws_summarise.Reads as reads
-use Rattle.weak_summary.proofs.ws_summarise.Lts as lts
-use Rattle.summarise.proofs.summarise.Reads as summarise-reads
-use Rattle.weak_summary.proofs.counted_status.Reads as counted-status-reads
 
 summarise-requires : tie.Need-summarise-requires
 summarise-requires c κs = search needs

@@ -1,11 +1,9 @@
-use Rattle.weak_summary.proofs.Outcomes.{stores-as}
+-- `weak_summary::ws_write` meets its contract.
+-- Assumes nothing.
 use borrow.Author.Needs.{needs}
+use Rattle.weak_summary.proofs.Outcomes.{stores-as}
 use Rattle.weak_summary.proofs.ws_write.Statement.{statement}
 use Rattle.weak_summary.proofs.ws_write.Tie as tie
-use Rattle.weak_summary.proofs.ws_write.Reads as reads
-use Rattle.weak_summary.proofs.ws_write.Lts as lts
-use Rattle.site_writer.proofs.write.Reads as write-reads
-use Rattle.weak_summary.proofs.counted_status.Reads as counted-status-reads
 
 write-requires : tie.Need-write-requires
 write-requires c κs = search needs
