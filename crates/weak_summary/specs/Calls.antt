@@ -8,7 +8,8 @@ use lib.Dec.{eqb}
 use lib.ListN.{length}
 use Rattle.model.specs.declared.Triple.{Triple}
 use Rattle.model.specs.Codes.{rdfs}
-use Rattle.model.specs.Outcomes.{Outcome, number, check, decided}
+use Rattle.model.specs.Lists.{zeros}
+use Rattle.model.specs.Outcomes.{Outcome, refused, number, check, decided}
 use Rattle.model.specs.Intake.{State, openOutcome, openLeaves, Fed}
 use Rattle.query.specs.Ask.{askOutcome}
 use Rattle.site_form.specs.declared.Site.{Site}
@@ -60,3 +61,13 @@ siteLeaves list site = lent list (flatQueries (site .queries)) (site .size) (sit
 -- 01: "with a refusal N is 0 and there are no queries"; that is `readSite`. After the 1 above nothing is altered.
 unfoldable pub flatReadLeaves : List ℕ → Lent → Lent
 flatReadLeaves text s = cond (eqb (length (s .queries)) 656) (siteLeaves (readList text (s .list)) (readSite text (s .list))) s
+
+-- reading: the status, and what was lent after it
+pub record ReadStatus (text : List ℕ) (s : Lent) (status : ℕ) (after : Lent) : Type 0 where
+  pub answer : status ≡ statusOf (flatReadOutcome text s)
+  pub leaves : after ≡ flatReadLeaves text s
+
+-- after 8 and 5 all that was lent is zero
+abbrev pub RefusedReadIsZero : Type 0
+RefusedReadIsZero = (text : List ℕ) (s : Lent) (r : ℕ) → length (s .queries) ≡ 656 → flatReadOutcome text s ≡ refused r
+    → flatReadLeaves text s ≡ lent (zeros (length (s .list))) (zeros 656) 0 0 0

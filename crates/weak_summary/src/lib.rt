@@ -1,5 +1,5 @@
 // The calls of the scope paper for other languages: numbers and slices only. Each call answers 0 or the number of its refusal;
-// what else it gives is stored through the numbers that are lent, and a refusal leaves these alone.
+// what else it gives is stored through the numbers that are lent. A refusal leaves these alone, but for 8 and 5 of reading.
 
 ghost use mathlib.Core.Path.{_≡_};
 ghost use Prim.Native.Nat.{_+_, _*_, _<_};
@@ -15,7 +15,7 @@ ghost use Rattle.query.specs.Ask.{asked};
 ghost use Rattle.site_form.specs.Writing.{writeOutcome, writeList};
 ghost use Rattle.weak_summary.specs.Status.{statusOf, bits, Stores};
 ghost use Rattle.weak_summary.specs.Flat.{endOf, flatPattern, flatQuery, endNumbers, patternNumbers, queryNumbers, flatQueries};
-ghost use Rattle.weak_summary.specs.Calls.{flatAskOutcome, OpenStatus, FeedStatus, lent, formStatus, flatReadOutcome, flatReadLeaves};
+ghost use Rattle.weak_summary.specs.Calls.{flatAskOutcome, OpenStatus, FeedStatus, lent, formStatus, ReadStatus};
 use cliques::cliques;
 use intake::feed_lists;
 use intake::open_counts;
@@ -356,8 +356,9 @@ fn form_status(f: Form) -> u32
     }
 }
 
-// Reads a text. N, the number of triples and of queries are 0 after refusals 8 and 5; the list of queries is then all blank, as
-// queries past the number read are: count 0, and patterns of two variables 0 and property 0, that is all zero.
+// Reads a text: its triples into the list, its queries into 16 flat ones, and N, the number of triples and that of queries.
+// Refused with 1 where there are not 656 numbers for the queries. A query past those of the text, and all that is lent after 8 and 5,
+// is zero.
 #[no_mangle]
 pub extern "C" fn ws_read(
     text: &[u8],
@@ -367,7 +368,7 @@ pub extern "C" fn ws_read(
     count: &mut usize,
     asks: &mut usize,
 ) -> u32
-    ensures { λ s. ⌜ (s ≡ statusOf (flatReadOutcome (now (text .entry)) (lent (now (list .entry)) (now (queries .entry)) (now (n .entry)) (now (count .entry)) (now (asks .entry))))) × ((lent (now (list .exit)) (now (queries .exit)) (now (n .exit)) (now (count .exit)) (now (asks .exit))) ≡ flatReadLeaves (now (text .entry)) (lent (now (list .entry)) (now (queries .entry)) (now (n .entry)) (now (count .entry)) (now (asks .entry)))) ⌝ }
+    ensures { λ s. ⌜ ReadStatus (now (text .entry)) (lent (now (list .entry)) (now (queries .entry)) (now (n .entry)) (now (count .entry)) (now (asks .entry))) s (lent (now (list .exit)) (now (queries .exit)) (now (n .exit)) (now (count .exit)) (now (asks .exit))) ⌝ }
 {
     if queries.len() != QUERIES_NUMBERS {
         return status(Refusal::Length);

@@ -2,7 +2,7 @@
 -- Assumes nothing.
 use borrow.Author.Needs.{needs}
 use Rattle.weak_summary.specs.Calls.{lent}
-use Rattle.weak_summary.proofs.Calls.{read-length, read-status, read-leaves}
+use Rattle.weak_summary.proofs.Calls.{read-length, read-status}
 use Rattle.weak_summary.proofs.ws_read.Statement.{statement}
 use Rattle.weak_summary.proofs.ws_read.Tie as tie
 
@@ -28,7 +28,9 @@ same-length-2 : tie.Need-same-length-2
 same-length-2 c = search needs
 
 returns-2 : tie.Need-returns-2
-returns-2 c = let a = c .before .before .before .before .before .before .before .before .before .before .before .before .before .before .before .args in let s = lent (a .list .now) (a .queries .now) (a .n .now) (a .count .now) (a .asks .now) in (read-status (a .text .now) s (c .before .before .before .before .before .before .before .before .before .before .before .if1 .left) (c .before .before .before .before .before .before .before .before .before .read .result) _ (a .queries .now) (c .before .before .before .before .before .before .before .before .before .read .ensures) _ (c .form-status .ensures), read-leaves (a .text .now) s (c .before .before .before .before .before .before .before .before .before .before .before .if1 .left) (c .before .before .before .before .before .before .before .before .before .read .result) _ _ (c .before .before .before .before .before .before .before .before .before .read .ensures) (c .before .before .before .put-queries .ensures))
+returns-2 c =
+    let a = c .before .before .before .before .before .before .before .before .before .before .before .before .before .before .before .args in
+    read-status (a .text .now) (lent (a .list .now) (a .queries .now) (a .n .now) (a .count .now) (a .asks .now)) (c .before .before .before .before .before .before .before .before .before .before .before .if1 .left) (c .before .before .before .before .before .before .before .before .before .read .result) _ (c .before .before .before .before .before .before .before .before .before .read .ensures) _ (c .before .before .before .put-queries .ensures) _ (c .form-status .ensures)
 
 pub ws-read-spec : {M : Type 1} → statement M
 ws-read-spec =
