@@ -7,9 +7,9 @@ use mathlib.Core.List.{List, [], _∷_, _++_, map, List·Memᴰ as Mem, List·Me
 use mathlib.Core.Option.{Option, none, some}
 use native.Mathlib.Omega.{arith}
 use lib.Dec.{ltb}
-use lib.ListN.{length, getD, take, drop, replicate, length-append, length-replicate, getD-replicate}
+use lib.ListN.{length, getD, replicate, length-append, length-replicate, getD-replicate}
 use lib.Seq.{ext-getD}
-use Rattle.model.specs.Lists.{collect, tabulate}
+use Rattle.model.specs.Lists.{tabulate}
 use Rattle.model.specs.Triples.{slots}
 use Rattle.model.specs.Outcomes.{refused, accepted, decided}
 use Rattle.theory.proofs.Lists.{length-tabulate, tabulate-at}

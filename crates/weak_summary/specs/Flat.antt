@@ -30,13 +30,16 @@ patternFrom l i =
       object = endOf (getD l (i + 3) 0) (getD l (i + 4) 0);
     }
 
+-- the pattern at place k of a flat query
 abbrev pub flatPattern : List ℕ → ℕ → Pattern
 flatPattern l k = patternFrom l (5 * k + 1)
 
+-- the query that 41 numbers stand for
 unfoldable pub flatQuery : List ℕ → Query
 flatQuery l = record { patterns = tabulate (flatPattern l) 0 8; count = getD l 0 0 }
 
 -- ── a query to numbers ──
+-- the two numbers of an end, the five of a pattern, the 41 of a query
 unfoldable pub endNumbers : End → List ℕ
 endNumbers (Var v) = 0 ∷ v ∷ []
 endNumbers (Code c) = 1 ∷ c ∷ []

@@ -24,7 +24,9 @@ same-length-4 : tie.Need-same-length-4
 same-length-4 c = search needs
 
 returns : tie.Need-returns
-returns c = record { outcome = found (c .before .before .before .before .before .before .before .before .before .before .feed-lists .result .answer); fed = c .before .before .before .before .before .before .before .before .before .before .feed-lists .ensures; stores = c .found-status .ensures }
+returns c =
+    let f = c .before .before .before .before .before .before .before .before .before .before .feed-lists in
+    record { outcome = found (f .result .answer); fed = f .ensures; stores = c .found-status .ensures }
 
 pub ws-feed-spec : {M : Type 1} → statement M
 ws-feed-spec =
