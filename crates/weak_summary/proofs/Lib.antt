@@ -1,0 +1,5 @@
+pub mod Outcomes
+pub mod Blocks
+pub mod Queries
+pub mod Calls
+pub mod Faithful

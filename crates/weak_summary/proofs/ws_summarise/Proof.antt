@@ -1,0 +1,35 @@
+-- `weak_summary::ws_summarise` meets its contract.
+-- Assumes nothing.
+use borrow.Author.Needs.{needs}
+use Rattle.weak_summary.proofs.Outcomes.{stores-as}
+use Rattle.weak_summary.proofs.ws_summarise.Statement.{statement}
+use Rattle.weak_summary.proofs.ws_summarise.Tie as tie
+
+summarise-requires : tie.Need-summarise-requires
+summarise-requires c κs = search needs
+
+counted-status-requires : tie.Need-counted-status-requires
+counted-status-requires c κs = search needs
+
+same-length : tie.Need-same-length
+same-length c = search needs
+
+same-length-2 : tie.Need-same-length-2
+same-length-2 c = search needs
+
+same-length-3 : tie.Need-same-length-3
+same-length-3 c = search needs
+
+returns : tie.Need-returns
+returns c = (stores-as (c .before .before .before .before .before .before .before .before .summarise .ensures .answer) (c .counted-status .ensures), c .before .before .before .before .before .before .before .before .summarise .ensures .leaves)
+
+pub ws-summarise-spec : {M : Type 1} → statement M
+ws-summarise-spec =
+    tie.close
+    (tie.spec
+    summarise-requires
+    counted-status-requires
+    same-length
+    same-length-2
+    same-length-3
+    returns)

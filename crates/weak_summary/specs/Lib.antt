@@ -1,0 +1,3 @@
+pub mod Status
+pub mod Flat
+pub mod Calls

@@ -1,0 +1,385 @@
+// The calls of the scope paper for other languages: numbers and slices only. Each call answers 0 or the number of its refusal;
+// what else it gives is stored through the numbers that are lent. A refusal leaves these alone, but for 8 and 5 of reading.
+
+ghost use mathlib.Core.Path.{_≡_};
+ghost use Prim.Native.Nat.{_+_, _*_, _<_};
+ghost use lib.ListN.{length};
+ghost use lib.Seq.{sets};
+ghost use Rattle.model.specs.Codes.{rdfs};
+ghost use Rattle.model.specs.Triples.{triple};
+ghost use Rattle.model.specs.Cliques.{source, target};
+ghost use Rattle.model.specs.Outcomes.{number, done, counted, found};
+ghost use Rattle.model.specs.Calls.{ownRosterOutcome, ownRosterLeaves, saturateOutcome, saturateLeaves, cliquesOutcome, cliquesLeave, summariseOutcome, summariseLeaves, lookUpOutcome};
+ghost use Rattle.intake.specs.Opening.{stateWith};
+ghost use Rattle.query.specs.Ask.{asked};
+ghost use Rattle.site_form.specs.Writing.{writeOutcome, writeList};
+ghost use Rattle.weak_summary.specs.Status.{statusOf, bits, Stores};
+ghost use Rattle.weak_summary.specs.Flat.{endOf, flatPattern, flatQuery, endNumbers, patternNumbers, queryNumbers, flatQueries};
+ghost use Rattle.weak_summary.specs.Calls.{flatAskOutcome, OpenStatus, FeedStatus, lent, formStatus, ReadStatus};
+use cliques::cliques;
+use intake::feed_lists;
+use intake::open_counts;
+use look_up::look_up;
+use model::Counted;
+use model::Done;
+use model::Found;
+use model::Refusal;
+use model::Triple;
+use query::Asked;
+use query::End;
+use query::Pattern;
+use query::Query;
+use query::ask;
+use roster::own_roster;
+use saturate::saturate;
+use site_form::Form;
+use site_reader::read;
+use site_writer::write;
+use summarise::summarise;
+
+// The numbers of a flat query: the count, and five for each of eight patterns.
+pub const QUERY_NUMBERS: usize = 41;
+
+// The numbers of the sixteen flat queries of a text.
+pub const QUERIES_NUMBERS: usize = 656;
+
+// The number of a refusal.
+pub fn status(r: Refusal) -> u32
+    ensures { λ s. ⌜ s ≡ number r ⌝ }
+{
+    match r {
+        Refusal::Length => 1,
+        Refusal::Roster => 2,
+        Refusal::Code => 3,
+        Refusal::Cover => 4,
+        Refusal::Slots => 5,
+        Refusal::Query => 6,
+        Refusal::Full => 7,
+        Refusal::Form => 8,
+    }
+}
+
+fn done_status(d: Done) -> u32
+    ensures { λ s. ⌜ s ≡ statusOf (done d) ⌝ }
+{
+    match d {
+        Done::Accepted => 0,
+        Done::Refused(r) => status(r),
+    }
+}
+
+// Stores the count of an accepted call.
+fn counted_status(c: Counted, count: &mut usize) -> u32
+    ensures { λ s. ⌜ Stores (counted c) (now (count .entry)) s (now (count .exit)) ⌝ }
+{
+    match c {
+        Counted::Count(k) => {
+            *count = k;
+            0
+        },
+        Counted::Refused(r) => status(r),
+    }
+}
+
+// Stores 1 for yes and 0 for no.
+fn found_status(f: Found, value: &mut u32) -> u32
+    ensures { λ s. ⌜ Stores (bits (found f)) (now (value .entry)) s (now (value .exit)) ⌝ }
+{
+    match f {
+        Found::Yes => {
+            *value = 1;
+            0
+        },
+        Found::No => {
+            *value = 0;
+            0
+        },
+        Found::Refused(r) => status(r),
+    }
+}
+
+// Stores 1 for maybe and 0 for none.
+fn asked_status(a: Asked, maybe: &mut u32) -> u32
+    ensures { λ s. ⌜ Stores (bits (asked a)) (now (maybe .entry)) s (now (maybe .exit)) ⌝ }
+{
+    match a {
+        Asked::Maybe => {
+            *maybe = 1;
+            0
+        },
+        Asked::None => {
+            *maybe = 0;
+            0
+        },
+        Asked::Refused(r) => status(r),
+    }
+}
+
+// An end from its two numbers: 0 and a variable, or 1 and a code. Another first number gives a variable over 7, which ask refuses.
+fn end_of(kind: u32, value: u32) -> End
+    ensures { λ e. ⌜ e ≡ endOf kind value ⌝ }
+{
+    if kind == 0 {
+        return End::Var(value);
+    }
+    if kind == 1 {
+        return End::Code(value);
+    }
+    End::Var(8)
+}
+
+// The pattern at place k of a flat query.
+fn pattern_at(query: &[u32], k: usize) -> Pattern
+    requires { ⌜ (length (now query) ≡ 41) × (k < 8) ⌝ }
+    ensures { λ p. ⌜ p ≡ flatPattern (now (query .entry)) k ⌝ }
+{
+    let i = 5 * k + 1;
+    let subject = end_of(query[i], query[i + 1]);
+    let property = query[i + 2];
+    let object = end_of(query[i + 3], query[i + 4]);
+    Pattern {
+        subject,
+        property,
+        object,
+    }
+}
+
+// The query of a flat query.
+fn query_of(query: &[u32]) -> Query
+    requires { ⌜ length (now query) ≡ 41 ⌝ }
+    ensures { λ q. ⌜ q ≡ flatQuery (now (query .entry)) ⌝ }
+{
+    let blank = Pattern {
+        subject: End::Var(0),
+        property: 0,
+        object: End::Var(0),
+    };
+    let mut patterns = [blank; 8];
+    let mut k = 0;
+    while k < 8 {
+        patterns[k] = pattern_at(query, k);
+        k += 1;
+    }
+    let count = query[0];
+    Query { patterns, count }
+}
+
+#[no_mangle]
+pub extern "C" fn ws_own_roster(table: &[u32], roster: &mut [u8]) -> u32
+    ensures { λ s. ⌜ (s ≡ statusOf (ownRosterOutcome rdfs (now (table .entry)) (now (roster .entry)))) × (now (roster .exit) ≡ ownRosterLeaves rdfs (now (table .entry)) (now (roster .entry))) ⌝ }
+{
+    done_status(own_roster(table, roster))
+}
+
+#[no_mangle]
+pub extern "C" fn ws_saturate(
+    table: &[u32],
+    roster: &[u8],
+    result: &mut [u32],
+    count: &mut usize,
+) -> u32
+    ensures { λ s. ⌜ Stores (saturateOutcome rdfs (now (table .entry)) (now (roster .entry)) (now (result .entry))) (now (count .entry)) s (now (count .exit)) × (now (result .exit) ≡ saturateLeaves rdfs (now (table .entry)) (now (roster .entry)) (now (result .entry))) ⌝ }
+{
+    counted_status(saturate(table, roster, result), count)
+}
+
+#[no_mangle]
+pub extern "C" fn ws_cliques(
+    table: &[u32],
+    roster: &[u8],
+    sources: &mut [u32],
+    targets: &mut [u32],
+) -> u32
+    ensures { λ s. ⌜ (s ≡ statusOf (cliquesOutcome rdfs (now (table .entry)) (now (roster .entry)) (now (sources .entry)) (now (targets .entry)))) × (now (sources .exit) ≡ cliquesLeave rdfs source (now (table .entry)) (now (roster .entry)) (now (sources .entry)) (now (targets .entry))) × (now (targets .exit) ≡ cliquesLeave rdfs target (now (table .entry)) (now (roster .entry)) (now (sources .entry)) (now (targets .entry))) ⌝ }
+{
+    done_status(cliques(table, roster, sources, targets))
+}
+
+#[no_mangle]
+pub extern "C" fn ws_summarise(
+    table: &[u32],
+    roster: &[u8],
+    result: &mut [u32],
+    map: &mut [u32],
+    work: &mut [u32],
+    count: &mut usize,
+) -> u32
+    ensures { λ s. ⌜ Stores (summariseOutcome rdfs (now (table .entry)) (now (roster .entry)) (now (result .entry)) (now (map .entry)) (now (work .entry))) (now (count .entry)) s (now (count .exit)) × (record { result = now (result .exit); map = now (map .exit); work = now (work .exit) } ≡ summariseLeaves rdfs (now (table .entry)) (now (roster .entry)) (now (result .entry)) (now (map .entry)) (now (work .entry))) ⌝ }
+{
+    counted_status(summarise(table, roster, result, map, work), count)
+}
+
+#[no_mangle]
+pub extern "C" fn ws_look_up(list: &[u32], s: u32, p: u32, o: u32, found: &mut u32) -> u32
+    ensures { λ r. ⌜ Stores (bits (lookUpOutcome (now (list .entry)) (triple s p o))) (now (found .entry)) r (now (found .exit)) ⌝ }
+{
+    let t = Triple {
+        subject: s,
+        property: p,
+        object: o,
+    };
+    found_status(look_up(list, t), found)
+}
+
+#[no_mangle]
+pub extern "C" fn ws_ask(table: &[u32], map: &[u32], query: &[u32], maybe: &mut u32) -> u32
+    ensures { λ s. ⌜ Stores (bits (flatAskOutcome (now (table .entry)) (now (map .entry)) (now (query .entry)))) (now (maybe .entry)) s (now (maybe .exit)) ⌝ }
+{
+    if query.len() != QUERY_NUMBERS {
+        return status(Refusal::Length);
+    }
+    asked_status(ask(table, map, query_of(query)), maybe)
+}
+
+#[no_mangle]
+pub extern "C" fn ws_open(
+    roster: &[u8],
+    triples: &mut [u32],
+    summary: &mut [u32],
+    map: &mut [u32],
+    held: &mut usize,
+    summarised: &mut usize,
+) -> u32
+    ensures { λ s. ⌜ OpenStatus (now (roster .entry)) (stateWith (now (triples .entry)) (now (summary .entry)) (now (map .entry)) (now (held .entry)) (now (summarised .entry))) s (stateWith (now (triples .exit)) (now (summary .exit)) (now (map .exit)) (now (held .exit)) (now (summarised .exit))) ⌝ }
+{
+    let opened = open_counts(*held, *summarised, roster, triples, summary, map);
+    let answer = opened.answer;
+    *held = opened.held;
+    *summarised = opened.summarised;
+    done_status(answer)
+}
+
+#[no_mangle]
+pub extern "C" fn ws_feed(
+    roster: &[u8],
+    triples: &mut [u32],
+    summary: &mut [u32],
+    map: &mut [u32],
+    work: &mut [u32],
+    s: u32,
+    p: u32,
+    o: u32,
+    held: &mut usize,
+    summarised: &mut usize,
+    new: &mut u32,
+) -> u32
+    ensures { λ r. ⌜ FeedStatus (now (roster .entry)) (stateWith (now (triples .entry)) (now (summary .entry)) (now (map .entry)) (now (held .entry)) (now (summarised .entry))) (now (work .entry)) (triple s p o) (now (new .entry)) r (now (new .exit)) (stateWith (now (triples .exit)) (now (summary .exit)) (now (map .exit)) (now (held .exit)) (now (summarised .exit))) (now (work .exit)) ⌝ }
+{
+    let fed = feed_lists(
+        *held,
+        *summarised,
+        roster,
+        triples,
+        summary,
+        map,
+        work,
+        s,
+        p,
+        o,
+    );
+    let answer = fed.answer;
+    *held = fed.held;
+    *summarised = fed.summarised;
+    found_status(answer, new)
+}
+
+#[no_mangle]
+pub extern "C" fn ws_write(n: u32, table: &[u32], out: &mut [u8], count: &mut usize) -> u32
+    ensures { λ s. ⌜ Stores (writeOutcome rdfs n (now (table .entry)) (now (out .entry))) (now (count .entry)) s (now (count .exit)) × (now (out .exit) ≡ writeList rdfs n (now (table .entry)) (now (out .entry))) ⌝ }
+{
+    counted_status(write(n, table, out), count)
+}
+
+// Stores an end's two numbers.
+fn put_end(list: &mut [u32], i: usize, e: End)
+    requires { ⌜ i + 1 < length (now list) ⌝ }
+    ensures { λ r. ⌜ now (list .exit) ≡ sets (now (list .entry)) i (endNumbers e) ⌝ }
+{
+    match e {
+        End::Var(v) => {
+            list[i] = 0;
+            list[i + 1] = v;
+        },
+        End::Code(c) => {
+            list[i] = 1;
+            list[i + 1] = c;
+        },
+    }
+}
+
+// Stores a pattern's five numbers.
+fn put_pattern(list: &mut [u32], i: usize, p: Pattern)
+    requires { ⌜ i + 4 < length (now list) ⌝ }
+    ensures { λ r. ⌜ now (list .exit) ≡ sets (now (list .entry)) i (patternNumbers p) ⌝ }
+{
+    let subject = p.subject;
+    let object = p.object;
+    put_end(list, i, subject);
+    list[i + 2] = p.property;
+    put_end(list, i + 3, object);
+}
+
+// Stores a query as the k-th flat query of the list.
+fn put_query(list: &mut [u32], k: usize, q: Query)
+    requires { ⌜ (length (now list) ≡ 656) × (k < 16) ⌝ }
+    ensures { λ r. ⌜ now (list .exit) ≡ sets (now (list .entry)) (41 * k) (queryNumbers q) ⌝ }
+{
+    let i = QUERY_NUMBERS * k;
+    list[i] = q.count;
+    let mut j = 0;
+    while j < 8 {
+        let p = q.patterns[j];
+        put_pattern(list, i + 1 + 5 * j, p);
+        j += 1;
+    }
+}
+
+// Stores sixteen queries as flat queries.
+fn put_queries(list: &mut [u32], queries: [Query; 16])
+    requires { ⌜ length (now list) ≡ 656 ⌝ }
+    ensures { λ r. ⌜ now (list .exit) ≡ flatQueries queries ⌝ }
+{
+    let mut k = 0;
+    while k < 16 {
+        put_query(list, k, queries[k]);
+        k += 1;
+    }
+}
+
+// The status of a text that was read.
+fn form_status(f: Form) -> u32
+    ensures { λ s. ⌜ s ≡ formStatus f ⌝ }
+{
+    match f {
+        Form::Read => 0,
+        Form::Refused(r) => status(r),
+    }
+}
+
+// Reads a text: its triples into the list, its queries into 16 flat ones, and N, the number of triples and that of queries.
+// Refused with 1 where there are not 656 numbers for the queries. A query past those of the text, and all that is lent after 8 and 5,
+// is zero.
+#[no_mangle]
+pub extern "C" fn ws_read(
+    text: &[u8],
+    list: &mut [u32],
+    queries: &mut [u32],
+    n: &mut u32,
+    count: &mut usize,
+    asks: &mut usize,
+) -> u32
+    ensures { λ s. ⌜ ReadStatus (now (text .entry)) (lent (now (list .entry)) (now (queries .entry)) (now (n .entry)) (now (count .entry)) (now (asks .entry))) s (lent (now (list .exit)) (now (queries .exit)) (now (n .exit)) (now (count .exit)) (now (asks .exit))) ⌝ }
+{
+    if queries.len() != QUERIES_NUMBERS {
+        return status(Refusal::Length);
+    }
+    let answer = read(text, list);
+    let site = answer.site;
+    *n = site.size;
+    *count = site.count;
+    *asks = site.asks;
+    let read_queries = site.queries;
+    put_queries(queries, read_queries);
+    let form = answer.form;
+    form_status(form)
+}
