@@ -1,9 +1,9 @@
 -- Steps of a builder whose frozen part stays, and a loop of offers.
 -- Assumes nothing.
-use Prim.Native.Nat.{ℕ, _+_, _*_, _/_, _<_, _≤_}
+use Prim.Native.Nat.{ℕ, _+_, _/_, _<_, _≤_}
 use mathlib.Core.Path.{_≡_, refl, sym, _∙_, subst}
 use mathlib.Core.Logic.{_⊎_, inl, inr, ⊎-elim}
-use mathlib.Core.Bool.{Bool, true, false, true≢false}
+use mathlib.Core.Bool.{true, false, true≢false}
 use mathlib.Core.List.{List, [], _∷_, List·Memᴰ as Mem, List·Memᴰ·not-nil as no-mem, List·Memᴰ·cases-cons as mem-cases}
 use native.Mathlib.Omega.{arith}
 use lib.ListN.{length}
@@ -17,7 +17,7 @@ use Rattle.theory.proofs.Order.{sorted-rising, sorted-mem, mem-sorted, rising-l
 use Rattle.lists.specs.Flat.{at}
 use Rattle.lists.proofs.Places.{tabulate-agree}
 use Rattle.builder.specs.declared.Builder.{Builder}
-use Rattle.builder.specs.Builder.{first, Built, SameBase, Holds, Offered, State, Step, Collected}
+use Rattle.builder.specs.Builder.{first, Offered, State, Step, Collected}
 
 -- an offer of a triple of U
 module _ (U X : List Triple) (U-rising : Rising U) (l l′ : List ℕ) (b b′ : Builder) (t : Triple) (S : State U X l b) (m : Mem t U) (O : Offered l l′ b b′ t) where

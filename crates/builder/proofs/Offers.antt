@@ -1,12 +1,12 @@
 -- What each way of an offer does.
 -- Assumes nothing.
-use Prim.Native.Nat.{ℕ, zero, suc, _+_, _-_, _*_, _/_, _<_, _≤_}
+use Prim.Native.Nat.{ℕ, _+_, _-_, _*_, _/_, _<_, _≤_}
 use mathlib.Core.Path.{_≡_, refl, sym, _∙_, ap, subst}
 use mathlib.Core.Logic.{_⊎_, inl, inr, ⊎-elim, _↔_}
 use mathlib.Core.Bool.{Bool, true, false, _||_, true≢false}
-use mathlib.Core.List.{List, [], _∷_, _++_, List·Memᴰ as Mem, List·Memᴰ·head as here, List·Memᴰ·tail as there, List·Memᴰ·cases-cons as mem-cases}
+use mathlib.Core.List.{List, _∷_, _++_, List·Memᴰ as Mem, List·Memᴰ·head as here, List·Memᴰ·tail as there, List·Memᴰ·cases-cons as mem-cases}
 use native.Mathlib.Omega.{arith}
-use lib.ListN.{length, getD, take, drop, replicate, length-drop, length-replicate, getD-replicate, take-append-drop}
+use lib.ListN.{length, take, drop, replicate, length-drop, length-replicate, getD-replicate, take-append-drop}
 use lib.Seq.{ext-getD, getD-drop}
 use native.Mathlib.Nat.{sub-zero}
 use Rattle.model.specs.declared.Triple.{Triple}
@@ -15,14 +15,14 @@ use Rattle.model.specs.Triples.{holds, sorted, flat, listed}
 use Rattle.model.specs.Order.{Lt, Rising}
 use Rattle.theory.proofs.Lists.{length-tabulate}
 use Rattle.theory.proofs.Flat.{length-flat}
-use Rattle.theory.proofs.Tests.{or-true, or-left, or-right, or-false}
+use Rattle.theory.proofs.Tests.{or-true, or-left, or-false}
 use Rattle.theory.proofs.Order.{holds-mem, mem-holds, sorted-mem, mem-sorted, sorted-rising, sorted-members}
-use Rattle.lists.specs.Flat.{at, putAt, RisingPart, Cleared}
+use Rattle.lists.specs.Flat.{at, putAt, Cleared}
 use Rattle.lists.proofs.Compare.{Cmp, lt, eq, gt, cmp}
 use Rattle.lists.proofs.Places.{put-same, put-other, put-length, rising-places, flat-places, tabulate-agree}
 use Rattle.sorting.specs.Sorting.{Distinct}
 use Rattle.builder.specs.declared.Builder.{Builder}
-use Rattle.builder.specs.Builder.{first, Built, known, SameBase, Compacted, Holds, Offered, Finished}
+use Rattle.builder.specs.Builder.{first, Built, known, SameBase, Compacted, Offered, Finished}
 use Rattle.builder.proofs.Parts.{Stands, stands, member, Injective, rising-injective, sorted-count, sorted-more, at-agree}
 
 -- ── known triples ──

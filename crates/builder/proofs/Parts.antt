@@ -2,20 +2,18 @@
 -- Assumes nothing.
 use Prim.Native.Nat.{ℕ, zero, suc, _+_, _-_, _*_, _<_, _≤_}
 use mathlib.Core.Path.{_≡_, refl, sym, _∙_, ap, subst}
-use mathlib.Core.Logic.{_⊎_, inl, inr, ⊎-elim, _↔_}
-use mathlib.Core.Bool.{Bool, true, false, true≢false}
-use mathlib.Core.List.{List, [], _∷_, List·Memᴰ as Mem, List·Memᴰ·head as here, List·Memᴰ·tail as there, List·Memᴰ·cases-cons as mem-cases}
+use mathlib.Core.Bool.{true}
+use mathlib.Core.List.{List, _∷_, List·Memᴰ as Mem}
 use native.Mathlib.Omega.{arith}
 use lib.ListN.{length, getD}
 use Rattle.model.specs.declared.Triple.{Triple}
 use Rattle.model.specs.Lists.{tabulate}
-use Rattle.model.specs.Triples.{triple, holds, insert, sorted}
+use Rattle.model.specs.Triples.{triple, holds, sorted}
 use Rattle.model.specs.Order.{Lt}
-use Rattle.theory.proofs.Tests.{bool-cases, not-true-false}
+use Rattle.theory.proofs.Tests.{not-true-false}
 use Rattle.theory.proofs.Lists.{tabulate-mem, mem-tabulate}
-use Rattle.theory.proofs.Order.{lt-irrefl, holds-mem, mem-holds, sorted-mem, insert-new}
+use Rattle.theory.proofs.Order.{lt-irrefl, holds-mem, sorted-mem, insert-new}
 use Rattle.lists.specs.Flat.{at, RisingPart}
-use Rattle.lists.proofs.Compare.{Cmp, lt, eq, gt, cmp}
 
 -- t stands at a place below n
 pub record Stands (f : ℕ → Triple) (a b : ℕ) (t : Triple) : Type 0 where

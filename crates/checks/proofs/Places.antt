@@ -1,13 +1,11 @@
 -- A test over the values of a function at a run of numbers.
 -- Assumes nothing.
-use Prim.Native.Nat.{ℕ, zero, suc, _+_, _-_, _*_, _/_, _<_, _≤_}
+use Prim.Native.Nat.{ℕ, zero, suc, _+_, _-_, _<_, _≤_}
 use native.Mathlib.Nat.{zero-add, add-zero, suc-add, add-suc}
-use native.Mathlib.Omega.{arith}
 use mathlib.Core.Path.{_≡_, refl, sym, ap, _∙_}
 use mathlib.Core.Bool.{Bool, true, false, _||_, or-assoc, or-false}
-use mathlib.Core.List.{List, [], _∷_}
 use Rattle.model.specs.Lists.{any, tabulate}
-use Rattle.theory.proofs.Lists.{any-holds, any-none, none-any, mem-tabulate, tabulate-mem}
+use Rattle.theory.proofs.Lists.{any-holds, none-any, mem-tabulate, tabulate-mem}
 
 module _ {A : Type 0} (f : A → Bool) (g : ℕ → A) where
   pub run-none : (a : ℕ) → any f (tabulate g a 0) ≡ false

@@ -1,23 +1,21 @@
 -- Demand 3 over the calls.
 -- Assumes nothing.
-use Prim.Native.Nat.{ℕ, _*_, _≤_}
+use Prim.Native.Nat.{ℕ, _*_}
 use mathlib.Core.Path.{_≡_, refl, sym, subst, _∙_, ap}
-use mathlib.Core.Logic.{_⊎_, inl, inr, ⊎-elim}
-use mathlib.Core.Bool.{Bool, true, false, not, _||_}
-use mathlib.Core.List.{List, [], _∷_, _++_}
+use mathlib.Core.Bool.{Bool, true, false}
+use mathlib.Core.List.{List, [], _∷_}
 use native.Mathlib.Omega.{arith}
-use lib.Dec.{eqb, ltb}
 use lib.ListN.{length, take}
 use lib.Seq.{take-append-seam}
 use Rattle.model.specs.declared.Triple.{Triple}
 use Rattle.model.specs.Codes.{rdfs}
 use Rattle.model.specs.Lists.{padded}
-use Rattle.model.specs.Triples.{triples, flat, slots, listed}
+use Rattle.model.specs.Triples.{triples, flat, listed}
 use Rattle.model.specs.Partition.{label}
 use Rattle.model.specs.Classes.{mapOf}
 use Rattle.model.specs.Summary.{summary}
 use Rattle.model.specs.Saturation.{saturation}
-use Rattle.model.specs.Outcomes.{Outcome, accepted, refused, Check, check, checked, decided, Passes, left, wrongSize, wrongLength, wrongWork}
+use Rattle.model.specs.Outcomes.{Outcome, accepted, refused, check, checked, decided, left, wrongSize, wrongLength}
 use Rattle.model.specs.Calls.{tableChecks, Accepted, saturated, saturateOutcome, saturateLeaves, summariseOutcome, summariseLeaves}
 use Rattle.theory.proofs.Tests.{or-false, or-neither}
 use Rattle.theory.proofs.Checks.{passed, passed-all, first-passes, passes-first, not-accepted, no-checks}
@@ -30,7 +28,6 @@ use Rattle.demands.proofs.NoneMeansNone.{none-means-none}
 use Rattle.model.specs.Roster.{ownRoster, wrongCodes}
 use Rattle.query.specs.Ask.{askOutcome, askChecks}
 use Rattle.query.specs.Match.{Match}
-use Rattle.site_form.specs.Reading.{queryOf}
 use Rattle.demands.specs.Routes.{tableIn, Lent, Summarises, Saturates, ShortcutOfCalls, NoneOfCalls, AskRefusesSix}
 
 -- what a list that lists triples begins with

@@ -1,10 +1,10 @@
 -- A new triple taken in: without a new summary, and with one.
 -- Assumes nothing.
-use Prim.Native.Nat.{ℕ, suc, _+_, _*_, _/_, _<_, _≤_}
+use Prim.Native.Nat.{ℕ, _+_, _*_, _/_, _<_, _≤_}
 use mathlib.Core.Path.{_≡_, refl, sym, _∙_, ap, subst}
 use mathlib.Core.Logic.{_⊎_, inl, inr, ⊎-elim}
-use mathlib.Core.Bool.{Bool, true, false, not, _||_, true≢false}
-use mathlib.Core.List.{List, [], _∷_, List·Memᴰ as Mem}
+use mathlib.Core.Bool.{Bool, true, false, not, true≢false}
+use mathlib.Core.List.{List, [], List·Memᴰ as Mem}
 use native.Mathlib.Omega.{arith}
 use lib.ListN.{length, length-replicate}
 use borrow.Author.Tests.{not-false}
@@ -23,7 +23,7 @@ use Rattle.model.specs.Partition.{label}
 use Rattle.model.specs.Cliques.{Node}
 use Rattle.model.specs.Classes.{mapOf}
 use Rattle.model.specs.Summary.{moved, summary}
-use Rattle.model.specs.Outcomes.{Outcome, refused, accepted, number, found, counted, Check, check}
+use Rattle.model.specs.Outcomes.{Outcome, accepted, number, found, counted}
 use Rattle.model.specs.Intake.{State, stateOf, Valid}
 use Rattle.theory.proofs.Tests.{or-false, or-neither}
 use Rattle.theory.proofs.Checks.{no-checks, not-accepted}
@@ -44,9 +44,9 @@ use Rattle.summarise.specs.Condensed.{condensedOutcome, Condensed}
 use Rattle.intake.specs.Insertion.{Inserted}
 use Rattle.intake.specs.Opening.{stateWith}
 use Rattle.intake.specs.declared.FedCounts.{FedCounts}
-use Rattle.intake.specs.Feeding.{Known, bad, Ready, Kept, AddCall, refusal}
+use Rattle.intake.specs.Feeding.{Known, bad, Ready, AddCall, refusal}
 use Rattle.intake.proofs.Insertion.{new-mem, inserted-first}
-use Rattle.intake.proofs.Held.{listed-first, held-first, inserted-listed}
+use Rattle.intake.proofs.Held.{listed-first, inserted-listed}
 use Rattle.intake.proofs.Quick.{quick-map, quick-summary}
 
 -- a triple is wrong neither way

@@ -1,18 +1,16 @@
 -- A lent list that holds triples in front and zeros behind, by its places.
 -- Assumes nothing.
 use Prim.Native.Nat.{ℕ, _+_, _-_, _*_, _<_, _≤_}
-use mathlib.Core.Path.{_≡_, refl, sym, _∙_, ap, subst}
-use mathlib.Core.Logic.{⊎-elim}
-use mathlib.Core.Bool.{Bool, true, false}
-use mathlib.Core.List.{List, [], _∷_, _++_}
+use mathlib.Core.Path.{_≡_, sym, _∙_, ap}
+use mathlib.Core.Bool.{false}
+use mathlib.Core.List.{List, _++_}
 use native.Mathlib.Omega.{arith}
 use lib.ListN.{length, getD, take, drop, replicate, length-replicate, getD-replicate, take-append-drop, length-drop}
 use lib.Seq.{ext-getD, getD-drop, getD-append-add, take-append-seam}
 use Rattle.model.specs.declared.Triple.{Triple}
-use Rattle.model.specs.Lists.{zeros, padded, tabulate}
+use Rattle.model.specs.Lists.{zeros, padded}
 use Rattle.model.specs.Triples.{holds, insert, flat, triples, listed}
 use Rattle.theory.proofs.Lists.{length-tabulate}
-use Rattle.theory.proofs.Order.{insert-new}
 use Rattle.theory.proofs.Flat.{length-flat, triples-flat, length-listed}
 use Rattle.lists.specs.Flat.{at, RisingPart, Bound}
 use Rattle.lists.proofs.Places.{flat-places, triples-places}

@@ -1,26 +1,22 @@
 -- Putting a triple between the triples of a list: the loop, and that a rising front stays rising.
 -- Assumes nothing.
-use Prim.Native.Nat.{ℕ, zero, suc, _+_, _-_, _*_, _<_, _≤_}
+use Prim.Native.Nat.{ℕ, _+_, _-_, _*_, _<_, _≤_}
 use mathlib.Core.Path.{_≡_, refl, sym, _∙_, ap, subst}
-use mathlib.Core.Logic.{_⊎_, inl, inr, ⊎-elim, _↔_}
-use mathlib.Core.Bool.{Bool, true, false, true≢false}
-use mathlib.Core.List.{List, [], _∷_, _++_, List·Memᴰ as Mem}
+use mathlib.Core.Logic.{_⊎_, inr, ⊎-elim}
+use mathlib.Core.Bool.{false, true≢false}
+use mathlib.Core.List.{List, List·Memᴰ as Mem}
 use native.Mathlib.Omega.{arith}
-use lib.ListN.{length, getD, take, drop, replicate, length-replicate, getD-replicate, length-append, take-append-drop, length-drop}
-use lib.Seq.{ext-getD, getD-drop}
+use lib.ListN.{length, getD}
 use Rattle.model.specs.declared.Triple.{Triple}
-use Rattle.model.specs.Lists.{zeros, padded, tabulate}
-use Rattle.model.specs.Triples.{before, same, holds, insert, flat, triples, listed}
-use Rattle.model.specs.Order.{Lt, Rising}
+use Rattle.model.specs.Triples.{same, holds, insert}
+use Rattle.model.specs.Order.{Lt}
 use Rattle.theory.proofs.Tests.{not-true-false}
-use Rattle.theory.proofs.Lists.{tabulate-mem, mem-tabulate, length-tabulate}
-use Rattle.theory.proofs.Order.{lt-total, same-eq, holds-mem, mem-holds, insert-self, insert-keeps, insert-mem, insert-rising, insert-new, rising-unique}
-use Rattle.theory.proofs.Flat.{length-flat, triples-flat}
+use Rattle.theory.proofs.Lists.{tabulate-mem, mem-tabulate}
+use Rattle.theory.proofs.Order.{lt-total, same-eq, mem-holds, insert-self, insert-keeps, insert-mem, insert-rising, rising-unique}
 use Rattle.lists.specs.Flat.{at, putAt, RisingPart, Bound}
 use Rattle.lists.proofs.Compare.{Cmp, lt, eq, gt, cmp}
-use Rattle.lists.proofs.Places.{put-same, put-other, put-rest, put-length, places-rising, rising-places, flat-places, triples-places, tabulate-agree}
+use Rattle.lists.proofs.Places.{put-same, put-other, put-rest, put-length, places-rising}
 use Rattle.builder.specs.Builder.{first}
-use Rattle.builder.proofs.Parts.{at-agree}
 use Rattle.intake.specs.Insertion.{Inserted}
 
 -- the first n triples of l, those from place j on moved up by one; place j is free

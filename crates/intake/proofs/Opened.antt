@@ -1,8 +1,7 @@
 -- Opening, answer by answer.
 -- Assumes nothing.
-use Prim.Native.Nat.{ℕ, _/_, _≤_, _<_}
+use Prim.Native.Nat.{ℕ, _/_, _≤_}
 use mathlib.Core.Path.{_≡_, refl, sym, subst, _∙_, ap}
-use mathlib.Core.Logic.{⊎-elim}
 use mathlib.Core.Bool.{Bool, true, false, cond, not, _||_}
 use mathlib.Core.List.{List}
 use native.Mathlib.Omega.{arith}
@@ -14,13 +13,12 @@ use Rattle.model.specs.declared.Done.{Done}
 use Rattle.model.specs.declared.Refusal.{Refusal}
 use Rattle.model.specs.declared.Done.the-variants.{Accepted, Refused}
 use Rattle.model.specs.declared.Refusal.the-variants.{Length, Roster}
-use Rattle.model.specs.Codes.{rdfs, absent, mostTriples}
-use Rattle.model.specs.Lists.{zeros}
+use Rattle.model.specs.Codes.{rdfs, absent}
 use Rattle.model.specs.Triples.{slots}
 use Rattle.model.specs.Roster.{wrongRoster}
 use Rattle.model.specs.Outcomes.{Outcome, refused, accepted, number, done, decided, wrongSize}
 use Rattle.model.specs.Intake.{State, wrongLists, openOutcome, opened, openLeaves}
-use Rattle.theory.proofs.Tests.{or-left, or-right, or-false, or-neither}
+use Rattle.theory.proofs.Tests.{or-left, or-right, or-false}
 use Rattle.theory.proofs.Accepted.{size-bounds}
 use Rattle.lists.specs.Flat.{Cleared}
 use Rattle.lists.proofs.Search.{cleared-all}

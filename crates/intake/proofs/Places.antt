@@ -1,28 +1,26 @@
 -- Searching a place among triples that need not be rising, the image of a triple, and wrong triples that are held.
 -- Assumes nothing.
-use Prim.Native.Nat.{ℕ, _+_, _-_, _*_, _/_, _%_, _<_, _≤_}
-use mathlib.Core.Path.{_≡_, refl, sym, _∙_, ap, subst}
-use mathlib.Core.Logic.{_⊎_, inl, inr, ⊎-elim}
-use mathlib.Core.Bool.{Bool, true, false, not, _||_, true≢false}
+use Prim.Native.Nat.{ℕ, _+_, _-_, _/_, _<_, _≤_}
+use mathlib.Core.Path.{_≡_, sym, _∙_, ap, subst}
+use mathlib.Core.Bool.{Bool, true, false, not, true≢false}
 use mathlib.Core.List.{List, List·Memᴰ as Mem}
 use native.Mathlib.Omega.{arith}
 use native.Mathlib.Nat.{sub-zero}
 use lib.Dec.{eqb}
 use lib.ListN.{length, getD}
-use borrow.Author.Tests.{ne-eqb, eq-eqb, eqb-true, eqb-false}
+use borrow.Author.Tests.{eqb-false}
 use Rattle.model.specs.declared.Triple.{Triple}
 use Rattle.model.specs.Codes.{rdfs, absent}
 use Rattle.model.specs.Lists.{any, tabulate}
 use Rattle.model.specs.Triples.{triple, before, same, holds}
 use Rattle.model.specs.Roster.{coversTriple, wrongTriple}
-use Rattle.model.specs.Outcomes.{wrongWork}
 use Rattle.model.specs.Partition.{label}
 use Rattle.model.specs.Summary.{moved}
-use Rattle.theory.proofs.Tests.{or-left, or-right, or-neither, bool-cases}
+use Rattle.theory.proofs.Tests.{or-left, or-right, or-neither}
 use Rattle.theory.proofs.Lists.{mem-tabulate}
 use Rattle.theory.proofs.Order.{same-eq}
 use Rattle.theory.proofs.Covered.{Below, codes-right}
-use Rattle.lists.specs.Flat.{at, RisingPart, Bound}
+use Rattle.lists.specs.Flat.{at, RisingPart}
 use Rattle.lists.proofs.Places.{any-at, any-nowhere, same-default}
 use Rattle.lists.proofs.Compare.{Cmp, lt, eq, gt, cmp}
 use Rattle.lists.proofs.Search.{Bracket, bracket-start, bracket-up, bracket-down, bracket-end, bound-here, bound-past}

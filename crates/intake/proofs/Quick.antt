@@ -3,7 +3,7 @@
 use Prim.Native.Nat.{ℕ, _≤_}
 use mathlib.Core.Path.{_≡_, refl, sym, subst, _∙_, ap}
 use mathlib.Core.Logic.{_⊎_, inl, inr, ⊎-elim}
-use mathlib.Core.Bool.{Bool, true, false, true≢false}
+use mathlib.Core.Bool.{true, true≢false}
 use mathlib.Core.List.{List, List·Memᴰ as Mem}
 use lib.ListN.{length}
 use Rattle.model.specs.declared.Triple.{Triple}
@@ -14,10 +14,10 @@ use Rattle.model.specs.Partition.{label}
 use Rattle.model.specs.Cliques.{Graph, Side, source, target, end, Node, Has}
 use Rattle.model.specs.Classes.{DataNode, mapOf}
 use Rattle.model.specs.Summary.{moved, Image, summary}
-use Rattle.theory.proofs.Order.{insert-self, insert-keeps, insert-mem}
+use Rattle.theory.proofs.Order.{insert-keeps, insert-mem}
 use Rattle.theory.proofs.Covered.{Below, AllBelow, Marked, Plain, by-mark}
 use Rattle.theory.proofs.Saturated.{In}
-use Rattle.theory.proofs.Weak.{node-map, HasData, data-map, data-node-map, has-data, Weak, by-side, by-none, itself, turned, chained, weak-nodes, weak-data, weak-map, has-node, Reps}
+use Rattle.theory.proofs.Weak.{node-map, HasData, data-map, Weak, by-side, by-none, itself, turned, chained, weak-nodes, weak-data, weak-map, has-node, Reps}
 use Rattle.theory.proofs.Mapped.{map-reps, map-absent, length-map-of}
 use Rattle.theory.proofs.Summaries.{summary-rising, summary-exact, summary-unique, map-unique}
 

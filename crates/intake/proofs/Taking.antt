@@ -1,29 +1,28 @@
 -- A feed that no check refuses, answer by answer; and the whole feed.
 -- Assumes nothing.
-use Prim.Native.Nat.{ℕ, _+_, _*_, _/_, _<_, _≤_}
+use Prim.Native.Nat.{ℕ, _/_, _<_, _≤_}
 use mathlib.Core.Path.{_≡_, refl, sym, _∙_, ap, subst}
-use mathlib.Core.Logic.{_⊎_, inl, inr, ⊎-elim}
+use mathlib.Core.Logic.{inl, inr}
 use mathlib.Core.Bool.{Bool, true, false, cond, not, _||_, true≢false}
-use mathlib.Core.List.{List, [], _∷_}
+use mathlib.Core.List.{List}
 use native.Mathlib.Omega.{arith}
-use lib.Dec.{eqb, leb, ltb}
+use lib.Dec.{eqb, leb}
 use lib.ListN.{length}
 use borrow.Author.Tests.{le-leb, lt-leb, eqb-true, not-false}
 use Rattle.model.specs.declared.Triple.{Triple}
 use Rattle.model.specs.declared.Refusal.{Refusal}
 use Rattle.model.specs.declared.Refusal.the-variants.{Length, Roster, Code, Cover, Full}
-use Rattle.model.specs.declared.Found.the-variants.{Yes, No, Refused}
-use Rattle.model.specs.Codes.{rdfs, mostTriples}
+use Rattle.model.specs.declared.Found.the-variants.{No, Refused}
+use Rattle.model.specs.Codes.{rdfs}
 use Rattle.model.specs.Lists.{any, zeros}
 use Rattle.model.specs.Triples.{slots, holds, insert}
 use Rattle.model.specs.Roster.{coversTriple, wrongRoster, wrongTriple}
-use Rattle.model.specs.Outcomes.{Outcome, refused, accepted, number, found, Check, check, decided, Passes, zeroed, left, wrongSize, wrongWork}
+use Rattle.model.specs.Outcomes.{Outcome, refused, accepted, number, found, Check, decided, zeroed, left, wrongSize, wrongWork}
 use Rattle.model.specs.Intake.{State, Feed, judged, joins, stateOf, wrongLists, feedChecks, Valid, Fed}
 use Rattle.theory.proofs.Tests.{or-left, or-right, or-false, or-neither}
-use Rattle.theory.proofs.Checks.{first-passes, no-checks, decided-passes}
-use Rattle.lists.specs.Flat.{at, Bound, Cleared}
+use Rattle.theory.proofs.Checks.{decided-passes}
+use Rattle.lists.specs.Flat.{Cleared}
 use Rattle.lists.proofs.Search.{cleared-all}
-use Rattle.builder.specs.Builder.{first}
 use Rattle.intake.specs.declared.FedCounts.{FedCounts}
 use Rattle.intake.specs.Opening.{wrongLengths, stateWith}
 use Rattle.intake.specs.Feeding.{Place, StandsAt, Ready, Kept, AddCall, Taken, refusal}

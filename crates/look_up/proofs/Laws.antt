@@ -1,12 +1,11 @@
 -- Looking for a triple place by place, and the answers of look up.
 -- Assumes nothing.
 use Prim.Native.Nat.{ℕ, _<_, _≤_, _/_}
-use mathlib.Core.Path.{_≡_, refl, sym, _∙_, ap}
+use mathlib.Core.Path.{_≡_, sym, _∙_, ap}
 use mathlib.Core.Bool.{Bool, true, false, cond}
 use mathlib.Core.List.{List}
 use lib.ListN.{length}
 use Rattle.model.specs.declared.Triple.{Triple}
-use Rattle.model.specs.declared.Found.{Found}
 use Rattle.model.specs.declared.Found.the-variants.{Yes, No, Refused}
 use Rattle.model.specs.declared.Refusal.the-variants.{Length}
 use Rattle.model.specs.Lists.{any}

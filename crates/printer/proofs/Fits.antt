@@ -1,19 +1,18 @@
 -- What is printed of any text fits into 49,152 bytes.
 -- Assumes nothing.
 use Prim.Native.Nat.{ℕ, zero, suc, _+_, _*_, _<_, _≤_}
-use mathlib.Core.Path.{_≡_, refl, sym, _∙_, ap, subst}
+use mathlib.Core.Path.{_≡_, refl, sym, ap, subst}
 use mathlib.Core.Logic.{_⊎_, inl, inr, ⊎-elim}
 use mathlib.Core.Bool.{Bool, true, false, cond, _||_}
 use mathlib.Core.List.{List, [], _∷_, _++_, List·Memᴰ·head as here, List·Memᴰ·tail as there}
 use mathlib.Core.Option.{Option, none, some}
 use native.Mathlib.Omega.{arith}
-use lib.Dec.{eqb, ltb}
+use lib.Dec.{ltb}
 use lib.ListN.{length, getD, length-append}
 use borrow.Author.Tests.{eq-eqb, ne-eqb, ltb-false}
 use Rattle.model.specs.declared.Triple.{Triple}
 use Rattle.model.specs.Codes.{rdfs, absent}
 use Rattle.model.specs.Lists.{any, collect, tabulate}
-use Rattle.model.specs.Triples.{flat}
 use Rattle.model.specs.Roster.{ownRoster, wrongCodes}
 use Rattle.model.specs.Saturation.{saturation}
 use Rattle.model.specs.Partition.{label}
@@ -31,7 +30,7 @@ use Rattle.query.specs.declared.Query.{Query}
 use Rattle.query.specs.Ask.{askOutcome}
 use Rattle.site_form.specs.Text.{bytes, numeral, tripleLine}
 use Rattle.site_form.specs.Reading.{Forms, readForms, queriesOf}
-use Rattle.site_form.specs.Printing.{mostBytes, largestPrinted, printerSlots, isRefused, summaryLine, nodeLine, nodeLines, answerLine, report, shown, printChecked, printForms, printRead, printOutcome, printed, asked}
+use Rattle.site_form.specs.Printing.{mostBytes, largestPrinted, printerSlots, isRefused, summaryLine, nodeLine, nodeLines, answerLine, report, shown, printChecked, printForms, printRead, printOutcome, printed}
 use Rattle.site_form.proofs.Whole.{read-says}
 use Rattle.site_writer.proofs.Numerals.{three-digits, five-digits}
 use Rattle.printer.specs.Lines.{refusedLine, pairLine}

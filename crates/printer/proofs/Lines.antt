@@ -12,7 +12,6 @@ use lib.Seq.{sets}
 use Rattle.model.specs.Codes.{absent}
 use Rattle.model.specs.Lists.{collect, tabulate}
 use Rattle.model.specs.Partition.{label}
-use Rattle.model.specs.Outcomes.{Outcome}
 use Rattle.model.specs.declared.Refusal.{Refusal}
 use Rattle.query.specs.declared.Asked.{Asked}
 use Rattle.query.specs.declared.Asked.the-variants.{Maybe, None, Refused}

@@ -1,30 +1,29 @@
 -- The calls within the printer, answer by answer.
 -- Assumes nothing.
-use Prim.Native.Nat.{ℕ, _+_, _-_, _*_, _/_, _%_, _<_, _≤_}
+use Prim.Native.Nat.{ℕ, _-_, _*_, _/_, _%_, _<_, _≤_}
 use mathlib.Core.Path.{_≡_, refl, sym, _∙_, ap, subst}
-use mathlib.Core.Logic.{_⊎_, inl, inr, ⊎-elim}
+use mathlib.Core.Logic.{_⊎_, ⊎-elim}
 use mathlib.Core.Bool.{Bool, true, false, cond, not, _||_}
-use mathlib.Core.List.{List, [], _∷_, _++_}
-use mathlib.Core.Option.{Option, none, some}
+use mathlib.Core.List.{List}
 use native.Mathlib.Omega.{arith}
 use lib.Dec.{eqb, ltb}
 use lib.ListN.{length, take}
 use lib.Seq.{take-append-seam, length-take-le}
 use borrow.Author.Tests.{eq-eqb, lt-ltb, le-ltb, ltb-false, ltb-true}
 use Rattle.model.specs.declared.Refusal.{Refusal}
-use Rattle.model.specs.declared.Refusal.the-variants.{Length, Code, Slots, Form}
+use Rattle.model.specs.declared.Refusal.the-variants.{Length, Code, Slots}
 use Rattle.model.specs.declared.Counted.{Counted}
 use Rattle.model.specs.declared.Counted.the-variants.{Count, Refused as counted-refused}
 use Rattle.model.specs.declared.Done.{Done}
 use Rattle.model.specs.declared.Triple.{Triple}
 use Rattle.model.specs.Codes.{rdfs, mostTriples}
-use Rattle.model.specs.Lists.{padded, zeros}
+use Rattle.model.specs.Lists.{padded}
 use Rattle.model.specs.Triples.{triples, flat, slots, listed}
 use Rattle.model.specs.Roster.{ownRoster, wrongCodes}
 use Rattle.model.specs.Saturation.{saturation}
 use Rattle.model.specs.Classes.{mapOf}
 use Rattle.model.specs.Summary.{summary}
-use Rattle.model.specs.Outcomes.{Outcome, refused, accepted, number, counted, checked, check, decided, Passes, left, wrongSize, wrongLength, wrongWork}
+use Rattle.model.specs.Outcomes.{Outcome, refused, accepted, number, counted, decided, Passes, wrongSize, wrongLength, wrongWork}
 use Rattle.model.specs.Calls.{tableChecks, Accepted, Summarised, saturated, ownRosterOutcome, ownRosterLeaves, saturateOutcome, saturateLeaves, summariseOutcome, summariseLeaves}
 use Rattle.theory.proofs.Tests.{or-left, or-right, or-neither, bool-cases}
 use Rattle.theory.proofs.Checks.{first-passes, no-checks, decided-passes, not-accepted, passed-all}

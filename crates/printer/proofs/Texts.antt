@@ -1,9 +1,9 @@
 -- A text that was read.
 -- Assumes nothing.
 use Prim.Native.Nat.{ℕ, _-_, _*_, _/_, _%_, _<_, _≤_}
-use mathlib.Core.Path.{_≡_, refl, sym, _∙_, ap, subst}
-use mathlib.Core.Bool.{Bool, true, false, cond}
-use mathlib.Core.List.{List, [], _∷_}
+use mathlib.Core.Path.{_≡_, refl, sym, _∙_, ap}
+use mathlib.Core.Bool.{Bool, cond}
+use mathlib.Core.List.{List, []}
 use mathlib.Core.Option.{Option, none, some}
 use native.Mathlib.Omega.{arith}
 use lib.Dec.{ltb}
@@ -12,15 +12,15 @@ use borrow.Author.Tests.{lt-ltb, le-ltb}
 use Rattle.model.specs.declared.Refusal.{Refusal}
 use Rattle.model.specs.declared.Refusal.the-variants.{Form}
 use Rattle.model.specs.Triples.{triples, flat, slots, listed}
-use Rattle.model.specs.Outcomes.{Outcome, refused, accepted, number, check, decided, left}
+use Rattle.model.specs.Outcomes.{refused, accepted, number, check}
 use Rattle.theory.proofs.Checks.{no-checks, not-accepted, decided-passes, decided-skip}
 use Rattle.theory.proofs.Flat.{triples-flat, length-flat, length-listed}
 use Rattle.table_checks.proofs.Laws.{left-after}
 use Rattle.site_form.specs.declared.Site.{Site}
 use Rattle.site_form.specs.declared.Form.the-variants.{Read, Refused}
 use Rattle.site_form.specs.declared.ReadAnswer.{ReadAnswer}
-use Rattle.site_form.specs.Reading.{Forms, readForms, queriesOf, siteOf, readOutcome, readList, outcomeOf, formed, answered, triplesIn}
-use Rattle.site_form.specs.Printing.{mostBytes, printForms, printRead, printOutcome, printed, shown}
+use Rattle.site_form.specs.Reading.{Forms, readForms, siteOf, readOutcome, readList, outcomeOf, formed, triplesIn}
+use Rattle.site_form.specs.Printing.{mostBytes, printRead, printOutcome, printed, shown}
 use Rattle.site_form.proofs.Whole.{read-says}
 use Rattle.site_reader.specs.Calls.{ReadCall}
 use Rattle.site_writer.specs.Calls.{Put}

@@ -1,6 +1,6 @@
 -- What is printed, part by part, in the order of the checks.
 -- Assumes nothing.
-use Prim.Native.Nat.{ℕ, _%_, _*_, _≤_}
+use Prim.Native.Nat.{ℕ, _%_, _≤_}
 use mathlib.Core.Path.{_≡_}
 use mathlib.Core.Bool.{Bool, false, _||_}
 use mathlib.Core.List.{List, [], _∷_}

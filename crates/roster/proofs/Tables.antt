@@ -1,14 +1,13 @@
 -- Loops over the triples of a table.
 -- Assumes nothing.
-use Prim.Native.Nat.{ℕ, _+_, _*_, _<_, _≤_, _/_}
-use mathlib.Core.Path.{_≡_, refl, sym, _∙_, ap, subst}
+use Prim.Native.Nat.{ℕ, _<_, _≤_, _/_}
+use mathlib.Core.Path.{_≡_, sym, _∙_, ap, subst}
 use mathlib.Core.Bool.{Bool, true, false, not}
 use mathlib.Core.List.{List, List·Memᴰ as Mem}
 use native.Mathlib.Omega.{arith}
 use lib.ListN.{length}
 use Rattle.model.specs.declared.Triple.{Triple}
 use Rattle.model.specs.Codes.{rdfs}
-use Rattle.model.specs.Lists.{all, tabulate}
 use Rattle.model.specs.Triples.{triples}
 use Rattle.model.specs.Roster.{coversTriple, covers}
 use Rattle.theory.proofs.Lists.{all-at, at-all, mem-tabulate, tabulate-mem}

@@ -1,14 +1,13 @@
 -- Queries as values.
 -- Assumes nothing.
 use Prim.Native.Nat.{ℕ, _+_, _<_}
-use mathlib.Core.Path.{_≡_, _∙_, ap, sym}
+use mathlib.Core.Path.{_≡_, _∙_, ap}
 use mathlib.Core.List.{List, _++_}
 use native.Mathlib.Nat.{zero-add}
 use lib.ListN.{length, getD, List·getD-append}
 use lib.Seq.{ext-getD}
 use native.Mathlib.Omega.{arith}
 use Rattle.model.specs.Lists.{tabulate}
-use Rattle.query.specs.declared.Pattern.{Pattern}
 use Rattle.query.specs.Ask.{blank, counted}
 use Rattle.theory.proofs.Lists.{length-tabulate, tabulate-at}
 use Rattle.site_form.specs.Reading.{queryOf, CountsPatterns}

@@ -1,10 +1,10 @@
 -- What summarise returns and leaves.
 -- Assumes nothing.
-use Prim.Native.Nat.{ℕ, _+_, _*_, _/_, _<_, _≤_}
-use mathlib.Core.Path.{_≡_, refl, sym, _∙_, ap, subst}
+use Prim.Native.Nat.{ℕ, _*_, _/_, _<_, _≤_}
+use mathlib.Core.Path.{_≡_, sym, _∙_, ap, subst}
 use mathlib.Core.Logic.{_↔_}
 use mathlib.Core.Bool.{Bool, true, false, not, _||_}
-use mathlib.Core.List.{List, [], _∷_, _++_, map, List·Memᴰ as Mem}
+use mathlib.Core.List.{List, [], _∷_, map, List·Memᴰ as Mem}
 use native.Mathlib.Omega.{arith}
 use lib.Dec.{eqb, ltb}
 use lib.ListN.{length}
@@ -19,8 +19,8 @@ use Rattle.model.specs.Triples.{triples, slots, sorted, listed}
 use Rattle.model.specs.Partition.{label}
 use Rattle.model.specs.Classes.{mapOf}
 use Rattle.model.specs.Summary.{moved, summary}
-use Rattle.model.specs.Outcomes.{Outcome, refused, accepted, number, counted, check, checked, Passes, left, wrongWork}
-use Rattle.model.specs.Calls.{tableChecks, summariseOutcome, summariseLeaves, Summarised}
+use Rattle.model.specs.Outcomes.{Outcome, accepted, number, counted, check, checked, Passes, left, wrongWork}
+use Rattle.model.specs.Calls.{tableChecks, summariseOutcome, summariseLeaves}
 use Rattle.theory.proofs.Checks.{no-checks}
 use Rattle.theory.proofs.Lists.{length-tabulate, tabulate-mem, mem-tabulate, map-mem, mem-map}
 use Rattle.theory.proofs.Order.{sorted-members, sorted-length}
@@ -38,7 +38,7 @@ use Rattle.lists.proofs.Places.{triples-table}
 use Rattle.lists.proofs.Search.{cleared-all}
 use Rattle.builder.specs.declared.Builder.{Builder}
 use Rattle.builder.specs.Builder.{first, Collected, Finished}
-use Rattle.summarise.specs.Condensed.{condensedOutcome, Condensed, SummariseCall}
+use Rattle.summarise.specs.Condensed.{Condensed, SummariseCall}
 
 -- ── triples that pass the checks 1 to 4 ──
 -- the images by place are the images of the list

@@ -13,7 +13,7 @@ use Rattle.model.specs.Triples.{slots, listed}
 use Rattle.model.specs.Classes.{mapOf}
 use Rattle.model.specs.Summary.{summary}
 use Rattle.model.specs.Outcomes.{Outcome, check, checked, counted, left}
-use Rattle.model.specs.Calls.{Summarised, summariseOutcome, summariseLeaves}
+use Rattle.model.specs.Calls.{summariseOutcome, summariseLeaves}
 
 module _ (roster : List ℕ) (ts : List Triple) where
   -- check 5 by itself

@@ -17,7 +17,7 @@ use Rattle.model.specs.Roster.{covers, wrongRoster, wrongCodes}
 use Rattle.model.specs.Outcomes.{Outcome, refused, accepted, number, Check, check, decided, checked, Passes, zeroed, left, wrongSize, wrongLength}
 use Rattle.model.specs.Calls.{tableChecks, Accepted}
 use Rattle.theory.proofs.Tests.{or-left, or-right, or-false, or-neither, bool-cases}
-use Rattle.theory.proofs.Checks.{passes-first, first-passes, no-checks, decided-passes, decided-cases, not-accepted}
+use Rattle.theory.proofs.Checks.{passes-first, decided-cases, not-accepted}
 use Rattle.theory.proofs.Covered.{AllBelow, all-codes}
 use Rattle.theory.proofs.Accepted.{Right, size-bounds, rdfs-right}
 use Rattle.table_checks.specs.declared.Verdict.{Verdict}

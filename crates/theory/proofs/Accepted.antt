@@ -1,36 +1,32 @@
 -- What acceptance says, and that the saturation and the summary of an accepted table are accepted with the same roster.
 -- Assumes nothing.
-use Prim.Native.Nat.{ℕ, zero, suc, _≤_, _<_, _+_, _*_, _%_}
-use mathlib.Core.Path.{_≡_, refl, sym, subst, _∙_, ap}
-use mathlib.Core.Logic.{_⊎_, inl, inr, ⊎-elim, _↔_}
-use mathlib.Core.Bool.{Bool, true, false, cond, not, _&&_, _||_}
-use mathlib.Core.List.{List, [], _∷_, List·Memᴰ as Mem, List·Memᴰ·head as here, List·Memᴰ·tail as there, List·Memᴰ·not-nil as no-mem}
+use Prim.Native.Nat.{ℕ, zero, suc, _≤_, _<_, _*_, _%_}
+use mathlib.Core.Path.{_≡_, refl, sym, subst, ap}
+use mathlib.Core.Bool.{true, false, not}
+use mathlib.Core.List.{List, List·Memᴰ as Mem, List·Memᴰ·head as here, List·Memᴰ·tail as there, List·Memᴰ·not-nil as no-mem}
 use native.Mathlib.Omega.{arith}
-use lib.Dec.{eqb, leb, ltb}
+use lib.Dec.{eqb, ltb}
 use lib.ListN.{length}
-use borrow.Author.Tests.{ltb-false, le-ltb, eq-eqb, not-false, eqb-true}
+use borrow.Author.Tests.{ltb-false, le-ltb, eq-eqb, not-false}
 use Rattle.model.specs.declared.Triple.{Triple}
 use Rattle.model.specs.Codes.{Vocabulary, rdfs, absent, mostTriples, kind}
-use Rattle.model.specs.Lists.{any}
-use Rattle.model.specs.Triples.{triple, triples, flat}
-use Rattle.model.specs.Order.{Rising}
+use Rattle.model.specs.Triples.{triples, flat}
 use Rattle.model.specs.Roster.{classRow, propertyRow, covers, wrongRoster, wrongCodes}
-use Rattle.model.specs.Rules.{Derives}
 use Rattle.model.specs.Saturation.{saturation}
 use Rattle.model.specs.Partition.{label}
-use Rattle.model.specs.Cliques.{Graph, source, target, Node}
+use Rattle.model.specs.Cliques.{source, target, Node}
 use Rattle.model.specs.Classes.{mapOf}
-use Rattle.model.specs.Summary.{moved, Image, summary}
-use Rattle.model.specs.Outcomes.{Check, check, Passes, wrongSize, wrongLength}
+use Rattle.model.specs.Summary.{moved, summary}
+use Rattle.model.specs.Outcomes.{wrongSize, wrongLength}
 use Rattle.model.specs.Calls.{tableChecks, Accepted}
 use Rattle.theory.proofs.Tests.{or-false, or-neither}
 use Rattle.theory.proofs.Checks.{passes-first, first-passes, no-checks}
 use Rattle.theory.proofs.Flat.{triples-flat, length-flat, length-triples}
-use Rattle.theory.proofs.Covered.{Below, AllBelow, Codes, Covered, Class, Property, Marked, class-marked, property-marked, one-of, two-of, all-codes, codes-all, all-covered, covered-all, covered-at}
+use Rattle.theory.proofs.Covered.{AllBelow, Codes, Covered, Class, Property, class-marked, property-marked, one-of, two-of, all-codes, codes-all, all-covered, covered-all}
 use Rattle.theory.proofs.Saturated.{In, saturation-exact, saturation-below}
 use Rattle.theory.proofs.Weak.{Reps}
 use Rattle.theory.proofs.Images.{Covers, derives-covered}
-use Rattle.theory.proofs.Mapped.{node-below, map-reps, map-node}
+use Rattle.theory.proofs.Mapped.{map-reps, map-node}
 use Rattle.theory.proofs.Summaries.{summary-exact, summary-below}
 
 pub few-triples : (table : List ℕ) → wrongLength (length table) ≡ false → length (triples table) ≤ mostTriples

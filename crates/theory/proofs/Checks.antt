@@ -3,9 +3,8 @@
 use Prim.Native.Nat.{ℕ}
 use mathlib.Core.Path.{_≡_, refl, sym, subst, _∙_, ap}
 use mathlib.Core.Logic.{_⊎_, inl, inr, ⊎-elim}
-use mathlib.Core.Bool.{Bool, true, false, cond, _||_}
+use mathlib.Core.Bool.{Bool, false, cond}
 use mathlib.Core.List.{List, [], _∷_}
-use native.Mathlib.Omega.{arith}
 use Rattle.model.specs.Lists.{any}
 use Rattle.model.specs.Outcomes.{Outcome, refused, accepted, Check, decided, checked, Passes}
 use Rattle.theory.proofs.Tests.{or-false, or-neither, bool-cases}

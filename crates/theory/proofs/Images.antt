@@ -1,21 +1,20 @@
 -- What the rules derive from a covered graph, and that a map which leaves marked nodes alone commutes with derivation:
 -- the saturation of the image is the image of the saturation.
 -- Assumes nothing.
-use Prim.Native.Nat.{ℕ, _≤_, _<_}
+use Prim.Native.Nat.{ℕ, _≤_}
 use mathlib.Core.Path.{_≡_, refl, sym, subst, _∙_, ap}
-use mathlib.Core.Logic.{_⊎_, inl, inr, ⊎-elim, _↔_}
-use mathlib.Core.Bool.{Bool, true, false}
-use mathlib.Core.List.{List, List·Memᴰ as Mem}
-use Rattle.model.specs.declared.Rule.{Rule}
+use mathlib.Core.Logic.{_↔_}
+use mathlib.Core.Bool.{true}
+use mathlib.Core.List.{List}
 use Rattle.model.specs.declared.Triple.{Triple}
 use Rattle.model.specs.Codes.{Vocabulary, kind}
-use Rattle.model.specs.Triples.{triple, isData}
-use Rattle.model.specs.Rules.{rules, fits, gives, Derives, given, by-rule}
+use Rattle.model.specs.Triples.{triple}
+use Rattle.model.specs.Rules.{fits, gives, Derives, given, by-rule}
 use Rattle.model.specs.Cliques.{Graph, Side, source, target, end, Node}
 use Rattle.model.specs.Summary.{moved, Image}
-use Rattle.theory.proofs.Covered.{Marked, Plain, Covered, schema-marked}
-use Rattle.theory.proofs.RuleLaws.{EndOf, first-subject, first-object, second-subject, second-object, FromData, Fixes, Laws, laws}
-use Rattle.theory.proofs.Weak.{HasData, data-kind, kind-data, data-map, node-map, Weak, weak-map}
+use Rattle.theory.proofs.Covered.{Marked, Covered, schema-marked}
+use Rattle.theory.proofs.RuleLaws.{EndOf, first-subject, first-object, second-subject, second-object, Fixes, laws}
+use Rattle.theory.proofs.Weak.{HasData, data-kind, kind-data, node-map, Weak, weak-map}
 
 module _ (v : Vocabulary) (roster : List ℕ) where
   abbrev pub Covers : Graph → Type 0

@@ -1,8 +1,8 @@
 -- The computed cliques and the computed map are those that 01 words.
 -- Assumes nothing.
-use Prim.Native.Nat.{ℕ, zero, suc, _≤_, _<_, _+_}
+use Prim.Native.Nat.{ℕ, _≤_, _<_}
 use mathlib.Core.Path.{_≡_, refl, sym, subst, _∙_, ap}
-use mathlib.Core.Logic.{_⊎_, inl, inr, ⊎-elim, _↔_}
+use mathlib.Core.Logic.{_⊎_, inl, inr, ⊎-elim}
 use mathlib.Core.Bool.{Bool, true, false, cond, not, _&&_, _||_, true≢false}
 use mathlib.Core.List.{List, [], _∷_, List·Memᴰ as Mem, List·Memᴰ·head as here, List·Memᴰ·tail as there, List·Memᴰ·not-nil as no-mem, List·Memᴰ·cases-cons as mem-cases}
 use native.Mathlib.Omega.{arith}
@@ -11,17 +11,17 @@ use lib.ListN.{length}
 use borrow.Author.Tests.{eqb-true, eqb-false, eq-eqb, ne-eqb, not-true}
 use Rattle.model.specs.declared.Triple.{Triple}
 use Rattle.model.specs.Codes.{Vocabulary, absent}
-use Rattle.model.specs.Lists.{any, collect, when, tabulate}
+use Rattle.model.specs.Lists.{any, when, tabulate}
 use Rattle.model.specs.Triples.{isData}
 use Rattle.model.specs.Roster.{unmarked, isNode}
-use Rattle.model.specs.Partition.{label, Pair, pairs, merged}
-use Rattle.model.specs.Cliques.{Graph, Side, source, target, end, Node, Has, Share, Clique, shared, linked, links, shares, hasClique, cliques}
+use Rattle.model.specs.Partition.{label, Pair, pairs}
+use Rattle.model.specs.Cliques.{Graph, Side, source, target, end, Node, Has, Clique, shared, linked, links, shares, hasClique, cliques}
 use Rattle.model.specs.Classes.{DataNode, Placed, together, cliqueOf, placedAt, placed, mapOf}
 use Rattle.theory.proofs.Tests.{cond-cases, bool-cases, or-true, or-left, or-right, and-true, and-both}
-use Rattle.theory.proofs.Lists.{any-found, any-holds, collect-mem, mem-collect, when-mem, mem-when, tabulate-mem, mem-tabulate, length-tabulate}
-use Rattle.theory.proofs.Covered.{Below, AllBelow, Marked, Plain, by-mark}
+use Rattle.theory.proofs.Lists.{any-found, any-holds, collect-mem, mem-collect, when-mem, mem-when, mem-tabulate, length-tabulate}
+use Rattle.theory.proofs.Covered.{AllBelow, Plain}
 use Rattle.theory.proofs.Saturated.{In}
-use Rattle.theory.proofs.Partition.{Labels, Joining, Joins, Merged, merged-all, Tested, pairs-mem, mem-pairs, start-labels, length-merged}
+use Rattle.theory.proofs.Partition.{Labels, Joining, Joins, Merged, merged-all, pairs-mem, mem-pairs, start-labels, length-merged}
 use Rattle.theory.proofs.Weak.{HasData, has-data, data-has, has-node, Weak, by-side, by-none, itself, turned, chained, weak-nodes, clique-sym, clique-self, clique-weak, Reps}
 
 -- ── nodes ──

@@ -2,20 +2,20 @@
 -- Assumes nothing.
 use Prim.Native.Nat.{ℕ, zero, suc, _≤_, _<_, _+_}
 use mathlib.Core.Path.{_≡_, refl, sym, subst, _∙_, ap}
-use mathlib.Core.Logic.{_⊎_, inl, inr, ⊎-elim}
-use mathlib.Core.Bool.{Bool, true, false, cond, not, _&&_, _||_}
-use mathlib.Core.List.{List, [], _∷_, List·Memᴰ as Mem, List·Memᴰ·head as here, List·Memᴰ·tail as there, List·Memᴰ·not-nil as no-mem}
+use mathlib.Core.Logic.{_⊎_, ⊎-elim}
+use mathlib.Core.Bool.{Bool, true, false, cond, not}
+use mathlib.Core.List.{List, List·Memᴰ as Mem, List·Memᴰ·head as here, List·Memᴰ·tail as there, List·Memᴰ·not-nil as no-mem}
 use native.Mathlib.Omega.{arith}
 use lib.Dec.{eqb, leb, ltb}
-use lib.ListN.{length, getD}
+use lib.ListN.{length}
 use borrow.Author.Tests.{eq-eqb, eqb-false, leb-true, leb-false}
 use Rattle.model.specs.declared.Triple.{Triple}
 use Rattle.model.specs.Codes.{Vocabulary, codes, kind}
-use Rattle.model.specs.Lists.{any, all, among, tabulate}
+use Rattle.model.specs.Lists.{any, all, among}
 use Rattle.model.specs.Roster.{mark, isClass, isProperty, unmarked, classRow, propertyRow, classRoles, propertyRoles, coversTriple, covers, classIn, propertyIn, ownRoster, wrongRoster}
 use Rattle.theory.proofs.Tests.{and-true, and-both, or-neither, bool-cases}
 use Rattle.theory.proofs.Lists.{any-found, any-holds, none-any, all-at, at-all, among-mem, mem-among, tabulate-at, tabulate-out, tabulate-mem, length-tabulate}
-use Rattle.theory.proofs.Covered.{one-of, two-of, kind-top, Below, AllBelow, Codes}
+use Rattle.theory.proofs.Covered.{one-of, two-of, AllBelow, Codes}
 
 bits-class : (a b : Bool) → isClass (cond a 1 0 + cond b 2 0) ≡ a
 unfolding isClass

@@ -1,21 +1,21 @@
 -- Joining classes in a list of labels: one law for the cliques and for weak equivalence.
 -- Assumes nothing.
-use Prim.Native.Nat.{ℕ, zero, suc, _≤_, _<_, _+_, min, max}
+use Prim.Native.Nat.{ℕ, zero, suc, _≤_, _<_, min, max}
 use mathlib.Core.Path.{_≡_, refl, sym, subst, _∙_, ap}
-use mathlib.Core.Logic.{_⊎_, inl, inr, ⊎-elim}
+use mathlib.Core.Logic.{_⊎_, ⊎-elim}
 use mathlib.Core.Bool.{Bool, true, false, cond}
 use mathlib.Core.List.{List, [], _∷_, map, List·Memᴰ as Mem, List·Memᴰ·head as here, List·Memᴰ·tail as there, List·Memᴰ·not-nil as no-mem, List·Memᴰ·cases-cons as mem-cases}
 use native.Mathlib.Omega.{arith}
 use native.Mathlib.Nat.{le-antisymm}
 use lib.Dec.{eqb, leb}
-use lib.ListN.{length, getD, length-map}
+use lib.ListN.{length, length-map}
 use lib.Seq.{ext-getD}
-use borrow.Author.Tests.{eqb-true, eqb-false, eq-eqb, ne-eqb, leb-true, leb-false}
+use borrow.Author.Tests.{eqb-true, eq-eqb, ne-eqb, leb-true, leb-false}
 use Rattle.model.specs.Codes.{absent}
 use Rattle.model.specs.Lists.{collect, when, tabulate}
 use Rattle.model.specs.Partition.{label, Pair, union, merged, pairs}
 use Rattle.theory.proofs.Tests.{cond-cases, bool-cases}
-use Rattle.theory.proofs.Lists.{length-tabulate, tabulate-at, tabulate-out, when-mem, mem-when, collect-mem, mem-collect}
+use Rattle.theory.proofs.Lists.{tabulate-at, tabulate-out, when-mem, mem-when, collect-mem, mem-collect}
 
 -- The labels agree with a relation W on the active codes: each has a label that is active, related to it and no larger; the others have none.
 pub record Labels (Active : ℕ → Type 0) (W : ℕ → ℕ → Type 0) (m : List ℕ) : Type 0 where

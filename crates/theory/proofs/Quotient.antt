@@ -1,10 +1,10 @@
 -- A finer quotient first: if f sends each data node to one that is weakly equivalent to it, then two data nodes are equivalent exactly if
 -- their images are in the image of the graph; and if f never goes up, the representatives and the summary are reached through the image.
 -- Assumes nothing.
-use Prim.Native.Nat.{ℕ, _≤_, _<_}
+use Prim.Native.Nat.{ℕ, _≤_}
 use mathlib.Core.Path.{_≡_, refl, sym, subst, _∙_, ap}
-use mathlib.Core.Logic.{_⊎_, inl, inr, ⊎-elim, _↔_}
-use mathlib.Core.Bool.{Bool, true, false, true≢false}
+use mathlib.Core.Logic.{_⊎_, ⊎-elim, _↔_}
+use mathlib.Core.Bool.{true≢false}
 use mathlib.Core.List.{List}
 use native.Mathlib.Nat.{le-antisymm, le-trans}
 use Rattle.model.specs.declared.Triple.{Triple}
@@ -14,7 +14,7 @@ use Rattle.model.specs.Cliques.{Graph, Side, source, target, end, Node, Has}
 use Rattle.model.specs.Classes.{DataNode}
 use Rattle.model.specs.Summary.{moved, Image}
 use Rattle.theory.proofs.Covered.{Marked, Plain, by-mark}
-use Rattle.theory.proofs.Weak.{HasData, Weak, by-side, by-none, itself, turned, chained, weak-nodes, weak-data, has-data, has-node, Reps}
+use Rattle.theory.proofs.Weak.{HasData, Weak, by-side, by-none, itself, turned, chained, weak-nodes, weak-data, has-node, Reps}
 
 pub moved-end : (f : ℕ → ℕ) (e : Side) (t : Triple) → end e (moved f t) ≡ f (end e t)
 moved-end f source t = refl

@@ -1,14 +1,13 @@
 -- What the theory needs of a rule, shown of each line of the table: a further line is one more entry of `all-laws`.
 -- Assumes nothing.
-use Prim.Native.Nat.{ℕ, zero, suc, _≤_, _<_}
+use Prim.Native.Nat.{ℕ, _≤_}
 use mathlib.Core.Path.{_≡_, refl, sym, subst, _∙_, ap}
 use mathlib.Core.Logic.{_⊎_, inl, inr, ⊎-elim}
-use mathlib.Core.Bool.{Bool, true, false, _&&_, _||_}
+use mathlib.Core.Bool.{Bool, true, _&&_}
 use mathlib.Core.List.{List, [], _∷_, List·Memᴰ as Mem, List·Memᴰ·head as here, List·Memᴰ·tail as there, List·Memᴰ·not-nil as no-mem, List·Memᴰ·cases-cons as mem-cases}
 use native.Mathlib.Omega.{arith}
 use lib.Dec.{eqb}
-use lib.ListN.{getD}
-use borrow.Author.Tests.{eqb-true, eq-eqb, ne-eqb}
+use borrow.Author.Tests.{eqb-true, eq-eqb}
 use Rattle.model.specs.declared.Rule.{Rule}
 use Rattle.model.specs.declared.Triple.{Triple}
 use Rattle.model.specs.Codes.{Vocabulary, kind}
@@ -16,7 +15,7 @@ use Rattle.model.specs.Triples.{triple}
 use Rattle.model.specs.Rules.{rule, rules, place, fits, gives}
 use Rattle.model.specs.Roster.{classRow, propertyRow}
 use Rattle.model.specs.Summary.{moved}
-use Rattle.theory.proofs.Tests.{and-true, and-both, or-true}
+use Rattle.theory.proofs.Tests.{and-true, and-both}
 use Rattle.theory.proofs.Covered.{kind-top, kind-type, one-of, two-of, Marked, Class, Property, Covered, class-at, property-at, covered-at, type-marked, schema-marked}
 
 module _ (v : Vocabulary) (roster : List ℕ) where

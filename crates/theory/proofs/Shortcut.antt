@@ -1,10 +1,10 @@
 -- The shortcut: with one roster, the summary of the saturation is the summary of the saturation of the summary, and the representatives
 -- are carried through both maps in turn.
 -- Assumes nothing.
-use Prim.Native.Nat.{ℕ, _≤_, _<_}
-use mathlib.Core.Path.{_≡_, refl, sym, subst, _∙_, ap}
-use mathlib.Core.Logic.{_↔_, ⊎-elim}
-use mathlib.Core.List.{List, map, List·Memᴰ as Mem}
+use Prim.Native.Nat.{ℕ, _≤_}
+use mathlib.Core.Path.{_≡_, sym, subst, _∙_, ap}
+use mathlib.Core.Logic.{⊎-elim}
+use mathlib.Core.List.{List, map}
 use lib.ListN.{length, length-map, List·getD-eq-default}
 use Rattle.model.specs.declared.Triple.{Triple}
 use Rattle.model.specs.Codes.{Vocabulary, absent}
@@ -18,7 +18,7 @@ use Rattle.theory.proofs.Order.{rising-unique, rising-length}
 use Rattle.theory.proofs.Lists.{mem-map}
 use native.Mathlib.Omega.{arith}
 use Rattle.theory.proofs.Saturated.{In, saturation-exact, saturation-rising}
-use Rattle.theory.proofs.Weak.{data-node-map, itself, Weak, Reps}
+use Rattle.theory.proofs.Weak.{itself, Weak, Reps}
 use Rattle.theory.proofs.Images.{node-down, node-up, weak-up, image-exact}
 use Rattle.theory.proofs.Quotient.{quotient-map, quotient-image}
 use Rattle.theory.proofs.Mapped.{map-reps, map-absent, length-map-of, node-or}

@@ -1,16 +1,15 @@
 -- The computed summary holds exactly the images, and what graphs with the same triples share.
 -- Assumes nothing.
-use Prim.Native.Nat.{ℕ, _≤_, _<_}
-use mathlib.Core.Path.{_≡_, refl, sym, subst, _∙_, ap}
-use mathlib.Core.Logic.{_⊎_, inl, inr, ⊎-elim, _↔_}
-use mathlib.Core.Bool.{Bool, true, false}
-use mathlib.Core.List.{List, map, List·Memᴰ as Mem}
+use Prim.Native.Nat.{ℕ, _≤_}
+use mathlib.Core.Path.{_≡_, refl, sym, subst, _∙_}
+use mathlib.Core.Logic.{_⊎_, ⊎-elim, _↔_}
+use mathlib.Core.List.{List, List·Memᴰ as Mem}
 use lib.ListN.{length}
 use lib.Seq.{ext-getD}
 use native.Mathlib.Nat.{le-antisymm}
 use Rattle.model.specs.declared.Triple.{Triple}
 use Rattle.model.specs.Codes.{Vocabulary, absent}
-use Rattle.model.specs.Triples.{triple, sorted}
+use Rattle.model.specs.Triples.{triple}
 use Rattle.model.specs.Order.{Rising}
 use Rattle.model.specs.Rules.{Derives}
 use Rattle.model.specs.Partition.{label}

@@ -1,25 +1,20 @@
 -- The theorems that specs/Theorems.antt states.
 -- Assumes nothing.
-use Prim.Native.Nat.{ℕ, _≤_, _<_}
-use mathlib.Core.Path.{_≡_, refl, sym, subst, _∙_, ap}
-use mathlib.Core.Logic.{_↔_}
-use mathlib.Core.Bool.{Bool, true, false}
-use mathlib.Core.List.{List, [], map, List·Memᴰ as Mem}
+use Prim.Native.Nat.{ℕ, _≤_}
+use mathlib.Core.Path.{sym, subst, _∙_, ap}
+use mathlib.Core.List.{List, [], map}
 use native.Mathlib.Omega.{arith}
-use native.Mathlib.Nat.{le-antisymm}
 use lib.ListN.{length}
 use Rattle.model.specs.declared.Triple.{Triple}
 use Rattle.model.specs.Codes.{rdfs, mostTriples}
-use Rattle.model.specs.Triples.{triples, flat, slots, sorted, listed}
-use Rattle.model.specs.Intake.{State, Feed, heldAfter, stateOf}
+use Rattle.model.specs.Triples.{triples, slots, listed}
+use Rattle.model.specs.Intake.{State, heldAfter, stateOf}
 use Rattle.model.specs.Saturation.{saturation}
-use Rattle.model.specs.Partition.{label}
-use Rattle.model.specs.Cliques.{Side, Node, Has, Clique, linked, cliques}
-use Rattle.model.specs.Classes.{DataNode, Weakly, mapOf}
+use Rattle.model.specs.Cliques.{Clique, linked}
 use Rattle.model.specs.Summary.{summary}
 use Rattle.model.specs.Calls.{Accepted, tableChecks}
 use Rattle.model.specs.Outcomes.{wrongLength, wrongSize}
-use Rattle.theory.specs.Theorems.{TriplesOf, SaturationExact, CliquesExact, CliqueList, RepresentativesExact, SummaryExact, OwnRosterLeast, ShortcutHolds, RoutesAccepted, AnyOrder, WholeList, FedInAnyOrder}
+use Rattle.theory.specs.Theorems.{TriplesOf, SaturationExact, CliquesExact, RepresentativesExact, SummaryExact, OwnRosterLeast, ShortcutHolds, RoutesAccepted, AnyOrder, WholeList, FedInAnyOrder}
 use Rattle.theory.proofs.Tests.{or-false}
 use Rattle.theory.proofs.Checks.{passes-first}
 use Rattle.theory.proofs.Covered.{all-codes}

@@ -2,18 +2,17 @@
 -- It is the weak equivalence that 01 words through cliques.
 -- Assumes nothing.
 use Prim.Native.Nat.{ℕ, _≤_}
-use mathlib.Core.Path.{_≡_, refl, sym, subst, _∙_, ap}
-use mathlib.Core.Logic.{_⊎_, inl, inr, ⊎-elim, _↔_}
-use mathlib.Core.Bool.{Bool, true, false, true≢false}
+use mathlib.Core.Path.{_≡_, refl}
+use mathlib.Core.Logic.{_⊎_, inl, inr}
+use mathlib.Core.Bool.{true}
 use mathlib.Core.List.{List}
-use lib.Dec.{leb}
 use borrow.Author.Tests.{leb-true, le-leb}
 use Rattle.model.specs.declared.Triple.{Triple}
 use Rattle.model.specs.Codes.{Vocabulary, kind}
 use Rattle.model.specs.Triples.{isData}
-use Rattle.model.specs.Cliques.{Graph, Side, source, target, end, Node, Has, Share, Clique, shared, linked}
-use Rattle.model.specs.Classes.{DataNode, NoClique, Weakly, same-clique, no-clique, chain, RepresentsBy, Represents}
-use Rattle.theory.proofs.Covered.{Marked, Plain}
+use Rattle.model.specs.Cliques.{Graph, Side, end, Node, Has, Share, Clique, shared, linked}
+use Rattle.model.specs.Classes.{DataNode, Weakly, same-clique, no-clique, chain, RepresentsBy, Represents}
+use Rattle.theory.proofs.Covered.{Plain}
 
 pub node-map : {G H : Graph} → ((t : Triple) → G t → H t) → {n : ℕ} → Node G n → Node H n
 node-map f x = record { by = x .by; held = f (x .by) (x .held); side = x .side; is-end = x .is-end }

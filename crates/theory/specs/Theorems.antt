@@ -10,7 +10,7 @@ use Rattle.model.specs.declared.Triple.{Triple}
 use Rattle.model.specs.Codes.{absent, rdfs, mostTriples}
 use Rattle.model.specs.Triples.{triples, flat, slots, sorted, listed}
 use Rattle.model.specs.Order.{Rising}
-use Rattle.model.specs.Roster.{mark, isClass, isProperty, unmarked, covers, ownRoster, wrongRoster, wrongCodes}
+use Rattle.model.specs.Roster.{mark, isClass, isProperty, covers, ownRoster, wrongRoster, wrongCodes}
 use Rattle.model.specs.Rules.{Derives}
 use Rattle.model.specs.Saturation.{saturation}
 use Rattle.model.specs.Partition.{label}

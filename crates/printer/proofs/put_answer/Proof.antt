@@ -1,4 +1,3 @@
-use mathlib.Core.Path.{sym}
 use Rattle.printer.proofs.Lines.{put-none, room-as, put-as, line-maybe, line-none, line-refused}
 use borrow.Author.Needs.{needs}
 use Rattle.printer.proofs.put_answer.Statement.{statement}

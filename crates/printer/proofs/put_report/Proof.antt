@@ -1,5 +1,4 @@
 use native.Mathlib.Omega.{arith}
-use Rattle.printer.specs.Lines.{answersIn}
 use Rattle.printer.proofs.Reports.{room-count, room-table, room-nodes, room-answers, report-put}
 use borrow.Author.Needs.{needs}
 use Rattle.printer.proofs.put_report.Statement.{statement}
