@@ -95,19 +95,22 @@ fn expected(intake: &mut PlainIntake, lent: &Lent, mistake: Mistake) -> Outcome<
     Outcome { status, lent }
 }
 
+/// Feeds the proved engine.
+fn feed(l: &mut Lent) -> u32 {
+    let lent = proved::Lent {
+        roster: &l.roster,
+        triples: &mut l.triples,
+        summary: &mut l.summary,
+        map: &mut l.map,
+        work: &mut l.work,
+        held: &mut l.held,
+        summarised: &mut l.summarised,
+    };
+    proved::feed(lent, l.fed, &mut l.is_new)
+}
+
 fn compare_feed(report: &mut Report, intake: &mut PlainIntake, before: &Lent, mistake: Mistake) -> Lent {
-    let ours = run(before, |l| {
-        let lent = proved::Lent {
-            roster: &l.roster,
-            triples: &mut l.triples,
-            summary: &mut l.summary,
-            map: &mut l.map,
-            work: &mut l.work,
-            held: &mut l.held,
-            summarised: &mut l.summarised,
-        };
-        proved::feed(lent, l.fed, &mut l.is_new)
-    });
+    let ours = run(before, feed);
     let theirs = expected(intake, before, mistake);
     let yes = theirs.lent.is_new == 1;
     let left = ours.lent.clone();
@@ -133,7 +136,7 @@ fn fed(random: &mut Random, table: &[u32], n: usize) -> [u32; 3] {
     let mut t = [0; 3];
     if table.is_empty() || random.chance(4) {
         let code = |random: &mut Random| 5 + random.below(n.max(6) - 5) as u32;
-        return [code(random), random.below(n) as u32, code(random)];
+        return [code(random), random.below(n + 1) as u32, code(random)];
     }
     let i = 3 * random.below(table.len() / 3);
     t.copy_from_slice(&table[i..i + 3]);
@@ -165,4 +168,28 @@ pub fn feeds(random: &mut Random, report: &mut Report, mistake: Mistake) {
         }
         state = compare_feed(report, &mut intake, &before, mistake);
     }
+}
+
+/// A feed to lists and counts altered by hand. It must end; refusals 1 to 4 hold as ever, what else it answers is open.
+pub fn altered(random: &mut Random, report: &mut Report) {
+    let site = generate::site(random);
+    let n = site.n;
+    let slots = random.below(12);
+    let mut before = junk_lists(random, &site.roster, slots);
+    before.held = random.pick(&[0, 1, slots, slots + 1, usize::MAX]);
+    before.summarised = random.pick(&[0, 1, slots, slots + 1, usize::MAX]);
+    if random.chance(60) {
+        let codes = 5 + random.below(n.max(6) - 5) as u32;
+        for list in [&mut before.triples, &mut before.summary, &mut before.map] {
+            list.iter_mut().for_each(|x| *x %= codes + 3);
+        }
+    }
+    let table = if site.table.len() % 3 == 0 { &site.table[..] } else { &[] };
+    before.fed = fed(random, table, n);
+    let ours = run(&before, feed);
+    let mut expected = run(&before, |l| PlainIntake::refusal(&l.roster, l.fed));
+    if expected.status == plain::OK {
+        expected = ours.clone();
+    }
+    report.compare(Call::FeedAltered, &before, ours, expected, true);
 }

@@ -43,6 +43,7 @@ fn turn(random: &mut Random, report: &mut Report, mistake: Mistake) {
         texts::write(random, report);
     }
     feeds::open(random, report);
+    feeds::altered(random, report);
     feeds::feeds(random, report, mistake);
 }
 

@@ -13,6 +13,7 @@ pub enum Call {
     Ask,
     Open,
     Feed,
+    FeedAltered,
     Read,
     Write,
 }
@@ -28,6 +29,7 @@ impl Call {
             Call::Ask => "ask",
             Call::Open => "open",
             Call::Feed => "feed",
+            Call::FeedAltered => "feed, altered state",
             Call::Read => "read",
             Call::Write => "write",
         }

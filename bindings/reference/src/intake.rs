@@ -54,6 +54,17 @@ impl PlainIntake {
         PlainIntake { roster: roster.to_vec(), slots, held: BTreeSet::new() }
     }
 
+    /// The refusals 1 to 4 of a feed with this roster and lists of right lengths.
+    pub fn refusal(roster: &[u8], t: [u32; 3]) -> u32 {
+        if checks::size_wrong(roster.len()) {
+            return LENGTH;
+        }
+        if checks::roster_wrong(roster) {
+            return ROSTER;
+        }
+        triple_refusal(t, roster)
+    }
+
     pub fn feed(&mut self, t: [u32; 3], work_length: usize) -> Fed {
         if work_length != 2 * self.roster.len() {
             return Err(LENGTH);
@@ -94,7 +105,9 @@ impl PlainIntake {
     }
 }
 
-/// An intake over flat sorted lists that makes the summary anew only when the map changes.
+/// An intake over flat sorted lists that notes what it needs to keep the map, and makes it and the summary anew only when the
+/// class of a node that it knows changes.
+#[derive(Clone)]
 pub struct FastIntake {
     pub roster: Vec<u8>,
     pub triples: Vec<u32>,
@@ -102,8 +115,12 @@ pub struct FastIntake {
     pub map: Vec<u32>,
     pub held: usize,
     pub summarised: usize,
+    /// Some data node that is subject, and some that is object, of each property.
     subject_of: Vec<u32>,
     object_of: Vec<u32>,
+    has_data: Vec<bool>,
+    /// The representative of the nodes without any clique.
+    bare: u32,
 }
 
 impl FastIntake {
@@ -118,35 +135,81 @@ impl FastIntake {
             summarised: 0,
             subject_of: vec![ABSENT; n],
             object_of: vec![ABSENT; n],
+            has_data: vec![false; n],
+            bare: ABSENT,
         }
     }
 
-    /// Whether a node stays in its class if it now becomes an end of a property, of which `first` is such an end already.
-    fn end_stays(&self, node: u32, first: u32) -> bool {
-        let representative = self.map[node as usize];
-        if self.roster[node as usize] != 0 {
-            return representative != ABSENT;
+    /// As feeding the triples of the table would leave it.
+    pub fn holding(roster: &[u8], slots: usize, table: &[u32]) -> FastIntake {
+        let mut intake = FastIntake::new(roster, slots);
+        let mut held: Vec<Packed> = table.chunks_exact(3).map(pack).collect();
+        held.sort_unstable();
+        held.dedup();
+        intake.held = held.len();
+        for (i, t) in held.into_iter().map(unpack).enumerate() {
+            intake.triples[3 * i..3 * i + 3].copy_from_slice(&t);
+            intake.note_ends(t);
         }
-        first != ABSENT && representative != ABSENT && representative == self.map[first as usize]
+        intake.summarise_anew();
+        intake
     }
 
-    /// Whether the map is the same with the triple.
-    fn map_stays(&self, t: [u32; 3]) -> bool {
+    fn is_marked(&self, node: u32) -> bool {
+        self.roster[node as usize] != 0
+    }
+
+    /// The representative of a data node as an end of a property of which `first` is such an end; none if a class changes.
+    fn with_data(&self, node: u32, first: u32) -> Option<u32> {
+        let own = self.map[node as usize];
+        let is_new = own == ABSENT;
+        if first == ABSENT {
+            let alone = if is_new { node } else { own };
+            return (is_new || self.has_data[node as usize]).then_some(alone);
+        }
+        let joined = self.map[first as usize];
+        (own == joined || (is_new && joined < node)).then_some(joined)
+    }
+
+    /// The representative of a data node as subject of a type triple; none if a class changes.
+    fn with_type(&mut self, node: u32) -> Option<u32> {
+        let own = self.map[node as usize];
+        if own != ABSENT {
+            return Some(own);
+        }
+        if self.bare == ABSENT {
+            self.bare = node;
+        }
+        (self.bare <= node).then_some(self.bare)
+    }
+
+    /// Puts the representatives of the ends of a new triple; none if the map is to be made anew.
+    fn put_ends(&mut self, t: [u32; 3]) -> Option<()> {
         let [s, p, o] = t;
-        if p < FIRST_FREE {
-            return self.map[s as usize] != ABSENT && self.map[o as usize] != ABSENT;
+        let is_data = p >= FIRST_FREE;
+        self.map[s as usize] = match self.is_marked(s) {
+            true => s,
+            false if is_data => self.with_data(s, self.subject_of[p as usize])?,
+            false => self.with_type(s)?,
+        };
+        if is_data && !self.is_marked(s) {
+            self.has_data[s as usize] = true;
         }
-        self.end_stays(s, self.subject_of[p as usize]) && self.end_stays(o, self.object_of[p as usize])
+        self.map[o as usize] = match self.is_marked(o) {
+            true => o,
+            false => self.with_data(o, self.object_of[p as usize])?,
+        };
+        Some(())
     }
 
     fn note_ends(&mut self, t: [u32; 3]) {
         let [s, p, o] = t;
         if p >= FIRST_FREE {
-            if self.roster[s as usize] == 0 {
-                self.subject_of[p as usize] = s;
-            }
-            if self.roster[o as usize] == 0 {
-                self.object_of[p as usize] = o;
+            for (node, place) in [(s, &mut self.subject_of), (o, &mut self.object_of)] {
+                if self.roster[node as usize] == 0 {
+                    place[p as usize] = node;
+                    self.has_data[node as usize] = true;
+                }
             }
         }
     }
@@ -161,6 +224,8 @@ impl FastIntake {
             slot.copy_from_slice(&unpack(t));
         }
         self.summary[3 * self.summarised..].fill(0);
+        let is_bare = |&c: &usize| self.map[c] != ABSENT && self.roster[c] == 0 && !self.has_data[c];
+        self.bare = (0..self.map.len()).find(is_bare).map_or(ABSENT, |c| c as u32);
     }
 }
 
@@ -189,11 +254,11 @@ pub fn feed_fast(intake: &mut FastIntake, t: [u32; 3]) -> Fed {
     if intake.held == intake.triples.len() / 3 {
         return Err(FULL);
     }
-    let stays = intake.map_stays(t);
     insert(&mut intake.triples, intake.held, i, t);
     intake.held += 1;
+    let kept = intake.put_ends(t);
     intake.note_ends(t);
-    if !stays {
+    if kept.is_none() {
         intake.summarise_anew();
         return Ok(true);
     }
