@@ -1,0 +1,125 @@
+//! Feeding an intake that holds a table.
+
+use crate::inputs::{self, Random, FRESH, SITE};
+use crate::measure::{heading, measure, series, sizes, Settings, Timing};
+use weak_summary::calls::{self as proved, Lent};
+use weak_summary_reference::{feed_fast, FastIntake, MAX_TRIPLES, TYPE};
+
+/// Feeds per run; times are for one feed.
+const FEEDS: usize = 16;
+
+/// The proved engine's intake.
+#[derive(Clone)]
+struct Intake {
+    triples: Vec<u32>,
+    summary: Vec<u32>,
+    map: Vec<u32>,
+    work: Vec<u32>,
+    held: usize,
+    summarised: usize,
+    answers: Vec<bool>,
+}
+
+/// The plain engine's intake.
+#[derive(Clone)]
+struct Plain {
+    intake: FastIntake,
+    answers: Vec<bool>,
+}
+
+fn feed(l: &mut Intake, roster: &[u8], t: [u32; 3]) {
+    let mut is_new = 9;
+    let lent = Lent {
+        roster,
+        triples: &mut l.triples,
+        summary: &mut l.summary,
+        map: &mut l.map,
+        work: &mut l.work,
+        held: &mut l.held,
+        summarised: &mut l.summarised,
+    };
+    let status = proved::feed(lent, t, &mut is_new);
+    assert_eq!(status, 0);
+    l.answers.push(is_new == 1);
+}
+
+fn agree(a: &Intake, b: &Plain) -> Result<String, String> {
+    let lists = a.triples == b.intake.triples && a.summary == b.intake.summary && a.map == b.intake.map;
+    let counts = (a.held, a.summarised) == (b.intake.held, b.intake.summarised);
+    if lists && counts && a.answers == b.answers {
+        let new = a.answers.iter().filter(|&&is_new| is_new).count();
+        return Ok(format!("{new} of {FEEDS} new, summary {}", a.summarised));
+    }
+    Err("feeds".to_string())
+}
+
+/// Times feeds to an intake that holds the data-heavy table, as feeding its triples would leave it.
+fn feeds(settings: &Settings, amount: usize, choose: impl Fn(&mut Random, &[u32]) -> [u32; 3]) -> Timing {
+    let mut input = inputs::data_heavy(amount);
+    let room = MAX_TRIPLES - FEEDS;
+    input.table.truncate(3 * room.min(amount));
+    let roster = &input.roster;
+    let intake = FastIntake::holding(roster, input.table.len() / 3 + FEEDS, &input.table);
+    let ours = Intake {
+        triples: intake.triples.clone(),
+        summary: intake.summary.clone(),
+        map: intake.map.clone(),
+        work: vec![1; 2 * input.n],
+        held: intake.held,
+        summarised: intake.summarised,
+        answers: Vec::with_capacity(FEEDS),
+    };
+    let mut random = Random::new();
+    let fed: Vec<[u32; 3]> = (0..FEEDS).map(|_| choose(&mut random, &input.table)).collect();
+    let theirs = Plain { intake, answers: Vec::with_capacity(FEEDS) };
+    let timing = measure(
+        settings,
+        (&ours, &theirs),
+        |l| fed.iter().for_each(|&t| feed(l, roster, t)),
+        |l| {
+            for &t in &fed {
+                let answer = feed_fast(&mut l.intake, t);
+                l.answers.push(answer == Ok(true));
+            }
+        },
+        agree,
+    );
+    Timing { proved: timing.proved / FEEDS as f64, plain: timing.plain / FEEDS as f64, ..timing }
+}
+
+fn fresh(random: &mut Random) -> u32 {
+    FRESH + random.below(SITE - FRESH)
+}
+
+pub fn all(settings: &Settings) {
+    let sizes = &sizes(settings);
+    let note = "Size: triples held before, of the data-heavy table; the state is what feeding them leaves. N is 65,536. Times are for \
+                one feed, the mean of 16. The plain intake keeps notes of its own beside the lists (an end of each property, which \
+                nodes have data) and makes the map anew only when the class of a known node changes.";
+    heading("Feed", note);
+    series(settings, "repeats", sizes, |t| {
+        feeds(settings, t, |random, table| {
+            let i = 3 * random.below(table.len() as u32 / 3) as usize;
+            [table[i], table[i + 1], table[i + 2]]
+        })
+    });
+    series(settings, "new triples between known nodes", sizes, |t| {
+        feeds(settings, t, |random, table| {
+            let i = 3 * random.below(table.len() as u32 / 3) as usize;
+            let j = (0..).map(|k| (i + 3 * (k + 1)) % table.len()).find(|&j| table[j + 1] == table[i + 1]);
+            [table[i], table[i + 1], table[j.unwrap() + 2]]
+        })
+    });
+    series(settings, "data of new nodes", sizes, |t| {
+        feeds(settings, t, |random, _| {
+            let [_, p, o] = inputs::data_triple(random);
+            [fresh(random), p, o]
+        })
+    });
+    series(settings, "types of new nodes", sizes, |t| {
+        feeds(settings, t, |random, table| {
+            let class = table.chunks_exact(3).find(|t| t[1] == TYPE).unwrap()[2];
+            [fresh(random), TYPE, class]
+        })
+    });
+}
