@@ -47,7 +47,11 @@ fn ask(settings: &Settings, asked: &Asked, query: &[u32]) -> Timing {
         |l| l[0] = plain::ask(table, map, query, &mut l[1]),
         |a, b| {
             let result = if a[1] == 1 { "maybe" } else { "none" };
-            if a == b && a[0] == 0 { Ok(result.to_string()) } else { Err(format!("ask {a:?} and {b:?}")) }
+            if a == b && a[0] == 0 {
+                Ok(result.to_string())
+            } else {
+                Err(format!("ask {a:?} and {b:?}"))
+            }
         },
     )
 }

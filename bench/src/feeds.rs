@@ -3,7 +3,7 @@
 use crate::inputs::{self, Random, FRESH, SITE};
 use crate::measure::{heading, measure, series, sizes, Settings, Timing};
 use weak_summary::calls::{self as proved, Lent};
-use weak_summary_reference::{feed_fast, FastIntake, MAX_TRIPLES, TYPE};
+use weak_summary_reference::{feed_fast, FastIntake, FIRST_FREE, MAX_TRIPLES, TYPE};
 
 /// Feeds per run; times are for one feed.
 const FEEDS: usize = 16;
@@ -91,6 +91,27 @@ fn fresh(random: &mut Random) -> u32 {
     FRESH + random.below(SITE - FRESH)
 }
 
+/// The place of some data triple of the table.
+fn data_at(random: &mut Random, table: &[u32]) -> usize {
+    loop {
+        let i = 3 * random.below(table.len() as u32 / 3) as usize;
+        if table[i + 1] >= FIRST_FREE {
+            return i;
+        }
+    }
+}
+
+/// A data triple with the subject of one and the object of another triple of the same property.
+fn known_image(random: &mut Random, table: &[u32]) -> [u32; 3] {
+    let one = data_at(random, table);
+    loop {
+        let other = data_at(random, table);
+        if table[other + 1] == table[one + 1] && other != one {
+            return [table[one], table[one + 1], table[other + 2]];
+        }
+    }
+}
+
 pub fn all(settings: &Settings) {
     let sizes = &sizes(settings);
     let note = "Size: triples held before, of the data-heavy table; the state is what feeding them leaves. N is 65,536. Times are for \
@@ -103,11 +124,11 @@ pub fn all(settings: &Settings) {
             [table[i], table[i + 1], table[i + 2]]
         })
     });
-    series(settings, "new triples between known nodes", sizes, |t| {
+    series(settings, "new, image known", sizes, |t| feeds(settings, t, known_image));
+    series(settings, "new, image new, nodes known", sizes, |t| {
         feeds(settings, t, |random, table| {
-            let i = 3 * random.below(table.len() as u32 / 3) as usize;
-            let j = (0..).map(|k| (i + 3 * (k + 1)) % table.len()).find(|&j| table[j + 1] == table[i + 1]);
-            [table[i], table[i + 1], table[j.unwrap() + 2]]
+            let data = data_at(random, table);
+            [table[data], TYPE, inputs::class(random)]
         })
     });
     series(settings, "data of new nodes", sizes, |t| {
@@ -117,9 +138,12 @@ pub fn all(settings: &Settings) {
         })
     });
     series(settings, "types of new nodes", sizes, |t| {
+        feeds(settings, t, |random, _| [fresh(random), TYPE, inputs::class(random)])
+    });
+    series(settings, "data that joins two classes", sizes, |t| {
         feeds(settings, t, |random, table| {
-            let class = table.chunks_exact(3).find(|t| t[1] == TYPE).unwrap()[2];
-            [fresh(random), TYPE, class]
+            let (one, other) = (data_at(random, table), data_at(random, table));
+            [table[one], table[other + 1], table[other + 2]]
         })
     });
 }

@@ -34,7 +34,7 @@ fn settings(quick: bool) -> Settings {
     Settings {
         powers: if quick { 14..=16 } else { 14..=20 },
         time: Duration::from_millis(if quick { 30 } else { 500 }),
-        cap: Duration::from_secs(if quick { 2 } else { 20 }),
+        cap: Duration::from_secs(if quick { 2 } else { 10 }),
     }
 }
 

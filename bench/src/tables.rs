@@ -16,7 +16,7 @@ struct Written {
 
 /// Lists of ones with these lengths.
 fn ones(roster: usize, lengths: [usize; 3]) -> Written {
-    Written { roster: vec![1; roster], lists: lengths.map(|length| vec![1; length]), count: 0, status: 9 }
+    Written { roster: vec![1; roster], lists: lengths.map(|length| vec![1; length]), count: usize::MAX, status: 9 }
 }
 
 /// Times a call that writes into such lists.
@@ -32,8 +32,16 @@ fn time(
         |l| l.status = proved(l),
         |l| l.status = plain(l),
         |a, b| {
-            let result = if a.status == 0 { a.count.to_string() } else { format!("refused {}", a.status) };
-            if a == b { Ok(result) } else { Err(format!("status {} and {}", a.status, b.status)) }
+            let result = match (a.status, a.count) {
+                (0, usize::MAX) => "-".to_string(),
+                (0, count) => count.to_string(),
+                (refusal, _) => format!("refused {refusal}"),
+            };
+            if a == b {
+                Ok(result)
+            } else {
+                Err(format!("status {} and {}", a.status, b.status))
+            }
         },
     )
 }
@@ -104,7 +112,11 @@ fn look_up(settings: &Settings, list: &[u32], t: [u32; 3]) -> Timing {
         |l| l[0] = plain::look_up(list, t[0], t[1], t[2], &mut l[1]),
         |a, b| {
             let result = if a[1] == 1 { "found" } else { "not found" };
-            if a == b && a[0] == 0 { Ok(result.to_string()) } else { Err(format!("look up {a:?} and {b:?}")) }
+            if a == b && a[0] == 0 {
+                Ok(result.to_string())
+            } else {
+                Err(format!("look up {a:?} and {b:?}"))
+            }
         },
     )
 }
@@ -144,9 +156,7 @@ fn saturations(settings: &Settings, sizes: &[usize]) {
         saturate(settings, &inputs::property_tree(t), 0)
     });
     series(settings, "chain of classes alone", sizes, |t| saturate(settings, &inputs::class_chain(t), 0));
-    series(settings, "data under a tree, one slot short", sizes, |t| {
-        saturate(settings, &inputs::property_tree(t), 1)
-    });
+    series(settings, "data under a tree, one slot short", sizes, |t| saturate(settings, &inputs::property_tree(t), 1));
 }
 
 fn summaries(settings: &Settings, sizes: &[usize]) {

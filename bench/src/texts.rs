@@ -33,12 +33,8 @@ fn text_of(table: &[u32]) -> Vec<u8> {
 
 fn read(settings: &Settings, amount: usize) -> Timing {
     let text = &text_of(&inputs::data_heavy(amount).table);
-    let before = ReadInto {
-        list: vec![1; 3 * amount],
-        queries: vec![1; QUERIES_NUMBERS],
-        numbers: (9, 9, 9),
-        status: 9,
-    };
+    let before =
+        ReadInto { list: vec![1; 3 * amount], queries: vec![1; QUERIES_NUMBERS], numbers: (9, 9, 9), status: 9 };
     measure(
         settings,
         (&before, &before),
@@ -67,7 +63,8 @@ fn write(settings: &Settings, amount: usize) -> Timing {
 }
 
 pub fn all(settings: &Settings) {
-    let note = "Size: triples, at most 1,000. The text read has sixteen queries too; the list written to has 60,000 bytes.";
+    let note =
+        "Size: triples, at most 1,000. The text read has sixteen queries too; the list written to has 60,000 bytes.";
     heading("Read and write", note);
     series(settings, "read", &[125, 250, 500, 1000], |t| read(settings, t));
     series(settings, "write", &[125, 250, 500, 1000], |t| write(settings, t));

@@ -150,13 +150,19 @@ fn fed(random: &mut Random, table: &[u32], n: usize) -> [u32; 3] {
 pub fn feeds(random: &mut Random, report: &mut Report, mistake: Mistake) {
     let n = generate::size(random).min(2_200);
     let amount = 1 + generate::amount(random);
+    let feeds = random.below(amount + 12);
+    let slots = random.pick(&[0, 1, amount / 2, amount / 2, amount, amount, 2 * amount]);
+    chain(random, report, mistake, [n, amount, feeds, slots]);
+}
+
+/// A chain of feeds of a random table with n codes.
+pub fn chain(random: &mut Random, report: &mut Report, mistake: Mistake, [n, amount, feeds, slots]: [usize; 4]) {
     let table = generate::table(random, n, amount);
     let roster = generate::roster(random, n, &table);
-    let slots = random.pick(&[0, 1, amount / 2, amount, 2 * amount]);
     let lent = junk_lists(random, &roster, slots);
     let mut state = compare_open(report, &lent).lent;
     let mut intake = PlainIntake::new(&roster, slots);
-    for _ in 0..random.below(amount + 12) {
+    for _ in 0..feeds {
         let mut before = state.clone();
         before.work = random.junk(2 * n);
         before.is_new = random.next() as u32;
@@ -184,7 +190,7 @@ pub fn altered(random: &mut Random, report: &mut Report) {
             list.iter_mut().for_each(|x| *x %= codes + 3);
         }
     }
-    let table = if site.table.len() % 3 == 0 { &site.table[..] } else { &[] };
+    let table = if site.table.len().is_multiple_of(3) { &site.table[..] } else { &[] };
     before.fed = fed(random, table, n);
     let ours = run(&before, feed);
     let mut expected = run(&before, |l| PlainIntake::refusal(&l.roster, l.fed));

@@ -81,6 +81,9 @@ fn limits(random: &mut Random, report: &mut Report) {
 
 pub fn all(random: &mut Random, report: &mut Report, mistake: Mistake) {
     limits(random, report);
+    for sizes in [[60, 600, 3_000, 250], [2_000, 1_500, 2_000, 1_500], [65_536, 200, 200, 200]] {
+        feeds::chain(random, report, mistake, sizes);
+    }
     for (n, amount) in [(300, 3_000), (4_000, 20_000), (65_536, 100_000), (65_536, MAX_TRIPLES), (2_000, MAX_TRIPLES)] {
         let table = large_table(random, n, amount);
         on_table(random, report, mistake, n, &table);

@@ -1,6 +1,7 @@
 //! `differential [--cases K] [--seed S] [--short] [--mistake NAME]`
 //!
-//! Exits with 1 if the engines differ. With a mistake, the unverified engine makes it, and the exit status is 1 if that goes unnoticed.
+//! Exits with 1 if the engines differ. With a mistake, the unverified engine makes it, and the exit status is 1 if that goes
+//! unnoticed.
 
 use std::process::ExitCode;
 use std::time::Instant;
@@ -39,7 +40,11 @@ fn main() -> ExitCode {
     println!("seed {}, {:.1} s", options.seed, start.elapsed().as_secs_f64());
     let wanted = options.mistake != Mistake::None;
     if wanted {
-        println!("mistake {}: {}", options.mistake.name(), if report.differences > 0 { "noticed" } else { "NOT NOTICED" });
+        println!(
+            "mistake {}: {}",
+            options.mistake.name(),
+            if report.differences > 0 { "noticed" } else { "NOT NOTICED" }
+        );
     }
     ExitCode::from(((report.differences > 0) != wanted) as u8)
 }

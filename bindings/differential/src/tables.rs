@@ -72,9 +72,7 @@ pub fn saturate(random: &mut Random, report: &mut Report, mistake: Mistake) {
 
 pub fn compare_saturate(report: &mut Report, mistake: Mistake, before: Lent) {
     let ours = run(&before, |l| proved::saturate(&l.table, &l.roster, &mut l.result, &mut l.number));
-    let theirs = run(&before, |l| {
-        plain::saturate_with(mistake, &l.table, &l.roster, &mut l.result, &mut l.number)
-    });
+    let theirs = run(&before, |l| plain::saturate_with(mistake, &l.table, &l.roster, &mut l.result, &mut l.number));
     report.compare(Call::Saturate, &before, ours, theirs, true);
 }
 
@@ -94,9 +92,7 @@ pub fn cliques(random: &mut Random, report: &mut Report, mistake: Mistake) {
 
 pub fn compare_cliques(report: &mut Report, mistake: Mistake, before: Lent) {
     let ours = run(&before, |l| proved::cliques(&l.table, &l.roster, &mut l.result, &mut l.map));
-    let theirs = run(&before, |l| {
-        plain::cliques_with(mistake, &l.table, &l.roster, &mut l.result, &mut l.map)
-    });
+    let theirs = run(&before, |l| plain::cliques_with(mistake, &l.table, &l.roster, &mut l.result, &mut l.map));
     report.compare(Call::Cliques, &before, ours, theirs, true);
 }
 
@@ -125,9 +121,8 @@ pub fn summarise(random: &mut Random, report: &mut Report, mistake: Mistake) {
 }
 
 pub fn compare_summarise(report: &mut Report, mistake: Mistake, before: Lent) {
-    let ours = run(&before, |l| {
-        proved::summarise(&l.table, &l.roster, &mut l.result, &mut l.map, &mut l.work, &mut l.number)
-    });
+    let ours =
+        run(&before, |l| proved::summarise(&l.table, &l.roster, &mut l.result, &mut l.map, &mut l.work, &mut l.number));
     let theirs = run(&before, |l| {
         let lists = (&mut l.result, &mut l.map, &mut l.work);
         plain::summarise_with(mistake, &l.table, &l.roster, lists.0, lists.1, lists.2, &mut l.number)

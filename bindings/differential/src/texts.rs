@@ -140,12 +140,10 @@ pub fn read(random: &mut Random, report: &mut Report) {
 }
 
 pub fn compare_read(report: &mut Report, before: ReadLent) {
-    let ours = run(&before, |l| {
-        proved::read(&l.text, &mut l.list, &mut l.queries, &mut l.n, &mut l.count, &mut l.asks)
-    });
-    let theirs = run(&before, |l| {
-        plain::read(&l.text, &mut l.list, &mut l.queries, &mut l.n, &mut l.count, &mut l.asks)
-    });
+    let ours =
+        run(&before, |l| proved::read(&l.text, &mut l.list, &mut l.queries, &mut l.n, &mut l.count, &mut l.asks));
+    let theirs =
+        run(&before, |l| plain::read(&l.text, &mut l.list, &mut l.queries, &mut l.n, &mut l.count, &mut l.asks));
     report.compare(Call::Read, &before, ours, theirs, true);
 }
 

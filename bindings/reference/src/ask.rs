@@ -38,9 +38,10 @@ fn query_wrong(query: &[u32], n: usize) -> bool {
     if count == 0 || count > MAX_PATTERNS {
         return true;
     }
-    query[1..].chunks_exact(5).take(count).any(|p| {
-        end_wrong(p[0], p[1], n) || p[2] as usize >= n || end_wrong(p[3], p[4], n)
-    })
+    query[1..]
+        .chunks_exact(5)
+        .take(count)
+        .any(|p| end_wrong(p[0], p[1], n) || p[2] as usize >= n || end_wrong(p[3], p[4], n))
 }
 
 fn end_of(kind: u32, value: u32, map: &[u32]) -> End {
@@ -53,11 +54,7 @@ fn end_of(kind: u32, value: u32, map: &[u32]) -> End {
 fn patterns_of(query: &[u32], map: &[u32]) -> Vec<Pattern> {
     let counted = query[1..].chunks_exact(5).take(query[0] as usize);
     counted
-        .map(|p| Pattern {
-            subject: end_of(p[0], p[1], map),
-            property: p[2],
-            object: end_of(p[3], p[4], map),
-        })
+        .map(|p| Pattern { subject: end_of(p[0], p[1], map), property: p[2], object: end_of(p[3], p[4], map) })
         .collect()
 }
 
@@ -90,11 +87,7 @@ fn index(table: &[u32], patterns: &[Pattern]) -> PackedMap<Vec<(u32, u32)>> {
 }
 
 /// The place of the pattern to try next: most ends bound, then fewest triples.
-fn next_pattern(
-    left: &[Pattern],
-    bound: &[bool; 8],
-    of: &PackedMap<Vec<(u32, u32)>>,
-) -> usize {
+fn next_pattern(left: &[Pattern], bound: &[bool; 8], of: &PackedMap<Vec<(u32, u32)>>) -> usize {
     let rank = |p: &Pattern| {
         let ends = is_bound(p.subject, bound) as u8 + is_bound(p.object, bound) as u8;
         (2 - ends, of[&(p.property as u64)].len())

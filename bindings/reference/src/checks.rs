@@ -8,11 +8,12 @@ pub fn size_wrong(n: usize) -> bool {
 }
 
 pub fn table_length_wrong(length: usize) -> bool {
-    length % 3 != 0 || length / 3 > MAX_TRIPLES
+    !length.is_multiple_of(3) || length / 3 > MAX_TRIPLES
 }
 
 pub fn roster_wrong(roster: &[u8]) -> bool {
-    roster.iter().any(|&mark| mark > 3) || roster[..MIN_SIZE].iter().any(|&mark| mark != 0)
+    let all = roster.iter().fold(0, |all, mark| all | mark);
+    all > 3 || roster[..MIN_SIZE].iter().any(|&mark| mark != 0)
 }
 
 pub fn codes_wrong(t: &[u32], n: usize) -> bool {

@@ -17,13 +17,8 @@ pub enum Mistake {
 }
 
 impl Mistake {
-    pub const ALL: [Mistake; 5] = [
-        Mistake::OneRound,
-        Mistake::TypedOnlyStays,
-        Mistake::ClassLinks,
-        Mistake::NoSourceEqual,
-        Mistake::FirstSeen,
-    ];
+    pub const ALL: [Mistake; 5] =
+        [Mistake::OneRound, Mistake::TypedOnlyStays, Mistake::ClassLinks, Mistake::NoSourceEqual, Mistake::FirstSeen];
 
     pub fn name(self) -> &'static str {
         match self {

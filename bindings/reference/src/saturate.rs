@@ -4,20 +4,28 @@
 use crate::triples::{pack, put_sorted, unpack, Packed, PackedSet};
 use crate::{checks, Mistake, DOMAIN, FIRST_FREE, OK, RANGE, SLOTS, SUBCLASS, SUBPROPERTY, TYPE};
 
-/// For each code, the codes that a schema property leads to.
-struct Links(Vec<Vec<u32>>);
+/// For each code, the codes that a schema property leads to: the place of its list, from 1 on, or 0.
+struct Links {
+    place: Vec<u32>,
+    lists: Vec<Vec<u32>>,
+}
 
 impl Links {
     fn new(n: usize) -> Links {
-        Links(vec![Vec::new(); n])
+        Links { place: vec![0; n], lists: vec![Vec::new()] }
     }
 
     fn add(&mut self, from: u32, to: u32) {
-        self.0[from as usize].push(to);
+        let place = &mut self.place[from as usize];
+        if *place == 0 {
+            *place = self.lists.len() as u32;
+            self.lists.push(Vec::new());
+        }
+        self.lists[*place as usize].push(to);
     }
 
     fn of(&self, from: u32) -> &[u32] {
-        &self.0[from as usize]
+        &self.lists[self.place[from as usize] as usize]
     }
 }
 
@@ -148,13 +156,7 @@ pub fn saturate(table: &[u32], roster: &[u8], result: &mut [u32], count: &mut us
     saturate_with(Mistake::None, table, roster, result, count)
 }
 
-pub fn saturate_with(
-    mistake: Mistake,
-    table: &[u32],
-    roster: &[u8],
-    result: &mut [u32],
-    count: &mut usize,
-) -> u32 {
+pub fn saturate_with(mistake: Mistake, table: &[u32], roster: &[u8], result: &mut [u32], count: &mut usize) -> u32 {
     let refusal = match checks::lengths_refusal(table, roster) {
         OK => checks::table_refusal(table, roster),
         refusal => refusal,

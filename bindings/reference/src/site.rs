@@ -1,6 +1,8 @@
 //! The site form: reading and writing.
 
-use crate::{checks, CODE, FORM, LENGTH, MAX_ASKS, MAX_PATTERNS, MAX_WRITTEN, OK, QUERIES_NUMBERS, QUERY_NUMBERS, SLOTS};
+use crate::{
+    checks, CODE, FORM, LENGTH, MAX_ASKS, MAX_PATTERNS, MAX_WRITTEN, OK, QUERIES_NUMBERS, QUERY_NUMBERS, SLOTS,
+};
 
 /// What a text gives.
 struct Site {
@@ -25,13 +27,17 @@ impl Text<'_> {
 
     /// A number of u32 without leading zeros.
     fn number(&mut self) -> Option<u32> {
-        let digits = self.0.iter().take_while(|b| b.is_ascii_digit()).count();
-        let (number, rest) = self.0.split_at(digits);
-        if digits == 0 || (digits > 1 && number[0] == b'0') {
-            return None;
+        let mut value = 0u32;
+        let mut digits = 0;
+        while let Some(digit) = self.0.get(digits).filter(|b| b.is_ascii_digit()) {
+            if digits == 1 && self.0[0] == b'0' {
+                return None;
+            }
+            value = value.checked_mul(10)?.checked_add((digit - b'0') as u32)?;
+            digits += 1;
         }
-        self.0 = rest;
-        std::str::from_utf8(number).ok()?.parse().ok()
+        self.0 = &self.0[digits..];
+        (digits > 0).then_some(value)
     }
 
     /// An end as its two numbers.
@@ -123,23 +129,50 @@ pub fn read(
     OK
 }
 
+/// Puts a number's digits at the end of the text.
+fn push_number(text: &mut Vec<u8>, mut value: u32) {
+    let mut digits = [0; 10];
+    let mut start = digits.len();
+    loop {
+        start -= 1;
+        digits[start] = b'0' + (value % 10) as u8;
+        value /= 10;
+        if value == 0 {
+            break;
+        }
+    }
+    text.extend_from_slice(&digits[start..]);
+}
+
+/// Puts a line: the word, then each number after a space.
+fn push_line(text: &mut Vec<u8>, word: &str, numbers: &[u32]) {
+    text.push(b'(');
+    text.extend_from_slice(word.as_bytes());
+    for &value in numbers {
+        text.push(b' ');
+        push_number(text, value);
+    }
+    text.extend_from_slice(b")\n");
+}
+
 pub fn write(n: u32, table: &[u32], out: &mut [u8], count: &mut usize) -> u32 {
     let size = n as usize;
-    if checks::size_wrong(size) || table.len() % 3 != 0 || table.len() / 3 > MAX_WRITTEN {
+    if checks::size_wrong(size) || !table.len().is_multiple_of(3) || table.len() / 3 > MAX_WRITTEN {
         return LENGTH;
     }
     if table.chunks_exact(3).any(|t| checks::codes_wrong(t, size)) {
         return CODE;
     }
-    let mut text = format!("(site {n})\n");
+    let mut text = Vec::with_capacity(16 + 8 * table.len());
+    push_line(&mut text, "site", &[n]);
     for t in table.chunks_exact(3) {
-        text += &format!("(t {} {} {})\n", t[0], t[1], t[2]);
+        push_line(&mut text, "t", t);
     }
     out.fill(0);
     if text.len() > out.len() {
         return SLOTS;
     }
-    out[..text.len()].copy_from_slice(text.as_bytes());
+    out[..text.len()].copy_from_slice(&text);
     *count = text.len();
     OK
 }

@@ -54,6 +54,6 @@ pub fn look_up(list: &[u32], s: u32, p: u32, o: u32, found: &mut u32) -> u32 {
     if checks::table_length_wrong(list.len()) {
         return LENGTH;
     }
-    *found = list.chunks_exact(3).any(|t| t == [s, p, o]) as u32;
+    *found = list.chunks_exact(3).any(|t| t[0] == s && t[1] == p && t[2] == o) as u32;
     OK
 }

@@ -58,13 +58,7 @@ pub fn cliques(table: &[u32], roster: &[u8], sources: &mut [u32], targets: &mut 
     cliques_with(Mistake::None, table, roster, sources, targets)
 }
 
-pub fn cliques_with(
-    mistake: Mistake,
-    table: &[u32],
-    roster: &[u8],
-    sources: &mut [u32],
-    targets: &mut [u32],
-) -> u32 {
+pub fn cliques_with(mistake: Mistake, table: &[u32], roster: &[u8], sources: &mut [u32], targets: &mut [u32]) -> u32 {
     let n = roster.len();
     if checks::lengths_refusal(table, roster) != OK || sources.len() != n || targets.len() != n {
         return LENGTH;

@@ -73,9 +73,7 @@ pub fn look_up(list: &[u32], s: u32, p: u32, o: u32, found: &mut u32) -> u32 {
 
 pub fn ask(table: &[u32], map: &[u32], query: &[u32], maybe: &mut u32) -> u32 {
     // SAFETY: each pointer comes with the length of its slice, or is a reference.
-    unsafe {
-        ffi::ws_ask(table.as_ptr(), table.len(), map.as_ptr(), map.len(), query.as_ptr(), query.len(), maybe)
-    }
+    unsafe { ffi::ws_ask(table.as_ptr(), table.len(), map.as_ptr(), map.len(), query.as_ptr(), query.len(), maybe) }
 }
 
 pub fn open(

@@ -3,7 +3,7 @@
 mod common;
 
 use common::{map_with, roster_of, saturation_of, summary_of, SIX, SIX_SUMMARY};
-use weak_summary::{cliques, own_roster, read, summarise, ask, Answer, Intake, Refusal, ABSENT};
+use weak_summary::{ask, cliques, own_roster, read, summarise, Answer, Intake, Refusal, ABSENT};
 
 #[test]
 fn no_triples() {

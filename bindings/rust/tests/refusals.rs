@@ -18,6 +18,9 @@ fn all(lists: &[Vec<u32>], value: u32) -> bool {
     lists.iter().flatten().all(|&x| x == value)
 }
 
+/// A table, a roster, the lengths of result, map and work, and the refusal.
+type Case<'a> = (&'a [u32], &'a [u8], [usize; 3], Refusal);
+
 #[test]
 fn summarise_refuses_in_order() {
     let roster = roster_of(&SIX, 14);
@@ -26,7 +29,7 @@ fn summarise_refuses_in_order() {
     let mut over = roster.clone();
     over[13] = 4;
     let wrong_code = [&SIX[..], &[14, 5, 10]].concat();
-    let cases: [(&[u32], &[u8], [usize; 3], Refusal); 9] = [
+    let cases: [Case; 9] = [
         (&SIX[..17], &over, [18, 14, 28], Refusal::Length),
         (&SIX, &over, [18, 13, 28], Refusal::Length),
         (&SIX, &over, [18, 14, 27], Refusal::Length),
