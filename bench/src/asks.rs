@@ -79,8 +79,10 @@ fn one_property(amount: usize) -> Asked {
 }
 
 pub fn all(settings: &Settings) {
-    let note = "Size: triples of the data-heavy table. Both engines get the bare list with each call, so the plain one indexes it by \
-                property each time. On the summary the list is that of the summary, whatever the table's size.";
+    let note =
+        "Size: triples of the data-heavy table. Both engines get the bare list with each call, so the plain one \
+                indexes it by property each time. On the summary the list is that of the summary, whatever the table's \
+                size.";
     heading("Ask", note);
     for k in 0..4 {
         let name = queries(&as_table(&inputs::data_heavy(1 << 10)))[k].0;

@@ -114,9 +114,11 @@ fn known_image(random: &mut Random, table: &[u32]) -> [u32; 3] {
 
 pub fn all(settings: &Settings) {
     let sizes = &sizes(settings);
-    let note = "Size: triples held before, of the data-heavy table; the state is what feeding them leaves. N is 65,536. Times are for \
-                one feed, the mean of 16. The plain intake keeps notes of its own beside the lists (an end of each property, which \
-                nodes have data) and makes the map anew only when the class of a known node changes.";
+    let note = "Size: triples held before, of the data-heavy table; the state is what feeding them leaves. N is 65,536. \
+                Times are for one feed, the mean of 16. The proved intake has nothing but the lent lists. The plain one \
+                keeps notes of its own beside them (an end of each property, which nodes have data) and makes the map and \
+                the summary anew only when the class of a known node changes, as in the last series. New nodes have the \
+                largest codes, so they are inserted at the end.";
     heading("Feed", note);
     series(settings, "repeats", sizes, |t| {
         feeds(settings, t, |random, table| {

@@ -121,20 +121,25 @@ fn look_up(settings: &Settings, list: &[u32], t: [u32; 3]) -> Timing {
     )
 }
 
-pub fn all(settings: &Settings) {
+pub fn own_rosters(settings: &Settings) {
     let sizes = &sizes(settings);
     heading("Own roster", "Size: triples of the table. N is 65,536.");
     series(settings, "data-heavy", sizes, |t| own_roster(settings, &inputs::data_heavy(t)));
     series(settings, "type-heavy", sizes, |t| own_roster(settings, &inputs::type_heavy(t)));
-    saturations(settings, sizes);
+}
+
+pub fn clique_lists(settings: &Settings) {
+    let sizes = &sizes(settings);
     heading("Cliques", "Size: triples of the table. N is 65,536.");
     series(settings, "data-heavy", sizes, |t| cliques(settings, &inputs::data_heavy(t)));
     series(settings, "one class", sizes, |t| cliques(settings, &inputs::one_class(t)));
     series(settings, "all nodes marked", sizes, |t| cliques(settings, &inputs::all_marked(t)));
-    summaries(settings, sizes);
+}
+
+pub fn look_ups(settings: &Settings) {
     heading("Look up", "Size: triples of the list, sorted. The triple is the last, or is not there.");
     for (name, last) in [("the last", true), ("not there", false)] {
-        series(settings, name, sizes, |t| {
+        series(settings, name, &sizes(settings), |t| {
             let list = inputs::sorted(&inputs::all_marked(t).table);
             let end = list.len() - 3;
             look_up(settings, &list, if last { [list[end], list[end + 1], list[end + 2]] } else { [9, 9, 9] })
@@ -142,10 +147,11 @@ pub fn all(settings: &Settings) {
     }
 }
 
-fn saturations(settings: &Settings, sizes: &[usize]) {
-    let note = "Size: triples of the table; for the chain of classes alone, about the triples of its closure. Result: triples of the \
-                saturation. The result list has just the slots that it takes; in the lines \"one slot short\" it has one less, and \
-                the call is refused with 5.";
+pub fn saturations(settings: &Settings) {
+    let sizes = &sizes(settings);
+    let note = "Size: triples of the table; for the chain of classes alone, about the triples of its closure. Result: \
+                triples of the saturation. The result list has just the slots that it takes; in the lines \"one slot \
+                short\" it has one less, and the call is refused with 5.";
     heading("Saturate", note);
     series(settings, "data-heavy, no schema", sizes, |t| saturate(settings, &inputs::data_heavy(t), 0));
     series(settings, "type-heavy, no schema", sizes, |t| saturate(settings, &inputs::type_heavy(t), 0));
@@ -159,9 +165,11 @@ fn saturations(settings: &Settings, sizes: &[usize]) {
     series(settings, "data under a tree, one slot short", sizes, |t| saturate(settings, &inputs::property_tree(t), 1));
 }
 
-fn summaries(settings: &Settings, sizes: &[usize]) {
-    let note = "Size: triples of the table. N is 65,536. Result: triples of the summary. The result list has as many slots as the \
-                table has triples; in the lines \"256 slots\" it has 256.";
+pub fn summaries(settings: &Settings) {
+    let sizes = &sizes(settings);
+    let note =
+        "Size: triples of the table. N is 65,536. Result: triples of the summary. The result list has as many slots \
+                as the table has triples; in the lines \"256 slots\" it has 256.";
     heading("Summarise", note);
     series(settings, "data-heavy", sizes, |t| summarise(settings, &inputs::data_heavy(t), t));
     series(settings, "data-heavy, 256 slots", sizes, |t| summarise(settings, &inputs::data_heavy(t), 256));
