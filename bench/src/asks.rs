@@ -58,8 +58,8 @@ fn ask(settings: &Settings, asked: &Asked, query: &[u32]) -> Timing {
 
 /// Property 5 leads from kind 0 to kind 0 and property 6 from kind 1 to kind 7, so the second query has no match.
 fn queries(asked: &Asked) -> [(&'static str, Vec<u32>); 4] {
-    let last = asked.table.len() - 3;
-    let [s, p, o] = [asked.table[last], asked.table[last + 1], asked.table[last + 2]];
+    let data = asked.table.chunks_exact(3).rfind(|t| t[1] >= plain::FIRST_FREE).unwrap();
+    let (s, p, o) = (data[0], data[1], data[2]);
     [
         ("one pattern of two codes", query(&[[1, s, p, 1, o]])),
         ("two patterns that meet", query(&[open(0, 5, 1), open(1, 5, 2)])),
