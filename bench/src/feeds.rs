@@ -3,7 +3,7 @@
 use crate::inputs::{self, Random, FRESH, SITE};
 use crate::measure::{heading, measure, series, sizes, Settings, Timing};
 use weak_summary::calls::{self as proved, Lent};
-use weak_summary_reference::{feed_fast, FastIntake, FIRST_FREE, MAX_TRIPLES, TYPE};
+use weak_summary_reference::{feed_fast, feed_lists_only, FastIntake, Fed, FIRST_FREE, MAX_TRIPLES, TYPE};
 
 /// Feeds per run; times are for one feed.
 const FEEDS: usize = 16;
@@ -53,32 +53,42 @@ fn agree(a: &Intake, b: &Plain) -> Result<String, String> {
     Err("feeds".to_string())
 }
 
-/// Times feeds to an intake that holds the data-heavy table, as feeding its triples would leave it.
-fn feeds(settings: &Settings, amount: usize, choose: impl Fn(&mut Random, &[u32]) -> [u32; 3]) -> Timing {
-    let mut input = inputs::data_heavy(amount);
-    let room = MAX_TRIPLES - FEEDS;
-    input.table.truncate(3 * room.min(amount));
-    let roster = &input.roster;
-    let intake = FastIntake::holding(roster, input.table.len() / 3 + FEEDS, &input.table);
+/// A way to choose the triple that is fed, given the table that is held.
+type Choice = fn(&mut Random, &[u32]) -> [u32; 3];
+
+/// A way to feed the plain intake.
+type PlainFeed = fn(&mut FastIntake, [u32; 3]) -> Fed;
+
+/// Both intakes holding the data-heavy table, as feeding its triples would leave them.
+fn holding(table: &[u32], roster: &[u8]) -> (Intake, Plain) {
+    let intake = FastIntake::holding(roster, table.len() / 3 + FEEDS, table);
     let ours = Intake {
         triples: intake.triples.clone(),
         summary: intake.summary.clone(),
         map: intake.map.clone(),
-        work: vec![1; 2 * input.n],
+        work: vec![1; 2 * roster.len()],
         held: intake.held,
         summarised: intake.summarised,
         answers: Vec::with_capacity(FEEDS),
     };
+    (ours, Plain { intake, answers: Vec::with_capacity(FEEDS) })
+}
+
+/// Times feeds to an intake that holds the data-heavy table.
+fn feeds(settings: &Settings, amount: usize, choose: Choice, plain_feed: PlainFeed) -> Timing {
+    let mut input = inputs::data_heavy(amount);
+    input.table.truncate(3 * (MAX_TRIPLES - FEEDS).min(amount));
+    let roster = &input.roster;
+    let (ours, theirs) = holding(&input.table, roster);
     let mut random = Random::new();
     let fed: Vec<[u32; 3]> = (0..FEEDS).map(|_| choose(&mut random, &input.table)).collect();
-    let theirs = Plain { intake, answers: Vec::with_capacity(FEEDS) };
     let timing = measure(
         settings,
         (&ours, &theirs),
         |l| fed.iter().for_each(|&t| feed(l, roster, t)),
         |l| {
             for &t in &fed {
-                let answer = feed_fast(&mut l.intake, t);
+                let answer = plain_feed(&mut l.intake, t);
                 l.answers.push(answer == Ok(true));
             }
         },
@@ -112,40 +122,54 @@ fn known_image(random: &mut Random, table: &[u32]) -> [u32; 3] {
     }
 }
 
+fn repeat(random: &mut Random, table: &[u32]) -> [u32; 3] {
+    let i = data_at(random, table);
+    [table[i], table[i + 1], table[i + 2]]
+}
+
+/// A type of a node that is held.
+fn new_image(random: &mut Random, table: &[u32]) -> [u32; 3] {
+    let data = data_at(random, table);
+    [table[data], TYPE, inputs::class(random)]
+}
+
+fn new_node(random: &mut Random, _: &[u32]) -> [u32; 3] {
+    let [_, p, o] = inputs::data_triple(random);
+    [fresh(random), p, o]
+}
+
+fn new_typed(random: &mut Random, _: &[u32]) -> [u32; 3] {
+    [fresh(random), TYPE, inputs::class(random)]
+}
+
+/// A node as subject of a property that others of its class do not have.
+fn joining(random: &mut Random, table: &[u32]) -> [u32; 3] {
+    let (one, other) = (data_at(random, table), data_at(random, table));
+    [table[one], table[other + 1], table[other + 2]]
+}
+
+const CHOICES: [(&str, Choice); 6] = [
+    ("repeats", repeat),
+    ("new, image known", known_image),
+    ("new, image new, nodes known", new_image),
+    ("data of new nodes", new_node),
+    ("types of new nodes", new_typed),
+    ("data that joins classes", joining),
+];
+
 pub fn all(settings: &Settings) {
     let sizes = &sizes(settings);
     let note = "Size: triples held before, of the data-heavy table; the state is what feeding them leaves. N is 65,536. \
                 Times are for one feed, the mean of 16. The proved intake has nothing but the lent lists. The plain one \
                 keeps notes of its own beside them (an end of each property, which nodes have data) and makes the map and \
-                the summary anew only when the class of a known node changes, as in the last series. New nodes have the \
-                largest codes, so they are inserted at the end.";
+                the summary anew only when the class of a known node changes; in the lines \"lists only\" it has no notes \
+                and makes them anew whenever the image is new, as the proved one does. New nodes have the largest codes, so \
+                they are inserted at the end.";
     heading("Feed", note);
-    series(settings, "repeats", sizes, |t| {
-        feeds(settings, t, |random, table| {
-            let i = 3 * random.below(table.len() as u32 / 3) as usize;
-            [table[i], table[i + 1], table[i + 2]]
-        })
-    });
-    series(settings, "new, image known", sizes, |t| feeds(settings, t, known_image));
-    series(settings, "new, image new, nodes known", sizes, |t| {
-        feeds(settings, t, |random, table| {
-            let data = data_at(random, table);
-            [table[data], TYPE, inputs::class(random)]
-        })
-    });
-    series(settings, "data of new nodes", sizes, |t| {
-        feeds(settings, t, |random, _| {
-            let [_, p, o] = inputs::data_triple(random);
-            [fresh(random), p, o]
-        })
-    });
-    series(settings, "types of new nodes", sizes, |t| {
-        feeds(settings, t, |random, _| [fresh(random), TYPE, inputs::class(random)])
-    });
-    series(settings, "data that joins two classes", sizes, |t| {
-        feeds(settings, t, |random, table| {
-            let (one, other) = (data_at(random, table), data_at(random, table));
-            [table[one], table[other + 1], table[other + 2]]
-        })
-    });
+    for (name, choose) in CHOICES {
+        series(settings, name, sizes, |t| feeds(settings, t, choose, feed_fast));
+    }
+    for (name, choose) in &CHOICES[2..5] {
+        series(settings, &format!("{name}, lists only"), sizes, |t| feeds(settings, t, *choose, feed_lists_only));
+    }
 }

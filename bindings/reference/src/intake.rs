@@ -240,7 +240,8 @@ fn insert(list: &mut [u32], count: usize, i: usize, t: [u32; 3]) {
     list[3 * i..3 * i + 3].copy_from_slice(&t);
 }
 
-pub fn feed_fast(intake: &mut FastIntake, t: [u32; 3]) -> Fed {
+/// Takes in a triple as both ways of feeding do: its checks, and its place in the list if it is new.
+fn take_in(intake: &mut FastIntake, t: [u32; 3]) -> Fed {
     if checks::roster_wrong(&intake.roster) {
         return Err(ROSTER);
     }
@@ -256,16 +257,38 @@ pub fn feed_fast(intake: &mut FastIntake, t: [u32; 3]) -> Fed {
     }
     insert(&mut intake.triples, intake.held, i, t);
     intake.held += 1;
+    Ok(true)
+}
+
+/// Feeds with the notes.
+pub fn feed_fast(intake: &mut FastIntake, t: [u32; 3]) -> Fed {
+    let answer = take_in(intake, t);
+    if answer != Ok(true) {
+        return answer;
+    }
     let kept = intake.put_ends(t);
     intake.note_ends(t);
     if kept.is_none() {
         intake.summarise_anew();
-        return Ok(true);
+        return answer;
     }
     let image = [intake.map[t[0] as usize], t[1], intake.map[t[2] as usize]];
     if let Err(j) = place(&intake.summary, intake.summarised, image) {
         insert(&mut intake.summary, intake.summarised, j, image);
         intake.summarised += 1;
     }
-    Ok(true)
+    answer
+}
+
+/// Feeds without the notes: where the image is not in the summary already, map and summary are made anew.
+pub fn feed_lists_only(intake: &mut FastIntake, t: [u32; 3]) -> Fed {
+    let answer = take_in(intake, t);
+    if answer != Ok(true) {
+        return answer;
+    }
+    let image = [intake.map[t[0] as usize], t[1], intake.map[t[2] as usize]];
+    if place(&intake.summary, intake.summarised, image).is_err() {
+        intake.summarise_anew();
+    }
+    answer
 }

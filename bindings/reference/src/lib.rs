@@ -14,7 +14,7 @@ mod triples;
 mod weak;
 
 pub use ask::ask;
-pub use intake::{feed_fast, open, FastIntake, Fed, PlainIntake};
+pub use intake::{feed_fast, feed_lists_only, open, FastIntake, Fed, PlainIntake};
 pub use mistake::Mistake;
 pub use roster::own_roster;
 pub use saturate::{saturate, saturate_with};

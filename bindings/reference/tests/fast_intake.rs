@@ -1,6 +1,6 @@
-//! That the benchmark's intake answers and holds what the plain intake does.
+//! That the benchmark's intake, fed in both ways, answers and holds what the plain intake does.
 
-use weak_summary_reference::{feed_fast, own_roster, FastIntake, Mistake, PlainIntake};
+use weak_summary_reference::{feed_fast, feed_lists_only, own_roster, FastIntake, Mistake, PlainIntake};
 
 /// The next number of a linear congruential generator.
 fn next(state: &mut u64, bound: u64) -> u32 {
@@ -45,10 +45,14 @@ fn fast_intake_is_the_plain_one() {
         let slots = table.len() / 3;
         let mut plain = PlainIntake::new(&roster, slots);
         let mut fast = FastIntake::new(&roster, slots);
+        let mut lists_only = FastIntake::new(&roster, slots);
         for t in table.chunks_exact(3) {
             let t = [t[0], t[1], t[2]];
-            assert_eq!(plain.feed(t, 2 * n as usize), feed_fast(&mut fast, t));
+            let answer = plain.feed(t, 2 * n as usize);
+            assert_eq!(answer, feed_fast(&mut fast, t));
+            assert_eq!(answer, feed_lists_only(&mut lists_only, t));
             compare(&plain, &fast);
+            compare(&plain, &lists_only);
         }
         compare(&plain, &FastIntake::holding(&roster, slots, &table));
     }
