@@ -1,0 +1,175 @@
+//! Feeding an intake that holds a table.
+
+use crate::inputs::{self, Random, FRESH, SITE};
+use crate::measure::{heading, measure, series, sizes, Settings, Timing};
+use weak_summary::calls::{self as proved, Lent};
+use weak_summary_reference::{feed_fast, feed_lists_only, FastIntake, Fed, FIRST_FREE, MAX_TRIPLES, TYPE};
+
+/// Feeds per run; times are for one feed.
+const FEEDS: usize = 16;
+
+/// The proved engine's intake.
+#[derive(Clone)]
+struct Intake {
+    triples: Vec<u32>,
+    summary: Vec<u32>,
+    map: Vec<u32>,
+    work: Vec<u32>,
+    held: usize,
+    summarised: usize,
+    answers: Vec<bool>,
+}
+
+/// The plain engine's intake.
+#[derive(Clone)]
+struct Plain {
+    intake: FastIntake,
+    answers: Vec<bool>,
+}
+
+fn feed(l: &mut Intake, roster: &[u8], t: [u32; 3]) {
+    let mut is_new = 9;
+    let lent = Lent {
+        roster,
+        triples: &mut l.triples,
+        summary: &mut l.summary,
+        map: &mut l.map,
+        work: &mut l.work,
+        held: &mut l.held,
+        summarised: &mut l.summarised,
+    };
+    let status = proved::feed(lent, t, &mut is_new);
+    assert_eq!(status, 0);
+    l.answers.push(is_new == 1);
+}
+
+fn agree(a: &Intake, b: &Plain) -> Result<String, String> {
+    let lists = a.triples == b.intake.triples && a.summary == b.intake.summary && a.map == b.intake.map;
+    let counts = (a.held, a.summarised) == (b.intake.held, b.intake.summarised);
+    if lists && counts && a.answers == b.answers {
+        let new = a.answers.iter().filter(|&&is_new| is_new).count();
+        return Ok(format!("{new} of {FEEDS} new, summary {}", a.summarised));
+    }
+    Err("feeds".to_string())
+}
+
+/// A way to choose the triple that is fed, given the table that is held.
+type Choice = fn(&mut Random, &[u32]) -> [u32; 3];
+
+/// A way to feed the plain intake.
+type PlainFeed = fn(&mut FastIntake, [u32; 3]) -> Fed;
+
+/// Both intakes holding the data-heavy table, as feeding its triples would leave them.
+fn holding(table: &[u32], roster: &[u8]) -> (Intake, Plain) {
+    let intake = FastIntake::holding(roster, table.len() / 3 + FEEDS, table);
+    let ours = Intake {
+        triples: intake.triples.clone(),
+        summary: intake.summary.clone(),
+        map: intake.map.clone(),
+        work: vec![1; 2 * roster.len()],
+        held: intake.held,
+        summarised: intake.summarised,
+        answers: Vec::with_capacity(FEEDS),
+    };
+    (ours, Plain { intake, answers: Vec::with_capacity(FEEDS) })
+}
+
+/// Times feeds to an intake that holds the data-heavy table.
+fn feeds(settings: &Settings, amount: usize, choose: Choice, plain_feed: PlainFeed) -> Timing {
+    let mut input = inputs::data_heavy(amount);
+    input.table.truncate(3 * (MAX_TRIPLES - FEEDS).min(amount));
+    let roster = &input.roster;
+    let (ours, theirs) = holding(&input.table, roster);
+    let mut random = Random::new();
+    let fed: Vec<[u32; 3]> = (0..FEEDS).map(|_| choose(&mut random, &input.table)).collect();
+    let timing = measure(
+        settings,
+        (&ours, &theirs),
+        |l| fed.iter().for_each(|&t| feed(l, roster, t)),
+        |l| {
+            for &t in &fed {
+                let answer = plain_feed(&mut l.intake, t);
+                l.answers.push(answer == Ok(true));
+            }
+        },
+        agree,
+    );
+    Timing { proved: timing.proved / FEEDS as f64, plain: timing.plain / FEEDS as f64, ..timing }
+}
+
+fn fresh(random: &mut Random) -> u32 {
+    FRESH + random.below(SITE - FRESH)
+}
+
+/// The place of some data triple of the table.
+fn data_at(random: &mut Random, table: &[u32]) -> usize {
+    loop {
+        let i = 3 * random.below(table.len() as u32 / 3) as usize;
+        if table[i + 1] >= FIRST_FREE {
+            return i;
+        }
+    }
+}
+
+/// A data triple with the subject of one and the object of another triple of the same property.
+fn known_image(random: &mut Random, table: &[u32]) -> [u32; 3] {
+    let one = data_at(random, table);
+    loop {
+        let other = data_at(random, table);
+        if table[other + 1] == table[one + 1] && other != one {
+            return [table[one], table[one + 1], table[other + 2]];
+        }
+    }
+}
+
+fn repeat(random: &mut Random, table: &[u32]) -> [u32; 3] {
+    let i = data_at(random, table);
+    [table[i], table[i + 1], table[i + 2]]
+}
+
+/// A type of a node that is held.
+fn new_image(random: &mut Random, table: &[u32]) -> [u32; 3] {
+    let data = data_at(random, table);
+    [table[data], TYPE, inputs::class(random)]
+}
+
+fn new_node(random: &mut Random, _: &[u32]) -> [u32; 3] {
+    let [_, p, o] = inputs::data_triple(random);
+    [fresh(random), p, o]
+}
+
+fn new_typed(random: &mut Random, _: &[u32]) -> [u32; 3] {
+    [fresh(random), TYPE, inputs::class(random)]
+}
+
+/// A node as subject of a property that others of its class do not have.
+fn joining(random: &mut Random, table: &[u32]) -> [u32; 3] {
+    let (one, other) = (data_at(random, table), data_at(random, table));
+    [table[one], table[other + 1], table[other + 2]]
+}
+
+const CHOICES: [(&str, Choice); 6] = [
+    ("repeats", repeat),
+    ("new, image known", known_image),
+    ("new, image new, nodes known", new_image),
+    ("data of new nodes", new_node),
+    ("types of new nodes", new_typed),
+    ("data that joins classes", joining),
+];
+
+pub fn all(settings: &Settings) {
+    let sizes = &sizes(settings);
+    let note = "Size: triples held before, of the data-heavy table; the state is what feeding them leaves. N is 65,536. \
+                Times are for one feed, the mean of 16. The proved intake has nothing but the lent lists. The plain one \
+                keeps notes of its own beside them (an end of each property, which nodes have data) and makes the map and \
+                the summary anew only when the class of a known node changes; in the lines \"lists only\" it has no notes \
+                and makes them anew whenever the image is new, as the proved one does. New nodes have the largest codes, so \
+                they are inserted at the end.";
+    heading("Feed", note);
+    for (name, choose) in CHOICES {
+        series(settings, name, sizes, |t| feeds(settings, t, choose, feed_fast));
+    }
+    for (name, choose) in &CHOICES[2..5] {
+        series(settings, &format!("{name}, lists only"), sizes, |t| feeds(settings, t, *choose, feed_lists_only));
+    }
+}

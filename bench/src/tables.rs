@@ -1,0 +1,179 @@
+//! Own roster, saturate, cliques, summarise and look up.
+
+use crate::inputs::{self, Input};
+use crate::measure::{heading, measure, series, sizes, Settings, Timing};
+use weak_summary::calls as proved;
+use weak_summary_reference as plain;
+
+/// What a call writes.
+#[derive(Clone, PartialEq)]
+struct Written {
+    roster: Vec<u8>,
+    lists: [Vec<u32>; 3],
+    count: usize,
+    status: u32,
+}
+
+/// Lists of ones with these lengths.
+fn ones(roster: usize, lengths: [usize; 3]) -> Written {
+    Written { roster: vec![1; roster], lists: lengths.map(|length| vec![1; length]), count: usize::MAX, status: 9 }
+}
+
+/// Times a call that writes into such lists.
+fn time(
+    settings: &Settings,
+    before: &Written,
+    proved: impl Fn(&mut Written) -> u32,
+    plain: impl Fn(&mut Written) -> u32,
+) -> Timing {
+    measure(
+        settings,
+        (before, before),
+        |l| l.status = proved(l),
+        |l| l.status = plain(l),
+        |a, b| {
+            let result = match (a.status, a.count) {
+                (0, usize::MAX) => "-".to_string(),
+                (0, count) => count.to_string(),
+                (refusal, _) => format!("refused {refusal}"),
+            };
+            if a == b {
+                Ok(result)
+            } else {
+                Err(format!("status {} and {}", a.status, b.status))
+            }
+        },
+    )
+}
+
+fn own_roster(settings: &Settings, input: &Input) -> Timing {
+    let table = &input.table;
+    time(
+        settings,
+        &ones(input.n, [0; 3]),
+        |l| proved::own_roster(table, &mut l.roster),
+        |l| plain::own_roster(table, &mut l.roster),
+    )
+}
+
+/// Saturates into as many slots as it takes, less `short`.
+fn saturate(settings: &Settings, input: &Input, short: usize) -> Timing {
+    let (table, roster) = (&input.table, &input.roster);
+    let mut count = 0;
+    let mut room = vec![0; 3 * (16 << 20)];
+    assert_eq!(plain::saturate(table, roster, &mut room, &mut count), 0);
+    drop(room);
+    time(
+        settings,
+        &ones(0, [3 * (count - short), 0, 0]),
+        |l| proved::saturate(table, roster, &mut l.lists[0], &mut l.count),
+        |l| plain::saturate(table, roster, &mut l.lists[0], &mut l.count),
+    )
+}
+
+fn cliques(settings: &Settings, input: &Input) -> Timing {
+    let (table, roster) = (&input.table, &input.roster);
+    time(
+        settings,
+        &ones(0, [input.n, input.n, 0]),
+        |l| {
+            let [sources, targets, _] = &mut l.lists;
+            proved::cliques(table, roster, sources, targets)
+        },
+        |l| {
+            let [sources, targets, _] = &mut l.lists;
+            plain::cliques(table, roster, sources, targets)
+        },
+    )
+}
+
+/// Summarises into as many slots as the table has triples, or fewer.
+fn summarise(settings: &Settings, input: &Input, slots: usize) -> Timing {
+    let (table, roster) = (&input.table, &input.roster);
+    time(
+        settings,
+        &ones(0, [3 * slots, input.n, 2 * input.n]),
+        |l| {
+            let [result, map, work] = &mut l.lists;
+            proved::summarise(table, roster, result, map, work, &mut l.count)
+        },
+        |l| {
+            let [result, map, work] = &mut l.lists;
+            plain::summarise(table, roster, result, map, work, &mut l.count)
+        },
+    )
+}
+
+fn look_up(settings: &Settings, list: &[u32], t: [u32; 3]) -> Timing {
+    measure(
+        settings,
+        (&[9, 9], &[9, 9]),
+        |l| l[0] = proved::look_up(list, t[0], t[1], t[2], &mut l[1]),
+        |l| l[0] = plain::look_up(list, t[0], t[1], t[2], &mut l[1]),
+        |a, b| {
+            let result = if a[1] == 1 { "found" } else { "not found" };
+            if a == b && a[0] == 0 {
+                Ok(result.to_string())
+            } else {
+                Err(format!("look up {a:?} and {b:?}"))
+            }
+        },
+    )
+}
+
+pub fn own_rosters(settings: &Settings) {
+    let sizes = &sizes(settings);
+    heading("Own roster", "Size: triples of the table. N is 65,536.");
+    series(settings, "data-heavy", sizes, |t| own_roster(settings, &inputs::data_heavy(t)));
+    series(settings, "type-heavy", sizes, |t| own_roster(settings, &inputs::type_heavy(t)));
+}
+
+pub fn clique_lists(settings: &Settings) {
+    let sizes = &sizes(settings);
+    heading("Cliques", "Size: triples of the table. N is 65,536.");
+    series(settings, "data-heavy", sizes, |t| cliques(settings, &inputs::data_heavy(t)));
+    series(settings, "one class", sizes, |t| cliques(settings, &inputs::one_class(t)));
+    series(settings, "all nodes marked", sizes, |t| cliques(settings, &inputs::all_marked(t)));
+}
+
+pub fn look_ups(settings: &Settings) {
+    heading("Look up", "Size: triples of the list, sorted. The triple is the last, or is not there.");
+    for (name, last) in [("the last", true), ("not there", false)] {
+        series(settings, name, &sizes(settings), |t| {
+            let list = inputs::sorted(&inputs::all_marked(t).table);
+            let end = list.len() - 3;
+            look_up(settings, &list, if last { [list[end], list[end + 1], list[end + 2]] } else { [9, 9, 9] })
+        });
+    }
+}
+
+pub fn saturations(settings: &Settings) {
+    let sizes = &sizes(settings);
+    let note = "Size: triples of the table; for the chain of classes alone, about the triples of its closure. Result: \
+                triples of the saturation. The result list has just the slots that it takes; in the lines \"one slot \
+                short\" it has one less, and the call is refused with 5.";
+    heading("Saturate", note);
+    series(settings, "data-heavy, no schema", sizes, |t| saturate(settings, &inputs::data_heavy(t), 0));
+    series(settings, "type-heavy, no schema", sizes, |t| saturate(settings, &inputs::type_heavy(t), 0));
+    series(settings, "types under a chain of 16 classes", sizes, |t| {
+        saturate(settings, &inputs::types_under_chain(t), 0)
+    });
+    series(settings, "data under a tree of 127 properties", sizes, |t| {
+        saturate(settings, &inputs::property_tree(t), 0)
+    });
+    series(settings, "chain of classes alone", sizes, |t| saturate(settings, &inputs::class_chain(t), 0));
+    series(settings, "data under a tree, one slot short", sizes, |t| saturate(settings, &inputs::property_tree(t), 1));
+}
+
+pub fn summaries(settings: &Settings) {
+    let sizes = &sizes(settings);
+    let note =
+        "Size: triples of the table. N is 65,536. Result: triples of the summary. The result list has as many slots \
+                as the table has triples; in the lines \"256 slots\" it has 256.";
+    heading("Summarise", note);
+    series(settings, "data-heavy", sizes, |t| summarise(settings, &inputs::data_heavy(t), t));
+    series(settings, "data-heavy, 256 slots", sizes, |t| summarise(settings, &inputs::data_heavy(t), 256));
+    series(settings, "type-heavy", sizes, |t| summarise(settings, &inputs::type_heavy(t), t));
+    series(settings, "one class", sizes, |t| summarise(settings, &inputs::one_class(t), t));
+    series(settings, "all nodes marked", sizes, |t| summarise(settings, &inputs::all_marked(t), t));
+}

@@ -1,0 +1,131 @@
+//! Ask, on tables and summaries, with maps of every kind.
+
+use crate::generate;
+use crate::random::Random;
+use crate::report::{Call, Report};
+use crate::tables::run;
+use weak_summary::calls as proved;
+use weak_summary_reference as plain;
+use weak_summary_reference::QUERY_NUMBERS;
+
+/// Everything lent to ask.
+#[derive(Clone, PartialEq, Eq, Debug)]
+pub struct Lent {
+    pub table: Vec<u32>,
+    pub map: Vec<u32>,
+    pub query: Vec<u32>,
+    pub maybe: u32,
+}
+
+/// The most triples with this many patterns, so that a search without joins ends soon.
+const MOST: [usize; 9] = [40, 250, 60, 20, 10, 7, 5, 4, 4];
+
+/// An end that the node fits: a variable of a few, or a code whose entry it is.
+fn end_for(random: &mut Random, node: u32, map: &[u32], variables: usize) -> [u32; 2] {
+    if random.chance(70) {
+        return [0, (node as usize * 7 % variables) as u32];
+    }
+    let codes: Vec<u32> = (0..map.len()).filter(|&c| map[c] == node).map(|c| c as u32).collect();
+    match codes.is_empty() {
+        true => [1, random.below(map.len()) as u32],
+        false => [1, random.pick(&codes)],
+    }
+}
+
+/// A query of which each pattern fits some triple of the table.
+fn query_for(random: &mut Random, table: &[u32], map: &[u32], count: usize) -> Vec<u32> {
+    let mut query = vec![0; QUERY_NUMBERS];
+    query[0] = count as u32;
+    let variables = 1 + random.below(8);
+    for place in query[1..].chunks_exact_mut(5) {
+        if table.is_empty() || random.chance(5) {
+            let n = map.len();
+            let numbers = [0, random.below(8), random.below(n), random.below(2), random.below(n.min(8))];
+            place.copy_from_slice(&numbers.map(|x| x as u32));
+            continue;
+        }
+        let i = 3 * random.below(table.len() / 3);
+        place[..2].copy_from_slice(&end_for(random, table[i], map, variables));
+        place[2] = table[i + 1];
+        place[3..].copy_from_slice(&end_for(random, table[i + 2], map, variables));
+    }
+    query
+}
+
+/// Makes one number of a query wrong, in a counted pattern or past the count, or its length.
+fn damage_query(random: &mut Random, n: usize, query: &mut Vec<u32>) {
+    let i = 5 * random.below(8) + 1;
+    let end = i + random.pick(&[0, 3]);
+    let big = random.pick(&[n as u32, n as u32 + 1, u32::MAX]);
+    match random.below(7) {
+        0 => query[0] = random.pick(&[0, 9, 10, 16, u32::MAX]),
+        1 => query[end] = random.pick(&[2, 3, u32::MAX]),
+        2 => (query[end], query[end + 1]) = (0, random.pick(&[8, 9, n as u32, u32::MAX])),
+        3 => (query[end], query[end + 1]) = (1, big),
+        4 => query[i + 2] = big,
+        5 => query[0] = 1 + random.below(query[0] as usize) as u32,
+        _ => query.resize(random.pick(&[0, 1, 40, 42, 82]), 0),
+    }
+}
+
+/// The map of the table's summary, the same code for each code, or junk.
+fn map_for(random: &mut Random, table: &[u32], n: usize) -> Vec<u32> {
+    let roster = generate::roster(random, n, table);
+    let mut map = vec![0; n];
+    match random.below(3) {
+        0 => (0..n as u32).collect(),
+        1 => (0..n).map(|_| random.pick(&[random_code(n), plain::ABSENT, 5, 6, 7])).collect(),
+        _ => {
+            let (mut result, mut work) = (vec![0; table.len()], vec![0; 2 * n]);
+            plain::summarise(table, &roster, &mut result, &mut map, &mut work, &mut 0);
+            map
+        }
+    }
+}
+
+fn random_code(n: usize) -> u32 {
+    (n * 2 / 3) as u32
+}
+
+/// The images of the triples under the map, where it has entries.
+fn image_of(table: &[u32], map: &[u32]) -> Vec<u32> {
+    let mut image = table.to_vec();
+    for t in image.chunks_exact_mut(3) {
+        for place in [0, 2] {
+            let entry = map[t[place] as usize];
+            if entry as usize > 4 && (entry as usize) < map.len() {
+                t[place] = entry;
+            }
+        }
+    }
+    image
+}
+
+pub fn ask(random: &mut Random, report: &mut Report) {
+    let n = generate::size(random);
+    let count = 1 + random.below(8);
+    let amount = random.below(MOST[count] + 1);
+    let mut table = generate::table(random, n, amount);
+    let mut map = map_for(random, &table, n);
+    if random.chance(50) {
+        table = image_of(&table, &map);
+    }
+    let mut query = query_for(random, &table, &map, count);
+    if random.chance(25) {
+        damage_query(random, n, &mut query);
+    }
+    if random.chance(8) {
+        generate::damage_table(random, n, &mut table);
+    }
+    if random.chance(4) {
+        map.resize(random.pick(&[0, 4, n - 1, n + 1, 65_537]), 5);
+    }
+    compare_ask(report, Lent { table, map, query, maybe: random.next() as u32 });
+}
+
+pub fn compare_ask(report: &mut Report, before: Lent) {
+    let ours = run(&before, |l| proved::ask(&l.table, &l.map, &l.query, &mut l.maybe));
+    let theirs = run(&before, |l| plain::ask(&l.table, &l.map, &l.query, &mut l.maybe));
+    let yes = theirs.lent.maybe == 1;
+    report.compare(Call::Ask, &before, ours, theirs, yes);
+}

@@ -1,0 +1,201 @@
+//! Opening, and chains of feeds against the plain intake.
+
+use crate::generate::{self, other_length};
+use crate::random::Random;
+use crate::report::{Call, Outcome, Report};
+use crate::tables::run;
+use weak_summary::calls as proved;
+use weak_summary_reference::{self as plain, Mistake, PlainIntake};
+
+/// Everything lent to opening or to a feed.
+#[derive(Clone, PartialEq, Eq, Debug)]
+pub struct Lent {
+    pub roster: Vec<u8>,
+    pub triples: Vec<u32>,
+    pub summary: Vec<u32>,
+    pub map: Vec<u32>,
+    pub work: Vec<u32>,
+    pub held: usize,
+    pub summarised: usize,
+    pub is_new: u32,
+    pub fed: [u32; 3],
+}
+
+/// Lists full of junk.
+fn junk_lists(random: &mut Random, roster: &[u8], slots: usize) -> Lent {
+    let n = roster.len();
+    let tails = [random.below(3), random.below(3)];
+    Lent {
+        roster: roster.to_vec(),
+        triples: random.junk(3 * slots + tails[0]),
+        summary: random.junk(3 * slots + tails[1]),
+        map: random.junk(n),
+        work: random.junk(2 * n),
+        held: random.below(1 << 40),
+        summarised: random.below(1 << 40),
+        is_new: random.next() as u32,
+        fed: [0; 3],
+    }
+}
+
+/// Opens with both engines and gives what the proved one left.
+pub fn compare_open(report: &mut Report, before: &Lent) -> Outcome<Lent> {
+    let ours = run(before, |l| {
+        proved::open(&l.roster, &mut l.triples, &mut l.summary, &mut l.map, &mut l.held, &mut l.summarised)
+    });
+    let theirs = run(before, |l| {
+        plain::open(&l.roster, &mut l.triples, &mut l.summary, &mut l.map, &mut l.held, &mut l.summarised)
+    });
+    report.compare(Call::Open, before, ours.clone(), theirs, true);
+    ours
+}
+
+pub fn open(random: &mut Random, report: &mut Report) {
+    let site = generate::site(random);
+    let slots = random.below(30);
+    let mut lent = junk_lists(random, &site.roster, slots);
+    if random.chance(40) {
+        let list = match random.below(3) {
+            0 => &mut lent.triples,
+            1 => &mut lent.summary,
+            _ => &mut lent.map,
+        };
+        list.resize(other_length(random, list.len()), 3);
+    }
+    compare_open(report, &lent);
+}
+
+/// Opens with a blank roster of n bytes and lists of these slots.
+pub fn open_with(random: &mut Random, report: &mut Report, n: usize, slots: usize) {
+    let lent = junk_lists(random, &vec![0; n], slots);
+    compare_open(report, &lent);
+}
+
+/// What a feed must answer and leave: refusals 1 and 2 of the lists and the roster, then the plain intake.
+fn expected(intake: &mut PlainIntake, lent: &Lent, mistake: Mistake) -> Outcome<Lent> {
+    let mut lent = lent.clone();
+    let n = intake.roster.len();
+    let lists_wrong = lent.triples.len() / 3 != lent.summary.len() / 3 || lent.map.len() != n;
+    if lent.roster.len() != n || lists_wrong {
+        return Outcome { status: plain::LENGTH, lent };
+    }
+    if lent.work.len() == 2 * n && lent.roster != intake.roster {
+        return Outcome { status: plain::ROSTER, lent };
+    }
+    let status = match intake.feed(lent.fed, lent.work.len()) {
+        Err(refusal) => refusal,
+        Ok(is_new) => {
+            let lists = [&mut lent.triples[..], &mut lent.summary[..], &mut lent.map[..]];
+            (lent.held, lent.summarised) = intake.state(mistake, lists);
+            lent.work.fill(0);
+            lent.is_new = is_new as u32;
+            plain::OK
+        }
+    };
+    Outcome { status, lent }
+}
+
+/// Feeds the proved engine.
+fn feed(l: &mut Lent) -> u32 {
+    let lent = proved::Lent {
+        roster: &l.roster,
+        triples: &mut l.triples,
+        summary: &mut l.summary,
+        map: &mut l.map,
+        work: &mut l.work,
+        held: &mut l.held,
+        summarised: &mut l.summarised,
+    };
+    proved::feed(lent, l.fed, &mut l.is_new)
+}
+
+fn compare_feed(report: &mut Report, intake: &mut PlainIntake, before: &Lent, mistake: Mistake) -> Lent {
+    let ours = run(before, feed);
+    let theirs = expected(intake, before, mistake);
+    let yes = theirs.lent.is_new == 1;
+    let left = ours.lent.clone();
+    report.compare(Call::Feed, before, ours, theirs, yes);
+    left
+}
+
+/// Makes a list's length or the roster wrong for one feed; all other lists stay as the call before left them.
+fn damage(random: &mut Random, lent: &mut Lent) {
+    let n = lent.roster.len();
+    match random.below(6) {
+        0 => lent.work.resize(other_length(random, 2 * n), 7),
+        1 => lent.map.truncate(n - 1),
+        2 => lent.triples.extend([0; 3]),
+        3 => lent.summary.extend([0; 3]),
+        4 => lent.roster[random.below(n)] = 4 + random.below(252) as u8,
+        _ => lent.roster.truncate(n - 1),
+    }
+}
+
+/// A triple to feed: from the table, wrong, or of other codes.
+fn fed(random: &mut Random, table: &[u32], n: usize) -> [u32; 3] {
+    let mut t = [0; 3];
+    if table.is_empty() || random.chance(4) {
+        let code = |random: &mut Random| 5 + random.below(n.max(6) - 5) as u32;
+        return [code(random), random.below(n + 1) as u32, code(random)];
+    }
+    let i = 3 * random.below(table.len() / 3);
+    t.copy_from_slice(&table[i..i + 3]);
+    if random.chance(6) {
+        generate::damage_triple(random, n, &mut t);
+    }
+    t
+}
+
+/// A chain of feeds from an accepted opening.
+pub fn feeds(random: &mut Random, report: &mut Report, mistake: Mistake) {
+    let n = generate::size(random).min(2_200);
+    let amount = 1 + generate::amount(random);
+    let feeds = random.below(amount + 12);
+    let slots = random.pick(&[0, 1, amount / 2, amount / 2, amount, amount, 2 * amount]);
+    chain(random, report, mistake, [n, amount, feeds, slots]);
+}
+
+/// A chain of feeds of a random table with n codes.
+pub fn chain(random: &mut Random, report: &mut Report, mistake: Mistake, [n, amount, feeds, slots]: [usize; 4]) {
+    let table = generate::table(random, n, amount);
+    let roster = generate::roster(random, n, &table);
+    let lent = junk_lists(random, &roster, slots);
+    let mut state = compare_open(report, &lent).lent;
+    let mut intake = PlainIntake::new(&roster, slots);
+    for _ in 0..feeds {
+        let mut before = state.clone();
+        before.work = random.junk(2 * n);
+        before.is_new = random.next() as u32;
+        before.fed = fed(random, &table, n);
+        if random.chance(8) {
+            damage(random, &mut before);
+            compare_feed(report, &mut intake, &before, mistake);
+            continue;
+        }
+        state = compare_feed(report, &mut intake, &before, mistake);
+    }
+}
+
+/// A feed to lists and counts altered by hand. It must end; refusals 1 to 4 hold as ever, what else it answers is open.
+pub fn altered(random: &mut Random, report: &mut Report) {
+    let site = generate::site(random);
+    let n = site.n;
+    let slots = random.below(12);
+    let mut before = junk_lists(random, &site.roster, slots);
+    before.held = random.pick(&[0, 1, slots, slots + 1, usize::MAX]);
+    before.summarised = random.pick(&[0, 1, slots, slots + 1, usize::MAX]);
+    if random.chance(60) {
+        let codes = 5 + random.below(n.max(6) - 5) as u32;
+        for list in [&mut before.triples, &mut before.summary, &mut before.map] {
+            list.iter_mut().for_each(|x| *x %= codes + 3);
+        }
+    }
+    let table = if site.table.len().is_multiple_of(3) { &site.table[..] } else { &[] };
+    before.fed = fed(random, table, n);
+    let ours = run(&before, feed);
+    let mut expected = run(&before, |l| PlainIntake::refusal(&l.roster, l.fed));
+    if expected.status == plain::OK {
+        expected = ours.clone();
+    }
+    report.compare(Call::FeedAltered, &before, ours, expected, true);
+}

@@ -1,0 +1,197 @@
+//! Random sites, valid and damaged.
+
+use crate::random::Random;
+use weak_summary_reference as plain;
+
+/// A range of codes that triples are drawn from.
+#[derive(Clone, Copy)]
+struct Pool {
+    start: u32,
+    width: usize,
+}
+
+impl Pool {
+    /// A range of free codes, often narrow, so that triples meet.
+    fn new(random: &mut Random, n: usize) -> Pool {
+        let free = n - 5;
+        let width = match random.below(4) {
+            0 => free,
+            _ => 1 + random.below(free.min(8)),
+        };
+        Pool { start: 5 + random.below(free - width + 1) as u32, width }
+    }
+
+    fn draw(self, random: &mut Random) -> u32 {
+        self.start + random.below(self.width) as u32
+    }
+}
+
+/// Of 100 triples, how many are type, subclass, subproperty, domain and range; the rest are data.
+const MIXES: [[usize; 5]; 7] = [
+    [0, 0, 0, 0, 0],
+    [10, 5, 5, 5, 5],
+    [60, 0, 0, 0, 0],
+    [30, 40, 0, 5, 5],
+    [0, 0, 40, 10, 10],
+    [20, 20, 20, 10, 10],
+    [5, 45, 45, 0, 0],
+];
+
+fn kind(random: &mut Random, mix: &[usize; 5]) -> Option<u32> {
+    let mut roll = random.below(100);
+    for (property, &share) in mix.iter().enumerate() {
+        if roll < share {
+            return Some(property as u32);
+        }
+        roll -= share;
+    }
+    None
+}
+
+/// A site size: mostly small, now and then large.
+pub fn size(random: &mut Random) -> usize {
+    match random.below(1000) {
+        0..=649 => 5 + random.below(20),
+        650..=949 => 10 + random.below(90),
+        950..=994 => 100 + random.below(2_000),
+        995..=997 => 65_536 - random.below(3),
+        _ => 5,
+    }
+}
+
+/// A number of triples: mostly few.
+pub fn amount(random: &mut Random) -> usize {
+    match random.below(100) {
+        0..=59 => random.below(12),
+        60..=94 => random.below(40),
+        _ => random.below(250),
+    }
+}
+
+/// A table with codes below n, with repeats.
+pub fn table(random: &mut Random, n: usize, amount: usize) -> Vec<u32> {
+    if n < 6 {
+        return Vec::new();
+    }
+    let [nodes, others, classes, properties] = [(); 4].map(|()| Pool::new(random, n));
+    let mix = random.pick(&MIXES);
+    let mut table: Vec<u32> = Vec::with_capacity(3 * amount);
+    while table.len() < 3 * amount {
+        if random.chance(5) && !table.is_empty() {
+            let i = 3 * random.below(table.len() / 3);
+            table.extend_from_within(i..i + 3);
+            continue;
+        }
+        let node = nodes.draw(random);
+        let class = classes.draw(random);
+        let property = properties.draw(random);
+        table.extend(match kind(random, &mix) {
+            Some(0) => [node, 0, class],
+            Some(1) => [class, 1, classes.draw(random)],
+            Some(2) => [property, 2, properties.draw(random)],
+            Some(p) => [property, p, class],
+            None => [node, property, if random.chance(50) { nodes } else { others }.draw(random)],
+        });
+    }
+    table
+}
+
+/// A wrong number where a code should be: not below n, or reserved.
+fn wrong_code(random: &mut Random, n: usize) -> u32 {
+    match random.below(4) {
+        0 => n as u32,
+        1 => u32::MAX,
+        2 => n as u32 + random.below(1000) as u32,
+        _ => random.below(5) as u32,
+    }
+}
+
+/// Puts a wrong code in a triple.
+pub fn damage_triple(random: &mut Random, n: usize, t: &mut [u32]) {
+    let place = random.below(3);
+    t[place] = match place {
+        1 => n as u32 + random.below(3) as u32,
+        _ => wrong_code(random, n),
+    };
+}
+
+/// Puts a wrong code in the table, or makes its length wrong.
+pub fn damage_table(random: &mut Random, n: usize, table: &mut Vec<u32>) {
+    if random.chance(30) || table.is_empty() {
+        let more = 1 + random.below(2);
+        table.extend(&random.junk(more));
+        return;
+    }
+    let i = 3 * random.below(table.len() / 3);
+    damage_triple(random, n, &mut table[i..i + 3]);
+}
+
+/// The own roster, sometimes with more marks.
+pub fn roster(random: &mut Random, n: usize, table: &[u32]) -> Vec<u8> {
+    let mut roster = vec![0; n];
+    plain::own_roster(table, &mut roster);
+    if random.chance(30) && n > 5 {
+        for _ in 0..1 + random.below(4) {
+            roster[5 + random.below(n - 5)] |= 1 + random.below(3) as u8;
+        }
+    }
+    roster
+}
+
+/// Damages a roster: a value over 3, a reserved code marked, a mark taken away, or another length.
+pub fn damage_roster(random: &mut Random, roster: &mut Vec<u8>) {
+    let n = roster.len();
+    match random.below(7) {
+        0 => roster[random.below(n)] = 4 + random.below(252) as u8,
+        1 => roster[random.below(5)] = 1 + random.below(255) as u8,
+        2..=5 => {
+            let marked: Vec<usize> = (0..n).filter(|&c| roster[c] != 0).collect();
+            if !marked.is_empty() {
+                roster[random.pick(&marked)] &= random.below(4) as u8;
+            }
+        }
+        _ => roster.resize(random.pick(&[0, 4, n - 1, n + 1, 65_537]), 0),
+    }
+}
+
+/// A length that is wrong where `right` is asked for, mostly by little.
+pub fn other_length(random: &mut Random, right: usize) -> usize {
+    random.pick(&[0, right.saturating_sub(1), right + 1, right / 2, 2 * right + 1])
+}
+
+/// A length for a result of `count` triples: too short, just enough, or more.
+pub fn result_length(random: &mut Random, count: usize) -> usize {
+    let enough = 3 * count;
+    match random.below(10) {
+        0 => enough.saturating_sub(1),
+        1 => enough.saturating_sub(1 + random.below(9)),
+        2 => random.below(enough + 1),
+        3..=5 => enough,
+        6 => enough + 1,
+        7 => enough + 2,
+        _ => enough + random.below(40),
+    }
+}
+
+/// A table with its roster. Some are damaged, in one place or in two.
+pub struct Site {
+    pub n: usize,
+    pub table: Vec<u32>,
+    pub roster: Vec<u8>,
+}
+
+pub fn site(random: &mut Random) -> Site {
+    let n = size(random);
+    let amount = amount(random);
+    let mut table = table(random, n, amount);
+    let mut roster = roster(random, n, &table);
+    if random.chance(25) {
+        if random.chance(60) {
+            damage_table(random, n, &mut table);
+        }
+        if random.chance(60) {
+            damage_roster(random, &mut roster);
+        }
+    }
+    Site { n: roster.len(), table, roster }
+}

@@ -1,0 +1,60 @@
+//! Compares the proved engine with the unverified one, call by call over the C interface: the answer, the numbers and every lent
+//! list after each call, on valid and damaged input, with junk in the lists before.
+
+mod asks;
+mod feeds;
+mod generate;
+mod long;
+mod random;
+mod report;
+mod tables;
+mod texts;
+
+pub use report::{Call, Report};
+pub use weak_summary_reference::Mistake;
+
+use random::Random;
+
+pub struct Options {
+    pub seed: u64,
+    /// How many cases at least.
+    pub cases: usize,
+    /// Whether the long cases run too.
+    pub long: bool,
+    /// A mistake for the unverified engine to make.
+    pub mistake: Mistake,
+    /// How many differences are printed.
+    pub shown: usize,
+}
+
+/// Cases of each call for one chain of feeds.
+const PER_CHAIN: usize = 8;
+
+/// Random cases of each call, and a chain of feeds.
+fn turn(random: &mut Random, report: &mut Report, mistake: Mistake) {
+    for _ in 0..PER_CHAIN {
+        tables::own_roster(random, report);
+        tables::saturate(random, report, mistake);
+        tables::cliques(random, report, mistake);
+        tables::summarise(random, report, mistake);
+        tables::look_up(random, report);
+        asks::ask(random, report);
+        texts::read(random, report);
+        texts::write(random, report);
+    }
+    feeds::open(random, report);
+    feeds::altered(random, report);
+    feeds::feeds(random, report, mistake);
+}
+
+pub fn run(options: &Options) -> Report {
+    let mut random = Random::new(options.seed);
+    let mut report = Report::new(options.shown);
+    while report.cases < options.cases {
+        turn(&mut random, &mut report, options.mistake);
+    }
+    if options.long {
+        long::all(&mut random, &mut report, options.mistake);
+    }
+    report
+}

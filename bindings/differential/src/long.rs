@@ -1,0 +1,98 @@
+//! Cases of full length: large tables and sites, and lengths at and just over the limits.
+
+use crate::asks;
+use crate::feeds;
+use crate::random::Random;
+use crate::report::Report;
+use crate::tables::{self, Lent};
+use weak_summary_reference::{self as plain, Mistake, MAX_SIZE, MAX_TRIPLES, QUERY_NUMBERS};
+
+/// A table of data, type and some schema triples over all codes of a site.
+fn large_table(random: &mut Random, n: usize, amount: usize) -> Vec<u32> {
+    let code = |random: &mut Random, from: usize, to: usize| (from + random.below(to - from)) as u32;
+    let (properties, classes) = (5 + n / 100 + 1, 5 + n / 50 + 2);
+    let mut table = Vec::with_capacity(3 * amount);
+    for _ in 0..amount {
+        let property = code(random, 5, properties);
+        let class = code(random, properties, classes);
+        let node = code(random, classes, n);
+        table.extend(match random.below(100) {
+            0 => [property, 2 + random.below(3) as u32, 0],
+            1..=20 => [node, 0, class],
+            _ => [node, property, code(random, classes, n)],
+        });
+        let last = table.len() - 3;
+        if table[last + 2] == 0 {
+            table[last + 2] = if table[last + 1] == 2 { code(random, 5, properties) } else { class };
+        }
+    }
+    table
+}
+
+fn lent(random: &mut Random, table: &[u32], n: usize, slots: usize) -> Lent {
+    let mut roster = vec![0; n];
+    plain::own_roster(table, &mut roster);
+    Lent {
+        table: table.to_vec(),
+        roster,
+        result: random.junk(3 * slots),
+        map: random.junk(n),
+        work: random.junk(2 * n),
+        number: 7,
+    }
+}
+
+/// The calls on one table, with result slots that fit and that do not.
+fn on_table(random: &mut Random, report: &mut Report, mistake: Mistake, n: usize, table: &[u32]) {
+    let amount = table.len() / 3;
+    tables::compare_own_roster(report, (table.to_vec(), random.junk_bytes(n)));
+    for slots in [amount, amount / 2, 40] {
+        let lent = lent(random, table, n, slots);
+        tables::compare_summarise(report, mistake, lent.clone());
+    }
+    let mut cliques = lent(random, table, n, 0);
+    cliques.result = random.junk(n);
+    tables::compare_cliques(report, mistake, cliques);
+    let t = [table[table.len() - 3], table[table.len() - 2], table[table.len() - 1]];
+    tables::compare_look_up(report, table.to_vec(), t, 9);
+    tables::compare_look_up(report, table.to_vec(), [t[2], t[1], 3], 9);
+    let mut query = vec![0; QUERY_NUMBERS];
+    query[..6].copy_from_slice(&[1, 1, t[0], t[1], 0, 3]);
+    let map = (0..n as u32).collect();
+    asks::compare_ask(report, asks::Lent { table: table.to_vec(), map, query, maybe: 9 });
+}
+
+/// Lengths at the limits and just over them.
+fn limits(random: &mut Random, report: &mut Report) {
+    for amount in [MAX_TRIPLES, MAX_TRIPLES + 1] {
+        let list = vec![5; 3 * amount];
+        tables::compare_look_up(report, list.clone(), [5, 5, 5], 9);
+        tables::compare_own_roster(report, (list, random.junk_bytes(6)));
+        feeds::open_with(random, report, 6, amount);
+    }
+    for n in [4, 5, MAX_SIZE, MAX_SIZE + 1] {
+        tables::compare_own_roster(report, (Vec::new(), random.junk_bytes(n)));
+        feeds::open_with(random, report, n, 2);
+        let empty = lent(random, &[], n, 2);
+        tables::compare_summarise(report, Mistake::None, empty.clone());
+        tables::compare_saturate(report, Mistake::None, empty);
+    }
+}
+
+pub fn all(random: &mut Random, report: &mut Report, mistake: Mistake) {
+    limits(random, report);
+    for sizes in [[60, 600, 3_000, 250], [2_000, 1_500, 2_000, 1_500], [65_536, 200, 200, 200]] {
+        feeds::chain(random, report, mistake, sizes);
+    }
+    for (n, amount) in [(300, 3_000), (4_000, 20_000), (65_536, 100_000), (65_536, MAX_TRIPLES), (2_000, MAX_TRIPLES)] {
+        let table = large_table(random, n, amount);
+        on_table(random, report, mistake, n, &table);
+    }
+    for (n, amount, slots) in [(300, 2_000, 60_000), (300, 2_000, 1_000), (2_000, 20_000, 400_000)] {
+        let table = large_table(random, n, amount);
+        let lent = lent(random, &table, n, slots);
+        if mistake != Mistake::OneRound {
+            tables::compare_saturate(report, mistake, lent);
+        }
+    }
+}

@@ -1,0 +1,121 @@
+//! Cases counted by call and outcome, and the differences found.
+
+use std::collections::BTreeMap;
+use std::fmt::Debug;
+
+#[derive(Clone, Copy, PartialEq, Eq, PartialOrd, Ord, Debug)]
+pub enum Call {
+    OwnRoster,
+    Saturate,
+    Cliques,
+    Summarise,
+    LookUp,
+    Ask,
+    Open,
+    Feed,
+    FeedAltered,
+    Read,
+    Write,
+}
+
+impl Call {
+    fn name(self) -> &'static str {
+        match self {
+            Call::OwnRoster => "own roster",
+            Call::Saturate => "saturate",
+            Call::Cliques => "cliques",
+            Call::Summarise => "summarise",
+            Call::LookUp => "look up",
+            Call::Ask => "ask",
+            Call::Open => "open",
+            Call::Feed => "feed",
+            Call::FeedAltered => "feed, altered state",
+            Call::Read => "read",
+            Call::Write => "write",
+        }
+    }
+
+    /// What the answer 1 and the answer 0 of an accepted call are called.
+    fn answers(self) -> Option<[&'static str; 2]> {
+        match self {
+            Call::LookUp => Some(["found", "not found"]),
+            Call::Ask => Some(["maybe", "none"]),
+            Call::Feed => Some(["new", "not new"]),
+            _ => None,
+        }
+    }
+}
+
+/// What an engine did with a case: its answer and everything that was lent, afterwards.
+#[derive(Clone, PartialEq, Eq, Debug)]
+pub struct Outcome<L> {
+    pub status: u32,
+    pub lent: L,
+}
+
+pub struct Report {
+    counts: BTreeMap<Call, [usize; 10]>,
+    pub cases: usize,
+    pub differences: usize,
+    shown: usize,
+}
+
+const CUT: usize = 2_000;
+
+fn cut(text: String) -> String {
+    match text.char_indices().nth(CUT) {
+        Some((end, _)) => format!("{} ... ({} bytes)", &text[..end], text.len()),
+        None => text,
+    }
+}
+
+impl Report {
+    /// A report that prints this many differences.
+    pub fn new(shown: usize) -> Report {
+        Report { counts: BTreeMap::new(), cases: 0, differences: 0, shown }
+    }
+
+    /// Counts a case and compares the outcomes. `yes` is the answer of an accepted call that has one.
+    pub fn compare<L: PartialEq + Debug>(
+        &mut self,
+        call: Call,
+        before: &L,
+        proved: Outcome<L>,
+        plain: Outcome<L>,
+        yes: bool,
+    ) {
+        self.cases += 1;
+        let column = if plain.status == 0 && !yes { 9 } else { plain.status as usize };
+        self.counts.entry(call).or_default()[column] += 1;
+        if proved == plain {
+            return;
+        }
+        self.differences += 1;
+        if self.differences <= self.shown {
+            println!("DIFFERENCE in {}, case {}", call.name(), self.cases);
+            println!("  lent:         {}", cut(format!("{before:?}")));
+            println!("  proved engine: {}", cut(format!("{proved:?}")));
+            println!("  plain engine:  {}", cut(format!("{plain:?}")));
+        }
+    }
+
+    pub fn print(&self) {
+        println!("| call | cases | accepted | 1 | 2 | 3 | 4 | 5 | 6 | 7 | 8 |");
+        println!("|---|---|---|---|---|---|---|---|---|---|---|");
+        for (call, by) in &self.counts {
+            let total: usize = by.iter().sum();
+            let accepted = match call.answers() {
+                Some([one, zero]) => format!("{one} {}, {zero} {}", by[0], by[9]),
+                None => format!("{}", by[0] + by[9]),
+            };
+            let refused: Vec<String> = by[1..9].iter().map(|k| k.to_string()).collect();
+            println!("| {} | {total} | {accepted} | {} |", call.name(), refused.join(" | "));
+        }
+        println!("{} cases, {} differences", self.cases, self.differences);
+    }
+
+    /// Whether a call has a case of this status.
+    pub fn has(&self, call: Call, status: usize) -> bool {
+        self.counts.get(&call).is_some_and(|by| by[status] > 0)
+    }
+}

@@ -1,0 +1,153 @@
+//! Own roster, saturate, cliques, summarise and look up.
+
+use crate::generate::{self, other_length, result_length, site};
+use crate::random::Random;
+use crate::report::{Call, Outcome, Report};
+use weak_summary::calls as proved;
+use weak_summary_reference::{self as plain, Mistake};
+
+/// Everything lent to a call, inputs too.
+#[derive(Clone, PartialEq, Eq, Debug)]
+pub struct Lent {
+    pub table: Vec<u32>,
+    pub roster: Vec<u8>,
+    pub result: Vec<u32>,
+    pub map: Vec<u32>,
+    pub work: Vec<u32>,
+    pub number: usize,
+}
+
+/// Runs a call on its own copy of what is lent.
+pub fn run<L: Clone>(before: &L, call: impl FnOnce(&mut L) -> u32) -> Outcome<L> {
+    let mut lent = before.clone();
+    let status = call(&mut lent);
+    Outcome { status, lent }
+}
+
+/// A length that is now and then not the right one.
+fn near(random: &mut Random, right: usize) -> usize {
+    if random.chance(4) {
+        other_length(random, right)
+    } else {
+        right
+    }
+}
+
+pub fn own_roster(random: &mut Random, report: &mut Report) {
+    let site = site(random);
+    let roster = random.junk_bytes(site.n);
+    compare_own_roster(report, (site.table, roster));
+}
+
+pub fn compare_own_roster(report: &mut Report, before: (Vec<u32>, Vec<u8>)) {
+    let ours = run(&before, |l| proved::own_roster(&l.0, &mut l.1));
+    let theirs = run(&before, |l| plain::own_roster(&l.0, &mut l.1));
+    report.compare(Call::OwnRoster, &before, ours, theirs, true);
+}
+
+/// The number of triples of the saturation or summary, or 3 where there is none.
+fn triples_of(status: u32, count: usize) -> usize {
+    if status == 0 {
+        count
+    } else {
+        3
+    }
+}
+
+pub fn saturate(random: &mut Random, report: &mut Report, mistake: Mistake) {
+    let site = site(random);
+    let mut count = 0;
+    let status = plain::saturate(&site.table, &site.roster, &mut vec![0; 3 * 3_000], &mut count);
+    let length = result_length(random, triples_of(status, count));
+    let before = Lent {
+        table: site.table,
+        roster: site.roster,
+        result: random.junk(length),
+        map: Vec::new(),
+        work: Vec::new(),
+        number: random.below(1 << 40),
+    };
+    compare_saturate(report, mistake, before);
+}
+
+pub fn compare_saturate(report: &mut Report, mistake: Mistake, before: Lent) {
+    let ours = run(&before, |l| proved::saturate(&l.table, &l.roster, &mut l.result, &mut l.number));
+    let theirs = run(&before, |l| plain::saturate_with(mistake, &l.table, &l.roster, &mut l.result, &mut l.number));
+    report.compare(Call::Saturate, &before, ours, theirs, true);
+}
+
+pub fn cliques(random: &mut Random, report: &mut Report, mistake: Mistake) {
+    let site = site(random);
+    let lengths = [near(random, site.n), near(random, site.n)];
+    let before = Lent {
+        table: site.table,
+        roster: site.roster,
+        result: random.junk(lengths[0]),
+        map: random.junk(lengths[1]),
+        work: Vec::new(),
+        number: 0,
+    };
+    compare_cliques(report, mistake, before);
+}
+
+pub fn compare_cliques(report: &mut Report, mistake: Mistake, before: Lent) {
+    let ours = run(&before, |l| proved::cliques(&l.table, &l.roster, &mut l.result, &mut l.map));
+    let theirs = run(&before, |l| plain::cliques_with(mistake, &l.table, &l.roster, &mut l.result, &mut l.map));
+    report.compare(Call::Cliques, &before, ours, theirs, true);
+}
+
+/// The number of triples of the plain summary.
+fn summary_size(site: &generate::Site) -> usize {
+    let mut count = 0;
+    let mut result = vec![0; site.table.len()];
+    let (mut map, mut work) = (vec![0; site.n], vec![0; 2 * site.n]);
+    let status = plain::summarise(&site.table, &site.roster, &mut result, &mut map, &mut work, &mut count);
+    triples_of(status, count)
+}
+
+pub fn summarise(random: &mut Random, report: &mut Report, mistake: Mistake) {
+    let site = site(random);
+    let length = result_length(random, summary_size(&site));
+    let lengths = [near(random, site.n), near(random, 2 * site.n)];
+    let before = Lent {
+        table: site.table,
+        roster: site.roster,
+        result: random.junk(length),
+        map: random.junk(lengths[0]),
+        work: random.junk(lengths[1]),
+        number: random.below(1 << 40),
+    };
+    compare_summarise(report, mistake, before);
+}
+
+pub fn compare_summarise(report: &mut Report, mistake: Mistake, before: Lent) {
+    let ours =
+        run(&before, |l| proved::summarise(&l.table, &l.roster, &mut l.result, &mut l.map, &mut l.work, &mut l.number));
+    let theirs = run(&before, |l| {
+        let lists = (&mut l.result, &mut l.map, &mut l.work);
+        plain::summarise_with(mistake, &l.table, &l.roster, lists.0, lists.1, lists.2, &mut l.number)
+    });
+    report.compare(Call::Summarise, &before, ours, theirs, true);
+}
+
+pub fn look_up(random: &mut Random, report: &mut Report) {
+    let mut list = site(random).table;
+    if random.chance(20) {
+        list.iter_mut().for_each(|x| *x = x.wrapping_mul(0x0100_0001));
+    }
+    let mut t = [random.next() as u32, random.below(9) as u32, 5 + random.below(20) as u32];
+    if random.chance(80) && list.len() >= 3 {
+        // Sometimes a run across two triples, which is none.
+        let i = if random.chance(60) { 3 * random.below(list.len() / 3) } else { random.below(list.len() - 2) };
+        t.copy_from_slice(&list[i..i + 3]);
+    }
+    compare_look_up(report, list, t, random.next() as u32);
+}
+
+pub fn compare_look_up(report: &mut Report, list: Vec<u32>, t: [u32; 3], found: u32) {
+    let before = (list, t, found);
+    let ours = run(&before, |l| proved::look_up(&l.0, t[0], t[1], t[2], &mut l.2));
+    let theirs = run(&before, |l| plain::look_up(&l.0, t[0], t[1], t[2], &mut l.2));
+    let yes = theirs.lent.2 == 1;
+    report.compare(Call::LookUp, &before, ours, theirs, yes);
+}

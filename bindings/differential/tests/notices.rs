@@ -1,0 +1,37 @@
+//! That right engines agree, and that each course mistake of the scope paper is noticed.
+
+use weak_summary_differential::{run, Call, Mistake, Options};
+
+fn options(mistake: Mistake, shown: usize) -> Options {
+    Options { seed: 7, cases: 20_000, long: false, mistake, shown }
+}
+
+#[test]
+fn engines_agree_and_every_refusal_occurs() {
+    let report = run(&options(Mistake::None, 20));
+    assert_eq!(report.differences, 0);
+    let refusals: [(Call, &[usize]); 10] = [
+        (Call::OwnRoster, &[1, 3]),
+        (Call::Saturate, &[1, 2, 3, 4, 5]),
+        (Call::Cliques, &[1, 2, 3, 4]),
+        (Call::Summarise, &[1, 2, 3, 4, 5]),
+        (Call::LookUp, &[1]),
+        (Call::Ask, &[1, 3, 6]),
+        (Call::Open, &[1, 2]),
+        (Call::Feed, &[1, 2, 3, 4, 7]),
+        (Call::Read, &[1, 5, 8]),
+        (Call::Write, &[1, 3, 5]),
+    ];
+    for (call, all) in refusals {
+        for status in 0..=8 {
+            assert_eq!(report.has(call, status), status == 0 || all.contains(&status), "{call:?} {status}");
+        }
+    }
+}
+
+#[test]
+fn each_mistake_is_noticed() {
+    for mistake in Mistake::ALL {
+        assert!(run(&options(mistake, 0)).differences > 0, "{}", mistake.name());
+    }
+}

@@ -1,0 +1,294 @@
+//! The intake: the plain one of the scope paper, and a faster one for the benchmark.
+
+use crate::triples::{pack, unpack, Packed};
+use crate::weak::{images, put_map};
+use crate::{checks, Mistake, ABSENT, CODE, COVER, FIRST_FREE, FULL, LENGTH, MAX_TRIPLES, OK, ROSTER};
+use std::collections::BTreeSet;
+
+/// What a feed answers: whether the triple was new, or the number of the refusal.
+pub type Fed = Result<bool, u32>;
+
+pub fn open(
+    roster: &[u8],
+    triples: &mut [u32],
+    summary: &mut [u32],
+    map: &mut [u32],
+    held: &mut usize,
+    summarised: &mut usize,
+) -> u32 {
+    let slots = triples.len() / 3;
+    let lists_wrong = summary.len() / 3 != slots || slots > MAX_TRIPLES || map.len() != roster.len();
+    if checks::size_wrong(roster.len()) || lists_wrong {
+        return LENGTH;
+    }
+    if checks::roster_wrong(roster) {
+        return ROSTER;
+    }
+    triples.fill(0);
+    summary.fill(0);
+    map.fill(ABSENT);
+    (*held, *summarised) = (0, 0);
+    OK
+}
+
+/// The refusals 3 and 4 of a fed triple.
+fn triple_refusal(t: [u32; 3], roster: &[u8]) -> u32 {
+    if checks::codes_wrong(&t, roster.len()) {
+        return CODE;
+    }
+    if !checks::covered(&t, roster) {
+        return COVER;
+    }
+    OK
+}
+
+/// The plain intake of the scope paper: a set of triples, empty at opening.
+pub struct PlainIntake {
+    pub roster: Vec<u8>,
+    pub slots: usize,
+    pub held: BTreeSet<Packed>,
+}
+
+impl PlainIntake {
+    pub fn new(roster: &[u8], slots: usize) -> PlainIntake {
+        PlainIntake { roster: roster.to_vec(), slots, held: BTreeSet::new() }
+    }
+
+    /// The refusals 1 to 4 of a feed with this roster and lists of right lengths.
+    pub fn refusal(roster: &[u8], t: [u32; 3]) -> u32 {
+        if checks::size_wrong(roster.len()) {
+            return LENGTH;
+        }
+        if checks::roster_wrong(roster) {
+            return ROSTER;
+        }
+        triple_refusal(t, roster)
+    }
+
+    pub fn feed(&mut self, t: [u32; 3], work_length: usize) -> Fed {
+        if work_length != 2 * self.roster.len() {
+            return Err(LENGTH);
+        }
+        let refusal = triple_refusal(t, &self.roster);
+        if refusal != OK {
+            return Err(refusal);
+        }
+        if self.held.contains(&pack(&t)) {
+            return Ok(false);
+        }
+        if self.held.len() == self.slots {
+            return Err(FULL);
+        }
+        self.held.insert(pack(&t));
+        Ok(true)
+    }
+
+    /// The triples held, in rising order.
+    pub fn table(&self) -> Vec<u32> {
+        self.held.iter().flat_map(|&t| unpack(t)).collect()
+    }
+
+    /// The lists and counts that the feeds so far must have left.
+    pub fn state(&self, mistake: Mistake, lists: [&mut [u32]; 3]) -> (usize, usize) {
+        let [triples, summary, map] = lists;
+        let table = self.table();
+        put_map(mistake, &table, &self.roster, map);
+        let mut found: Vec<Packed> = images(&table, map).into_iter().collect();
+        found.sort_unstable();
+        let count = found.len();
+        let flat: Vec<u32> = found.into_iter().flat_map(unpack).collect();
+        for (list, part) in [(triples, &table), (summary, &flat)] {
+            list.fill(0);
+            list[..part.len()].copy_from_slice(part);
+        }
+        (self.held.len(), count)
+    }
+}
+
+/// An intake over flat sorted lists that notes what it needs to keep the map, and makes it and the summary anew only when the
+/// class of a node that it knows changes.
+#[derive(Clone)]
+pub struct FastIntake {
+    pub roster: Vec<u8>,
+    pub triples: Vec<u32>,
+    pub summary: Vec<u32>,
+    pub map: Vec<u32>,
+    pub held: usize,
+    pub summarised: usize,
+    /// Some data node that is subject, and some that is object, of each property.
+    subject_of: Vec<u32>,
+    object_of: Vec<u32>,
+    has_data: Vec<bool>,
+    /// The representative of the nodes without any clique.
+    bare: u32,
+}
+
+impl FastIntake {
+    pub fn new(roster: &[u8], slots: usize) -> FastIntake {
+        let n = roster.len();
+        FastIntake {
+            roster: roster.to_vec(),
+            triples: vec![0; 3 * slots],
+            summary: vec![0; 3 * slots],
+            map: vec![ABSENT; n],
+            held: 0,
+            summarised: 0,
+            subject_of: vec![ABSENT; n],
+            object_of: vec![ABSENT; n],
+            has_data: vec![false; n],
+            bare: ABSENT,
+        }
+    }
+
+    /// As feeding the triples of the table would leave it.
+    pub fn holding(roster: &[u8], slots: usize, table: &[u32]) -> FastIntake {
+        let mut intake = FastIntake::new(roster, slots);
+        let mut held: Vec<Packed> = table.chunks_exact(3).map(pack).collect();
+        held.sort_unstable();
+        held.dedup();
+        intake.held = held.len();
+        for (i, t) in held.into_iter().map(unpack).enumerate() {
+            intake.triples[3 * i..3 * i + 3].copy_from_slice(&t);
+            intake.note_ends(t);
+        }
+        intake.summarise_anew();
+        intake
+    }
+
+    fn is_marked(&self, node: u32) -> bool {
+        self.roster[node as usize] != 0
+    }
+
+    /// The representative of a data node as an end of a property of which `first` is such an end; none if a class changes.
+    fn with_data(&self, node: u32, first: u32) -> Option<u32> {
+        let own = self.map[node as usize];
+        let is_new = own == ABSENT;
+        if first == ABSENT {
+            let alone = if is_new { node } else { own };
+            return (is_new || self.has_data[node as usize]).then_some(alone);
+        }
+        let joined = self.map[first as usize];
+        (own == joined || (is_new && joined < node)).then_some(joined)
+    }
+
+    /// The representative of a data node as subject of a type triple; none if a class changes.
+    fn with_type(&mut self, node: u32) -> Option<u32> {
+        let own = self.map[node as usize];
+        if own != ABSENT {
+            return Some(own);
+        }
+        if self.bare == ABSENT {
+            self.bare = node;
+        }
+        (self.bare <= node).then_some(self.bare)
+    }
+
+    /// Puts the representatives of the ends of a new triple; none if the map is to be made anew.
+    fn put_ends(&mut self, t: [u32; 3]) -> Option<()> {
+        let [s, p, o] = t;
+        let is_data = p >= FIRST_FREE;
+        self.map[s as usize] = match self.is_marked(s) {
+            true => s,
+            false if is_data => self.with_data(s, self.subject_of[p as usize])?,
+            false => self.with_type(s)?,
+        };
+        if is_data && !self.is_marked(s) {
+            self.has_data[s as usize] = true;
+        }
+        self.map[o as usize] = match self.is_marked(o) {
+            true => o,
+            false => self.with_data(o, self.object_of[p as usize])?,
+        };
+        Some(())
+    }
+
+    fn note_ends(&mut self, t: [u32; 3]) {
+        let [s, p, o] = t;
+        if p >= FIRST_FREE {
+            for (node, place) in [(s, &mut self.subject_of), (o, &mut self.object_of)] {
+                if self.roster[node as usize] == 0 {
+                    place[p as usize] = node;
+                    self.has_data[node as usize] = true;
+                }
+            }
+        }
+    }
+
+    fn summarise_anew(&mut self) {
+        let table = &self.triples[..3 * self.held];
+        put_map(Mistake::None, table, &self.roster, &mut self.map);
+        let mut found: Vec<Packed> = images(table, &self.map).into_iter().collect();
+        found.sort_unstable();
+        self.summarised = found.len();
+        for (slot, t) in self.summary.chunks_exact_mut(3).zip(found) {
+            slot.copy_from_slice(&unpack(t));
+        }
+        self.summary[3 * self.summarised..].fill(0);
+        let is_bare = |&c: &usize| self.map[c] != ABSENT && self.roster[c] == 0 && !self.has_data[c];
+        self.bare = (0..self.map.len()).find(is_bare).map_or(ABSENT, |c| c as u32);
+    }
+}
+
+/// The place of the triple among the first `count`, and whether it stands there.
+fn place(list: &[u32], count: usize, t: [u32; 3]) -> Result<usize, usize> {
+    let (slots, _) = list[..3 * count].as_chunks::<3>();
+    slots.binary_search(&t)
+}
+
+fn insert(list: &mut [u32], count: usize, i: usize, t: [u32; 3]) {
+    list.copy_within(3 * i..3 * count, 3 * i + 3);
+    list[3 * i..3 * i + 3].copy_from_slice(&t);
+}
+
+/// Takes in a triple as both ways of feeding do: its checks, and its place in the list if it is new.
+fn take_in(intake: &mut FastIntake, t: [u32; 3]) -> Fed {
+    if checks::roster_wrong(&intake.roster) {
+        return Err(ROSTER);
+    }
+    let refusal = triple_refusal(t, &intake.roster);
+    if refusal != OK {
+        return Err(refusal);
+    }
+    let Err(i) = place(&intake.triples, intake.held, t) else {
+        return Ok(false);
+    };
+    if intake.held == intake.triples.len() / 3 {
+        return Err(FULL);
+    }
+    insert(&mut intake.triples, intake.held, i, t);
+    intake.held += 1;
+    Ok(true)
+}
+
+/// Feeds with the notes.
+pub fn feed_fast(intake: &mut FastIntake, t: [u32; 3]) -> Fed {
+    let answer = take_in(intake, t);
+    if answer != Ok(true) {
+        return answer;
+    }
+    let kept = intake.put_ends(t);
+    intake.note_ends(t);
+    if kept.is_none() {
+        intake.summarise_anew();
+        return answer;
+    }
+    let image = [intake.map[t[0] as usize], t[1], intake.map[t[2] as usize]];
+    if let Err(j) = place(&intake.summary, intake.summarised, image) {
+        insert(&mut intake.summary, intake.summarised, j, image);
+        intake.summarised += 1;
+    }
+    answer
+}
+
+/// Feeds without the notes: where the image is not in the summary already, map and summary are made anew.
+pub fn feed_lists_only(intake: &mut FastIntake, t: [u32; 3]) -> Fed {
+    let answer = take_in(intake, t);
+    if answer != Ok(true) {
+        return answer;
+    }
+    let image = [intake.map[t[0] as usize], t[1], intake.map[t[2] as usize]];
+    if place(&intake.summary, intake.summarised, image).is_err() {
+        intake.summarise_anew();
+    }
+    answer
+}

@@ -1,0 +1,37 @@
+//! The five course mistakes of the scope paper, to show that a comparison with a wrong engine is noticed.
+
+#[derive(Clone, Copy, PartialEq, Eq, Debug)]
+pub enum Mistake {
+    /// No mistake.
+    None,
+    /// Saturation stops after one round.
+    OneRound,
+    /// A node fed first with a type triple stays in the typed-only class.
+    TypedOnlyStays,
+    /// Marked nodes link properties.
+    ClassLinks,
+    /// Data nodes without a source clique are equal.
+    NoSourceEqual,
+    /// The representative is the code seen first.
+    FirstSeen,
+}
+
+impl Mistake {
+    pub const ALL: [Mistake; 5] =
+        [Mistake::OneRound, Mistake::TypedOnlyStays, Mistake::ClassLinks, Mistake::NoSourceEqual, Mistake::FirstSeen];
+
+    pub fn name(self) -> &'static str {
+        match self {
+            Mistake::None => "none",
+            Mistake::OneRound => "one-round",
+            Mistake::TypedOnlyStays => "typed-only-stays",
+            Mistake::ClassLinks => "class-links",
+            Mistake::NoSourceEqual => "no-source-equal",
+            Mistake::FirstSeen => "first-seen",
+        }
+    }
+
+    pub fn named(name: &str) -> Option<Mistake> {
+        Mistake::ALL.into_iter().find(|m| m.name() == name)
+    }
+}

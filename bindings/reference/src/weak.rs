@@ -1,0 +1,227 @@
+//! Cliques, representatives and the summary, by a textbook union-find.
+
+use crate::triples::{pack, put_sorted, PackedSet};
+use crate::{checks, Mistake, ABSENT, FIRST_FREE, LENGTH, OK, SLOTS, TYPE};
+
+struct UnionFind(Vec<u32>);
+
+impl UnionFind {
+    fn new(n: usize) -> UnionFind {
+        UnionFind((0..n as u32).collect())
+    }
+
+    /// The root, with path halving.
+    fn find(&mut self, mut x: u32) -> u32 {
+        while self.0[x as usize] != x {
+            let parent = self.0[x as usize];
+            self.0[x as usize] = self.0[parent as usize];
+            x = parent;
+        }
+        x
+    }
+
+    /// Joins two sets; the smaller root stays.
+    fn union(&mut self, a: u32, b: u32) {
+        let (a, b) = (self.find(a), self.find(b));
+        self.0[a.max(b) as usize] = a.min(b);
+    }
+
+    /// Joins x with the member noted in `first`, or notes x there.
+    fn join_first(&mut self, first: &mut u32, x: u32) {
+        if *first == ABSENT {
+            *first = x;
+        } else {
+            self.union(*first, x);
+        }
+    }
+}
+
+/// The cliques of one side: place 0 of a triple gives source cliques, place 2 target cliques.
+fn put_cliques(mistake: Mistake, table: &[u32], roster: &[u8], place: usize, out: &mut [u32]) {
+    let n = roster.len();
+    let mut sets = UnionFind::new(n);
+    let mut first = vec![ABSENT; n];
+    let mut has_clique = vec![false; n];
+    for t in table.chunks_exact(3).filter(|t| t[1] >= FIRST_FREE) {
+        let node = t[place] as usize;
+        if roster[node] == 0 || mistake == Mistake::ClassLinks {
+            sets.join_first(&mut first[node], t[1]);
+            has_clique[t[1] as usize] = true;
+        }
+    }
+    for p in 0..n {
+        out[p] = if has_clique[p] { sets.find(p as u32) } else { ABSENT };
+    }
+}
+
+pub fn cliques(table: &[u32], roster: &[u8], sources: &mut [u32], targets: &mut [u32]) -> u32 {
+    cliques_with(Mistake::None, table, roster, sources, targets)
+}
+
+pub fn cliques_with(mistake: Mistake, table: &[u32], roster: &[u8], sources: &mut [u32], targets: &mut [u32]) -> u32 {
+    let n = roster.len();
+    if checks::lengths_refusal(table, roster) != OK || sources.len() != n || targets.len() != n {
+        return LENGTH;
+    }
+    let refusal = checks::table_refusal(table, roster);
+    if refusal != OK {
+        return refusal;
+    }
+    put_cliques(mistake, table, roster, 0, sources);
+    put_cliques(mistake, table, roster, 2, targets);
+    OK
+}
+
+/// What one pass over the table tells of its nodes.
+pub struct Nodes {
+    sets: UnionFind,
+    /// In the order in which they are first seen.
+    seen: Vec<u32>,
+    is_node: Vec<bool>,
+    is_subject: Vec<bool>,
+    is_object: Vec<bool>,
+    stays_typed: Vec<bool>,
+}
+
+impl Nodes {
+    fn new(n: usize) -> Nodes {
+        Nodes {
+            sets: UnionFind::new(n),
+            seen: Vec::new(),
+            is_node: vec![false; n],
+            is_subject: vec![false; n],
+            is_object: vec![false; n],
+            stays_typed: vec![false; n],
+        }
+    }
+
+    fn see(&mut self, code: u32) {
+        if !self.is_node[code as usize] {
+            self.is_node[code as usize] = true;
+            self.seen.push(code);
+        }
+    }
+
+    fn has_data(&self, code: u32) -> bool {
+        self.is_subject[code as usize] || self.is_object[code as usize]
+    }
+
+    /// Whether a data node joins those without any clique.
+    fn is_bare(&self, mistake: Mistake, code: u32) -> bool {
+        match mistake {
+            Mistake::NoSourceEqual => !self.is_subject[code as usize],
+            Mistake::TypedOnlyStays => !self.has_data(code) || self.stays_typed[code as usize],
+            _ => !self.has_data(code),
+        }
+    }
+}
+
+/// Joins the subjects of each property and its objects, as far as they are data nodes.
+fn join_nodes(mistake: Mistake, table: &[u32], roster: &[u8]) -> Nodes {
+    let n = roster.len();
+    let mut nodes = Nodes::new(n);
+    let mut subject_of = vec![ABSENT; n];
+    let mut object_of = vec![ABSENT; n];
+    let links = |code: u32| roster[code as usize] == 0 || mistake == Mistake::ClassLinks;
+    for t in table.chunks_exact(3) {
+        let (s, p, o) = (t[0], t[1] as usize, t[2]);
+        nodes.see(s);
+        nodes.see(o);
+        if p == TYPE as usize && mistake == Mistake::TypedOnlyStays && !nodes.has_data(s) {
+            nodes.stays_typed[s as usize] = true;
+        }
+        if p < FIRST_FREE as usize {
+            continue;
+        }
+        if links(s) && !nodes.stays_typed[s as usize] {
+            nodes.is_subject[s as usize] = true;
+            nodes.sets.join_first(&mut subject_of[p], s);
+        }
+        if links(o) && !nodes.stays_typed[o as usize] {
+            nodes.is_object[o as usize] = true;
+            nodes.sets.join_first(&mut object_of[p], o);
+        }
+    }
+    nodes
+}
+
+/// Joins the data nodes without any clique.
+fn join_bare(mistake: Mistake, nodes: &mut Nodes, roster: &[u8]) {
+    let mut first = ABSENT;
+    for i in 0..nodes.seen.len() {
+        let code = nodes.seen[i];
+        if roster[code as usize] == 0 && nodes.is_bare(mistake, code) {
+            nodes.sets.join_first(&mut first, code);
+        }
+    }
+}
+
+/// Puts each node's representative, absent for a code that is no node.
+pub fn put_map(mistake: Mistake, table: &[u32], roster: &[u8], map: &mut [u32]) {
+    let mut nodes = join_nodes(mistake, table, roster);
+    join_bare(mistake, &mut nodes, roster);
+    map.fill(ABSENT);
+    if mistake != Mistake::FirstSeen {
+        nodes.seen.sort_unstable();
+    }
+    let mut chosen = vec![ABSENT; roster.len()];
+    for &code in &nodes.seen {
+        let c = code as usize;
+        if roster[c] != 0 {
+            map[c] = code;
+            continue;
+        }
+        let root = nodes.sets.find(code) as usize;
+        if chosen[root] == ABSENT {
+            chosen[root] = code;
+        }
+        map[c] = chosen[root];
+    }
+}
+
+/// The images of the triples under the map.
+pub fn images(table: &[u32], map: &[u32]) -> PackedSet {
+    let image = |t: &[u32]| pack(&[map[t[0] as usize], t[1], map[t[2] as usize]]);
+    table.chunks_exact(3).map(image).collect()
+}
+
+pub fn summarise(
+    table: &[u32],
+    roster: &[u8],
+    result: &mut [u32],
+    map: &mut [u32],
+    work: &mut [u32],
+    count: &mut usize,
+) -> u32 {
+    summarise_with(Mistake::None, table, roster, result, map, work, count)
+}
+
+pub fn summarise_with(
+    mistake: Mistake,
+    table: &[u32],
+    roster: &[u8],
+    result: &mut [u32],
+    map: &mut [u32],
+    work: &mut [u32],
+    count: &mut usize,
+) -> u32 {
+    let n = roster.len();
+    if checks::lengths_refusal(table, roster) != OK || map.len() != n || work.len() != 2 * n {
+        return LENGTH;
+    }
+    let refusal = checks::table_refusal(table, roster);
+    if refusal != OK {
+        return refusal;
+    }
+    put_map(mistake, table, roster, map);
+    work.fill(0);
+    let found = images(table, map);
+    if found.len() > result.len() / 3 {
+        result.fill(0);
+        map.fill(0);
+        return SLOTS;
+    }
+    *count = found.len();
+    put_sorted(found.into_iter().collect(), result);
+    OK
+}

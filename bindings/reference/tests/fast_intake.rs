@@ -1,0 +1,59 @@
+//! That the benchmark's intake, fed in both ways, answers and holds what the plain intake does.
+
+use weak_summary_reference::{feed_fast, feed_lists_only, own_roster, FastIntake, Mistake, PlainIntake};
+
+/// The next number of a linear congruential generator.
+fn next(state: &mut u64, bound: u64) -> u32 {
+    *state = state.wrapping_mul(6_364_136_223_846_793_005).wrapping_add(1_442_695_040_888_963_407);
+    ((*state >> 33) % bound) as u32
+}
+
+fn random_table(state: &mut u64, n: u64) -> Vec<u32> {
+    let mut table = Vec::new();
+    for _ in 0..1 + next(state, 40) {
+        let [a, b, c] = [(); 3].map(|()| 5 + next(state, n - 5));
+        let small = 5 + next(state, 4);
+        table.extend(match next(state, 6) {
+            0 => [a, 0, small],
+            1 => [small, 1 + next(state, 4), 5 + next(state, 4)],
+            2 => [a, small, a],
+            3 => [small, small, b],
+            _ => [a, 5 + c % 4, b],
+        });
+    }
+    table
+}
+
+fn compare(plain: &PlainIntake, fast: &FastIntake) {
+    let [mut triples, mut summary] = [(); 2].map(|()| vec![0; 3 * plain.slots]);
+    let mut map = vec![0; plain.roster.len()];
+    let counts = plain.state(Mistake::None, [&mut triples, &mut summary, &mut map]);
+    assert_eq!(counts, (fast.held, fast.summarised));
+    assert_eq!(triples, fast.triples);
+    assert_eq!(map, fast.map);
+    assert_eq!(summary, fast.summary);
+}
+
+#[test]
+fn fast_intake_is_the_plain_one() {
+    let mut state = 1;
+    for _ in 0..3_000 {
+        let n = 12 + next(&mut state, 20) as u64;
+        let table = random_table(&mut state, n);
+        let mut roster = vec![0; n as usize];
+        assert_eq!(own_roster(&table, &mut roster), 0);
+        let slots = table.len() / 3;
+        let mut plain = PlainIntake::new(&roster, slots);
+        let mut fast = FastIntake::new(&roster, slots);
+        let mut lists_only = FastIntake::new(&roster, slots);
+        for t in table.chunks_exact(3) {
+            let t = [t[0], t[1], t[2]];
+            let answer = plain.feed(t, 2 * n as usize);
+            assert_eq!(answer, feed_fast(&mut fast, t));
+            assert_eq!(answer, feed_lists_only(&mut lists_only, t));
+            compare(&plain, &fast);
+            compare(&plain, &lists_only);
+        }
+        compare(&plain, &FastIntake::holding(&roster, slots, &table));
+    }
+}

@@ -1,0 +1,166 @@
+//! The calls as the C interface has them: slices and numbers lent, a status returned, which is 0 or the number of the refusal.
+//!
+//! Each is safe: the engine takes slices of every length and content, and exclusive borrows cannot overlap.
+
+use crate::ffi;
+
+pub fn own_roster(table: &[u32], roster: &mut [u8]) -> u32 {
+    // SAFETY: each pointer comes with the length of its slice.
+    unsafe { ffi::ws_own_roster(table.as_ptr(), table.len(), roster.as_mut_ptr(), roster.len()) }
+}
+
+pub fn saturate(table: &[u32], roster: &[u8], result: &mut [u32], count: &mut usize) -> u32 {
+    // SAFETY: each pointer comes with the length of its slice, or is a reference.
+    unsafe {
+        ffi::ws_saturate(
+            table.as_ptr(),
+            table.len(),
+            roster.as_ptr(),
+            roster.len(),
+            result.as_mut_ptr(),
+            result.len(),
+            count,
+        )
+    }
+}
+
+pub fn cliques(table: &[u32], roster: &[u8], sources: &mut [u32], targets: &mut [u32]) -> u32 {
+    // SAFETY: each pointer comes with the length of its slice.
+    unsafe {
+        ffi::ws_cliques(
+            table.as_ptr(),
+            table.len(),
+            roster.as_ptr(),
+            roster.len(),
+            sources.as_mut_ptr(),
+            sources.len(),
+            targets.as_mut_ptr(),
+            targets.len(),
+        )
+    }
+}
+
+pub fn summarise(
+    table: &[u32],
+    roster: &[u8],
+    result: &mut [u32],
+    map: &mut [u32],
+    work: &mut [u32],
+    count: &mut usize,
+) -> u32 {
+    // SAFETY: each pointer comes with the length of its slice, or is a reference.
+    unsafe {
+        ffi::ws_summarise(
+            table.as_ptr(),
+            table.len(),
+            roster.as_ptr(),
+            roster.len(),
+            result.as_mut_ptr(),
+            result.len(),
+            map.as_mut_ptr(),
+            map.len(),
+            work.as_mut_ptr(),
+            work.len(),
+            count,
+        )
+    }
+}
+
+pub fn look_up(list: &[u32], s: u32, p: u32, o: u32, found: &mut u32) -> u32 {
+    // SAFETY: the pointer comes with the length of its slice, or is a reference.
+    unsafe { ffi::ws_look_up(list.as_ptr(), list.len(), s, p, o, found) }
+}
+
+pub fn ask(table: &[u32], map: &[u32], query: &[u32], maybe: &mut u32) -> u32 {
+    // SAFETY: each pointer comes with the length of its slice, or is a reference.
+    unsafe { ffi::ws_ask(table.as_ptr(), table.len(), map.as_ptr(), map.len(), query.as_ptr(), query.len(), maybe) }
+}
+
+pub fn open(
+    roster: &[u8],
+    triples: &mut [u32],
+    summary: &mut [u32],
+    map: &mut [u32],
+    held: &mut usize,
+    summarised: &mut usize,
+) -> u32 {
+    // SAFETY: each pointer comes with the length of its slice, or is a reference.
+    unsafe {
+        ffi::ws_open(
+            roster.as_ptr(),
+            roster.len(),
+            triples.as_mut_ptr(),
+            triples.len(),
+            summary.as_mut_ptr(),
+            summary.len(),
+            map.as_mut_ptr(),
+            map.len(),
+            held,
+            summarised,
+        )
+    }
+}
+
+/// What a feed borrows besides its triple.
+pub struct Lent<'a> {
+    pub roster: &'a [u8],
+    pub triples: &'a mut [u32],
+    pub summary: &'a mut [u32],
+    pub map: &'a mut [u32],
+    pub work: &'a mut [u32],
+    pub held: &'a mut usize,
+    pub summarised: &'a mut usize,
+}
+
+pub fn feed(lent: Lent, t: [u32; 3], is_new: &mut u32) -> u32 {
+    // SAFETY: each pointer comes with the length of its slice, or is a reference.
+    unsafe {
+        ffi::ws_feed(
+            lent.roster.as_ptr(),
+            lent.roster.len(),
+            lent.triples.as_mut_ptr(),
+            lent.triples.len(),
+            lent.summary.as_mut_ptr(),
+            lent.summary.len(),
+            lent.map.as_mut_ptr(),
+            lent.map.len(),
+            lent.work.as_mut_ptr(),
+            lent.work.len(),
+            t[0],
+            t[1],
+            t[2],
+            lent.held,
+            lent.summarised,
+            is_new,
+        )
+    }
+}
+
+pub fn write(n: u32, table: &[u32], out: &mut [u8], count: &mut usize) -> u32 {
+    // SAFETY: each pointer comes with the length of its slice, or is a reference.
+    unsafe { ffi::ws_write(n, table.as_ptr(), table.len(), out.as_mut_ptr(), out.len(), count) }
+}
+
+pub fn read(
+    text: &[u8],
+    list: &mut [u32],
+    queries: &mut [u32],
+    n: &mut u32,
+    count: &mut usize,
+    asks: &mut usize,
+) -> u32 {
+    // SAFETY: each pointer comes with the length of its slice, or is a reference.
+    unsafe {
+        ffi::ws_read(
+            text.as_ptr(),
+            text.len(),
+            list.as_mut_ptr(),
+            list.len(),
+            queries.as_mut_ptr(),
+            queries.len(),
+            n,
+            count,
+            asks,
+        )
+    }
+}

@@ -1,0 +1,65 @@
+//! Why a call was refused.
+
+use std::fmt;
+
+#[derive(Clone, Copy, PartialEq, Eq, Debug)]
+pub enum Refusal {
+    /// 1: a list has a wrong length, or N is out of range.
+    Length,
+    /// 2: a roster value over 3, or a reserved code marked.
+    Roster,
+    /// 3: a code of a triple not below N, or reserved as subject or object.
+    Code,
+    /// 4: the roster does not cover the table or the fed triple.
+    Cover,
+    /// 5: more result triples than slots, or more bytes than the list has.
+    Slots,
+    /// 6: a query with a wrong count, variable or code.
+    Query,
+    /// 7: the triple is new and every slot of the intake holds one.
+    Full,
+    /// 8: the text is not in the site form.
+    Form,
+}
+
+impl Refusal {
+    /// The refusal with this number.
+    pub fn numbered(number: u32) -> Option<Refusal> {
+        use Refusal::*;
+        let all = [Length, Roster, Code, Cover, Slots, Query, Full, Form];
+        all.into_iter().find(|r| r.number() == number)
+    }
+
+    pub fn number(self) -> u32 {
+        self as u32 + 1
+    }
+
+    fn text(self) -> &'static str {
+        match self {
+            Refusal::Length => "a list length is wrong",
+            Refusal::Roster => "the roster is wrong",
+            Refusal::Code => "a code of a triple is wrong",
+            Refusal::Cover => "the roster does not cover the triples",
+            Refusal::Slots => "the result does not fit",
+            Refusal::Query => "the query is wrong",
+            Refusal::Full => "the intake is full",
+            Refusal::Form => "the text is not in the site form",
+        }
+    }
+}
+
+impl fmt::Display for Refusal {
+    fn fmt(&self, f: &mut fmt::Formatter) -> fmt::Result {
+        write!(f, "refused with {}: {}", self.number(), self.text())
+    }
+}
+
+impl std::error::Error for Refusal {}
+
+/// A status as a result.
+pub(crate) fn accepted(status: u32) -> Result<(), Refusal> {
+    match status {
+        0 => Ok(()),
+        number => Err(Refusal::numbered(number).expect("a status is 0 to 8")),
+    }
+}

@@ -1,0 +1,47 @@
+//! What the tests share.
+#![allow(dead_code)]
+
+use weak_summary::{own_roster, saturate, summarise, Refusal, ABSENT};
+
+/// The scope paper's six triples; N is 14.
+pub const SIX: [u32; 18] = [5, 2, 7, 6, 2, 7, 7, 3, 8, 8, 1, 9, 10, 5, 12, 11, 6, 13];
+
+/// The summary of their saturation.
+pub const SIX_SUMMARY: [u32; 27] =
+    [5, 2, 7, 6, 2, 7, 7, 3, 8, 8, 1, 9, 10, 0, 8, 10, 0, 9, 10, 5, 12, 10, 6, 12, 10, 7, 12];
+
+pub fn roster_of(table: &[u32], n: usize) -> Vec<u8> {
+    let mut roster = vec![7; n];
+    own_roster(table, &mut roster).unwrap();
+    roster
+}
+
+/// The plain summary with the own roster, and its map.
+pub fn summary_of(table: &[u32], n: usize) -> (Vec<u32>, Vec<u32>) {
+    let roster = roster_of(table, n);
+    let mut result = vec![9; table.len()];
+    let mut map = vec![9; n];
+    let mut work = vec![9; 2 * n];
+    let count = summarise(table, &roster, &mut result, &mut map, &mut work).unwrap();
+    assert!(work.iter().all(|&x| x == 0));
+    assert!(result[3 * count..].iter().all(|&x| x == 0));
+    result.truncate(3 * count);
+    (result, map)
+}
+
+pub fn saturation_of(table: &[u32], n: usize, slots: usize) -> Result<Vec<u32>, Refusal> {
+    let mut result = vec![9; 3 * slots];
+    let count = saturate(table, &roster_of(table, n), &mut result)?;
+    assert!(result[3 * count..].iter().all(|&x| x == 0));
+    result.truncate(3 * count);
+    Ok(result)
+}
+
+/// A map of n entries with these nodes and their representatives.
+pub fn map_with(n: usize, nodes: &[(usize, u32)]) -> Vec<u32> {
+    let mut map = vec![ABSENT; n];
+    for &(code, representative) in nodes {
+        map[code] = representative;
+    }
+    map
+}

@@ -1,0 +1,141 @@
+//! Each refusal of each call, and that only 5 and 8 alter what was lent.
+
+mod common;
+
+use common::{roster_of, SIX};
+use weak_summary::{ask, cliques, own_roster, read, saturate, summarise, write};
+use weak_summary::{calls, look_up, End, Intake, Pattern, Query, Refusal};
+
+/// Summarises into lists of ones and gives them back with the answer.
+fn summarised(table: &[u32], roster: &[u8], lengths: [usize; 3]) -> (Result<usize, Refusal>, [Vec<u32>; 3]) {
+    let mut lists = lengths.map(|length| vec![1; length]);
+    let [result, map, work] = &mut lists;
+    let answer = summarise(table, roster, result, map, work);
+    (answer, lists)
+}
+
+fn all(lists: &[Vec<u32>], value: u32) -> bool {
+    lists.iter().flatten().all(|&x| x == value)
+}
+
+/// A table, a roster, the lengths of result, map and work, and the refusal.
+type Case<'a> = (&'a [u32], &'a [u8], [usize; 3], Refusal);
+
+#[test]
+fn summarise_refuses_in_order() {
+    let roster = roster_of(&SIX, 14);
+    let mut marked = roster.clone();
+    marked[3] = 1;
+    let mut over = roster.clone();
+    over[13] = 4;
+    let wrong_code = [&SIX[..], &[14, 5, 10]].concat();
+    let cases: [Case; 9] = [
+        (&SIX[..17], &over, [18, 14, 28], Refusal::Length),
+        (&SIX, &over, [18, 13, 28], Refusal::Length),
+        (&SIX, &over, [18, 14, 27], Refusal::Length),
+        (&SIX, &roster[..4], [18, 4, 8], Refusal::Length),
+        (&wrong_code, &marked, [18, 14, 28], Refusal::Roster),
+        (&SIX, &over, [18, 14, 28], Refusal::Roster),
+        (&wrong_code, &[0; 14], [18, 14, 28], Refusal::Code),
+        (&SIX, &[0; 14], [0, 14, 28], Refusal::Cover),
+        (&SIX, &roster, [17, 14, 28], Refusal::Slots),
+    ];
+    for (table, roster, lengths, refusal) in cases {
+        let (answer, lists) = summarised(table, roster, lengths);
+        assert_eq!(answer, Err(refusal));
+        assert!(all(&lists, if refusal == Refusal::Slots { 0 } else { 1 }));
+    }
+}
+
+#[test]
+fn saturate_and_cliques_refuse() {
+    let table = [10, 5, 11];
+    let mut result = [1; 3];
+    assert_eq!(saturate(&table, &[0; 12], &mut result), Err(Refusal::Cover));
+    assert_eq!(saturate(&table, &[9; 12], &mut result), Err(Refusal::Roster));
+    assert_eq!(saturate(&table, &[9; 65_537], &mut result), Err(Refusal::Length));
+    assert_eq!(result, [1; 3]);
+    let (mut sources, mut targets) = ([1; 12], [1; 11]);
+    assert_eq!(cliques(&table, &[9; 12], &mut sources, &mut targets), Err(Refusal::Length));
+    let mut targets = [1; 12];
+    assert_eq!(cliques(&table, &[9; 12], &mut sources, &mut targets), Err(Refusal::Roster));
+    assert_eq!(cliques(&[4, 5, 11], &[0; 12], &mut sources, &mut targets), Err(Refusal::Code));
+    assert_eq!(cliques(&table, &[0; 12], &mut sources, &mut targets), Err(Refusal::Cover));
+    assert_eq!((sources, targets), ([1; 12], [1; 12]));
+}
+
+#[test]
+fn own_roster_refuses() {
+    let mut roster = [9; 12];
+    assert_eq!(own_roster(&[10, 5], &mut roster), Err(Refusal::Length));
+    assert_eq!(own_roster(&[10, 12, 11], &mut roster), Err(Refusal::Code));
+    assert_eq!(roster, [9; 12]);
+    assert_eq!(own_roster(&vec![5; 3 * 1_048_577], &mut roster), Err(Refusal::Length));
+}
+
+#[test]
+fn look_up_refuses_lengths_only() {
+    assert_eq!(look_up(&[1, 2], [1, 2, 3]), Err(Refusal::Length));
+    assert_eq!(look_up(&[9, 9, 9, 1, 2, 3], [1, 2, 3]), Ok(true));
+    assert_eq!(look_up(&[1, 1, 2, 3, 1, 1], [1, 2, 3]), Ok(false));
+    assert_eq!(look_up(&[], [0, 0, 0]), Ok(false));
+    assert_eq!(look_up(&vec![0; 3 * 1_048_577], [0, 0, 0]), Err(Refusal::Length));
+}
+
+#[test]
+fn ask_refuses_in_order() {
+    let variable = End::Variable;
+    let right = Query::new(&[Pattern::new(variable(0), 5, variable(7))]).unwrap();
+    let wrong = [
+        Query::new(&[]).unwrap(),
+        Query { count: 9, ..right },
+        Query::new(&[Pattern::new(variable(8), 5, variable(7))]).unwrap(),
+        Query::new(&[Pattern::new(variable(0), 12, variable(7))]).unwrap(),
+        Query::new(&[Pattern::new(variable(0), 5, End::Code(12))]).unwrap(),
+    ];
+    let table = [10, 5, 11];
+    let map = [10; 12];
+    assert!(ask(&table, &map, &right).is_ok());
+    for query in &wrong {
+        assert_eq!(ask(&table[..2], &map, query), Err(Refusal::Length));
+        assert_eq!(ask(&[10, 5, 4], &map, query), Err(Refusal::Code));
+        assert_eq!(ask(&table, &map, query), Err(Refusal::Query));
+    }
+    assert_eq!(Query::new(&[Pattern::BLANK; 9]), Err(Refusal::Query));
+    assert_eq!(calls::ask(&table, &map, &right.flat()[..40], &mut 0), 1);
+    let mut flat = right.flat();
+    flat[4] = 2;
+    assert_eq!(calls::ask(&table, &map, &flat, &mut 0), 6);
+}
+
+#[test]
+fn intake_refuses_in_order() {
+    assert_eq!(Intake::open(&[0; 4], 3).err(), Some(Refusal::Length));
+    assert_eq!(Intake::open(&[0; 9], 1_048_577).err(), Some(Refusal::Length));
+    assert_eq!(Intake::open(&[1; 9], 3).err(), Some(Refusal::Roster));
+    let mut intake = Intake::open(&roster_of(&[10, 5, 11], 12), 1).unwrap();
+    assert_eq!(intake.feed([12, 5, 11]), Err(Refusal::Code));
+    assert_eq!(intake.feed([10, 6, 11]), Err(Refusal::Cover));
+    assert_eq!(intake.feed([10, 5, 11]), Ok(true));
+    assert_eq!(intake.feed([10, 5, 10]), Err(Refusal::Full));
+    assert_eq!(intake.feed([10, 6, 11]), Err(Refusal::Cover));
+    assert_eq!((intake.triples(), intake.summary()), (&[10, 5, 11][..], &[10, 5, 11][..]));
+}
+
+#[test]
+fn read_and_write_refuse() {
+    let mut list = [1; 5];
+    assert_eq!(read(b"(site 05)\n", &mut list), Err(Refusal::Form));
+    assert_eq!(list, [0; 5]);
+    let text = b"(site 9)\n(t 1 2 3)\n(t 4294967295 2 3)\n";
+    list = [1; 5];
+    assert_eq!(read(text, &mut list), Err(Refusal::Slots));
+    assert_eq!(list, [0; 5]);
+    let mut out = [1; 20];
+    assert_eq!(write(4, &[], &mut out), Err(Refusal::Length));
+    assert_eq!(write(9, &[5; 3_003], &mut out), Err(Refusal::Length));
+    assert_eq!(write(9, &[8, 5, 9], &mut out), Err(Refusal::Code));
+    assert_eq!(out, [1; 20]);
+    assert_eq!(write(65_536, &[8, 5, 8], &mut out), Err(Refusal::Slots));
+    assert_eq!(out, [0; 20]);
+}
