@@ -3,3 +3,4 @@ pub mod Tests
 pub mod Compare
 pub mod Places
 pub mod Search
+pub mod Fronts

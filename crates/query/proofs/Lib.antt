@@ -5,3 +5,4 @@ pub mod Carried
 pub mod Ends
 pub mod Places
 pub mod Answers
+pub mod Fits

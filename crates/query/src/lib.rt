@@ -6,11 +6,14 @@ ghost use Prim.Native.Nat.{_+_, _-_, _*_, _<_, _≤_};
 ghost use lib.ListN.{length};
 ghost use Rattle.model.specs.Codes.{rdfs};
 ghost use Rattle.model.specs.Lists.{any, tabulate};
-ghost use Rattle.lists.specs.Flat.{at};
+ghost use Rattle.lists.specs.Flat.{at, RisingPart};
 ghost use Rattle.query.specs.Ask.{pattern, fitEnd, wrongEnd, wrongPattern, wrongQuery, asked, askOutcome};
-ghost use Rattle.query.specs.Parts.{FirstWith, stepAt};
+ghost use Rattle.query.specs.Parts.{FirstWith, FirstOf, FirstFit, front, wantedOf, InOrder, stepAt};
 use lists::Code;
+use lists::lower_bound;
+use lists::rises;
 use model::Refusal;
+use model::Triple;
 
 // An end of a pattern: a variable 0 to 7, or a code.
 pub enum End {
@@ -35,6 +38,12 @@ pub enum Asked {
     Maybe,
     None,
     Refused(Refusal),
+}
+
+// The node that an end must have, or any.
+pub enum Wanted {
+    Any,
+    Node(u32),
 }
 
 // Whether a pattern's end fits a node, and the variables' nodes afterwards.
@@ -134,7 +143,82 @@ fn first_with(table: &[u32], p: u32, from: usize, to: usize) -> usize
     to
 }
 
-// Tries pattern k with the triples at places from..to: the first with its property, then each half of those after it.
+// The node that an end must have, if there is one: a code stands for its map entry, and a variable may have a node already.
+fn node_wanted(map: &[u32], e: End, bindings: [u32; 8]) -> Wanted
+    requires { ⌜ wrongEnd (length (now map)) e ≡ false ⌝ }
+    ensures { λ r. ⌜ r ≡ wantedOf (now (map .entry)) e bindings ⌝ }
+{
+    match e {
+        End::Var(v) => {
+            let node = bindings[v as usize];
+            if node == Code::ABSENT {
+                return Wanted::Any;
+            }
+            Wanted::Node(node)
+        }
+        End::Code(c) => {
+            let entry = map[c as usize];
+            Wanted::Node(entry)
+        }
+    }
+}
+
+// Whether the triple at place i has this subject and property.
+fn has_front(table: &[u32], i: usize, subject: u32, property: u32) -> bool
+    requires { ⌜ 3 * i + 2 < length (now table) ⌝ }
+    ensures { λ r. ⌜ r ≡ front subject property (at (now (table .entry)) i) ⌝ }
+{
+    if table[3 * i] == subject {
+        return table[3 * i + 1] == property;
+    }
+    false
+}
+
+// In rising order: the first place from..to with this subject and property, or `to`.
+fn first_of(table: &[u32], subject: u32, property: u32, from: usize, to: usize) -> usize
+    requires { ⌜ (from ≤ to) × (3 * to ≤ length (now table)) × RisingPart (at (now table)) from to ⌝ }
+    ensures { λ r. ⌜ FirstOf (at (now (table .entry))) subject property from to r ⌝ }
+{
+    let key = Triple {
+        subject: subject,
+        property: property,
+        object: 0,
+    };
+    let i = lower_bound(table, from, to, key);
+    if i < to {
+        if has_front(table, i, subject, property) {
+            return i;
+        }
+    }
+    to
+}
+
+// The first place from..to whose triple has the pattern's property and may fit, or `to`. In rising order a subject that must be
+// one node is searched for.
+fn first_fit(
+    table: &[u32],
+    map: &[u32],
+    p: Pattern,
+    bindings: [u32; 8],
+    from: usize,
+    to: usize,
+    rising: bool,
+) -> usize
+    requires { ⌜ (wrongEnd (length (now map)) (p .subject) ≡ false) × (from ≤ to) × (3 * to ≤ length (now table)) × InOrder (now table) rising ⌝ }
+    ensures { λ r. ⌜ FirstFit (at (now (table .entry))) (now (map .entry)) p bindings from to r ⌝ }
+{
+    let property = p.property;
+    if !rising {
+        return first_with(table, property, from, to);
+    }
+    let subject = p.subject;
+    let Wanted::Node(node) = node_wanted(map, subject, bindings) else {
+        return first_with(table, property, from, to);
+    };
+    first_of(table, node, property, from, to)
+}
+
+// Tries pattern k with the triples at places from..to: the first that may fit, then each half of those after it.
 fn try_pattern(
     table: &[u32],
     map: &[u32],
@@ -143,28 +227,37 @@ fn try_pattern(
     k: usize,
     from: usize,
     to: usize,
+    rising: bool,
 ) -> bool
-    requires { ⌜ (wrongQuery (length (now map)) q ≡ false) × (k < q .count) × (from ≤ to) × (3 * to ≤ length (now table)) ⌝ }
+    requires { ⌜ (wrongQuery (length (now map)) q ≡ false) × (k < q .count) × (from ≤ to) × (3 * to ≤ length (now table)) × InOrder (now table) rising ⌝ }
     ensures { λ r. ⌜ r ≡ any (stepAt (now (table .entry)) (now (map .entry)) q k bindings) (tabulate (at (now (table .entry))) from (to - from)) ⌝ }
 {
     let pattern = q.patterns[k];
-    let first = first_with(table, pattern.property, from, to);
+    let first = first_fit(table, map, pattern, bindings, from, to, rising);
     if first == to {
         return false;
     }
-    if try_triple(table, map, q, bindings, k, first) {
+    if try_triple(table, map, q, bindings, k, first, rising) {
         return true;
     }
     let middle = first + 1 + (to - first - 1) / 2;
-    if try_pattern(table, map, q, bindings, k, first + 1, middle) {
+    if try_pattern(table, map, q, bindings, k, first + 1, middle, rising) {
         return true;
     }
-    try_pattern(table, map, q, bindings, k, middle, to)
+    try_pattern(table, map, q, bindings, k, middle, to, rising)
 }
 
 // Tries pattern k with the triple at place i, which has its property: a triple that fits tries the next pattern.
-fn try_triple(table: &[u32], map: &[u32], q: Query, bindings: [u32; 8], k: usize, i: usize) -> bool
-    requires { ⌜ (wrongQuery (length (now map)) q ≡ false) × (k < q .count) × (3 * i + 2 < length (now table)) × (at (now table) i .property ≡ pattern q k .property) ⌝ }
+fn try_triple(
+    table: &[u32],
+    map: &[u32],
+    q: Query,
+    bindings: [u32; 8],
+    k: usize,
+    i: usize,
+    rising: bool,
+) -> bool
+    requires { ⌜ (wrongQuery (length (now map)) q ≡ false) × (k < q .count) × (3 * i + 2 < length (now table)) × (at (now table) i .property ≡ pattern q k .property) × InOrder (now table) rising ⌝ }
     ensures { λ r. ⌜ r ≡ stepAt (now (table .entry)) (now (map .entry)) q k bindings (at (now (table .entry)) i) ⌝ }
 {
     let pattern = q.patterns[k];
@@ -183,7 +276,7 @@ fn try_triple(table: &[u32], map: &[u32], q: Query, bindings: [u32; 8], k: usize
                 return true;
             }
             let next = second.bindings;
-            return try_pattern(table, map, q, next, k + 1, 0, table.len() / 3);
+            return try_pattern(table, map, q, next, k + 1, 0, table.len() / 3, rising);
         }
     }
     false
@@ -205,7 +298,17 @@ pub fn ask(table: &[u32], map: &[u32], q: Query) -> Asked
     if query_wrong(q, map.len()) {
         return Asked::Refused(Refusal::Query);
     }
-    if try_pattern(table, map, q, [Code::ABSENT; 8], 0, 0, table.len() / 3) {
+    let rising = rises(table);
+    if try_pattern(
+        table,
+        map,
+        q,
+        [Code::ABSENT; 8],
+        0,
+        0,
+        table.len() / 3,
+        rising,
+    ) {
         return Asked::Maybe;
     }
     Asked::None

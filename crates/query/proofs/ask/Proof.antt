@@ -38,21 +38,24 @@ returns-4 c =
     let x = c .before .before .before .before .before .before .before .before .before .before .args in
     wrong-query (x .table .now) (x .map .now) (x .q) (c .before .before .before .before .before .before .before .size-wrong .ensures) (c .before .before .before .before .before .before .if1 .left) (c .before .before .before .before .before .length-wrong .ensures) (c .before .before .before .before .if2 .left) (c .before .before .before .codes-wrong .ensures) (c .before .before .if3 .left) (c .before .query-wrong .ensures) (c .if4 .taken)
 
+rises-requires : tie.Need-rises-requires
+rises-requires c κs = search needs
+
 try-pattern-requires : tie.Need-try-pattern-requires
 try-pattern-requires c κs =
-    let x = c .before .before .before .before .before .before .before .before .before .before .args in
-    let right = sym (c .before .query-wrong .ensures) ∙ c .if4 .left in
-    (right, some-pattern _ (x .q) right, omega arith, omega arith)
+    let x = c .before .before .before .before .before .before .before .before .before .before .before .args in
+    let right = sym (c .before .before .query-wrong .ensures) ∙ c .before .if4 .left in
+    (right, some-pattern _ (x .q) right, omega arith, omega arith, c .rises .ensures)
 
 returns-5 : tie.Need-returns-5
 returns-5 c =
-    let x = c .before .before .before .before .before .before .before .before .before .before .before .before .args in
-    answer-maybe (x .table .now) (x .map .now) (x .q) (c .before .before .before .before .before .before .before .before .before .size-wrong .ensures) (c .before .before .before .before .before .before .before .before .if1 .left) (c .before .before .before .before .before .before .before .length-wrong .ensures) (c .before .before .before .before .before .before .if2 .left) (c .before .before .before .before .before .codes-wrong .ensures) (c .before .before .before .before .if3 .left) (c .before .before .before .query-wrong .ensures) (c .before .before .if4 .left) _ (omega arith) (c .before .try-pattern .ensures) (c .if5 .taken)
+    let x = c .before .before .before .before .before .before .before .before .before .before .before .before .before .args in
+    answer-maybe (x .table .now) (x .map .now) (x .q) (c .before .before .before .before .before .before .before .before .before .before .size-wrong .ensures) (c .before .before .before .before .before .before .before .before .before .if1 .left) (c .before .before .before .before .before .before .before .before .length-wrong .ensures) (c .before .before .before .before .before .before .before .if2 .left) (c .before .before .before .before .before .before .codes-wrong .ensures) (c .before .before .before .before .before .if3 .left) (c .before .before .before .before .query-wrong .ensures) (c .before .before .before .if4 .left) _ (omega arith) (c .before .try-pattern .ensures) (c .if5 .taken)
 
 returns-6 : tie.Need-returns-6
 returns-6 c =
-    let x = c .before .before .before .before .before .before .before .before .before .before .before .before .args in
-    answer-none (x .table .now) (x .map .now) (x .q) (c .before .before .before .before .before .before .before .before .before .size-wrong .ensures) (c .before .before .before .before .before .before .before .before .if1 .left) (c .before .before .before .before .before .before .before .length-wrong .ensures) (c .before .before .before .before .before .before .if2 .left) (c .before .before .before .before .before .codes-wrong .ensures) (c .before .before .before .before .if3 .left) (c .before .before .before .query-wrong .ensures) (c .before .before .if4 .left) _ (omega arith) (c .before .try-pattern .ensures) (c .if5 .left)
+    let x = c .before .before .before .before .before .before .before .before .before .before .before .before .before .args in
+    answer-none (x .table .now) (x .map .now) (x .q) (c .before .before .before .before .before .before .before .before .before .before .size-wrong .ensures) (c .before .before .before .before .before .before .before .before .before .if1 .left) (c .before .before .before .before .before .before .before .before .length-wrong .ensures) (c .before .before .before .before .before .before .before .if2 .left) (c .before .before .before .before .before .before .codes-wrong .ensures) (c .before .before .before .before .before .if3 .left) (c .before .before .before .before .query-wrong .ensures) (c .before .before .before .if4 .left) _ (omega arith) (c .before .try-pattern .ensures) (c .if5 .left)
 
 pub ask-spec : {M : Type 1} → statement M
 ask-spec =
@@ -66,6 +69,7 @@ ask-spec =
     returns-3
     query-wrong-requires
     returns-4
+    rises-requires
     try-pattern-requires
     returns-5
     returns-6)
