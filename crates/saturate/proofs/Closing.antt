@@ -11,7 +11,7 @@ use lib.ListN.{length, getD}
 use Rattle.model.specs.declared.Triple.{Triple}
 use Rattle.model.specs.Codes.{rdfs}
 use Rattle.model.specs.Lists.{tabulate}
-use Rattle.model.specs.Triples.{triples, sorted}
+use Rattle.model.specs.Triples.{sorted}
 use Rattle.model.specs.Order.{Rising}
 use Rattle.model.specs.Rules.{Derives, given}
 use Rattle.model.specs.Saturation.{round}
@@ -21,13 +21,23 @@ use Rattle.theory.proofs.Order.{sorted-rising, sorted-mem, mem-sorted, sorted-s
 use Rattle.theory.proofs.Saturated.{In, Drawn as DrawnBy, round-mem, round-keeps, round-rising, round-derived, derives-cut, closed-has}
 use Rattle.lists.specs.Flat.{at, RisingPart}
 use Rattle.lists.proofs.Compare.{Cmp, lt, eq, gt, cmp}
-use Rattle.lists.proofs.Places.{places-rising, rising-places, triples-table}
+use Rattle.lists.proofs.Places.{places-rising, rising-places}
 use Rattle.sorting.specs.Sorting.{Distinct}
 use Rattle.builder.specs.declared.Builder.{Builder}
-use Rattle.builder.specs.Builder.{first, Built, Collected}
+use Rattle.builder.specs.Builder.{first, Built}
 use Rattle.builder.proofs.Parts.{sorted-more}
 use Rattle.saturate.specs.Rounds.{Rounded, Closed}
-use Rattle.saturate.proofs.Sweeps.{in-first}
+use Rattle.saturate.proofs.Sweeps.{in-first, all-rules}
+
+-- ── a sorted front ──
+module _ (l m : List ℕ) (filled count : ℕ) where
+  pub front-sorted : Distinct l m 0 filled count → first m count ≡ sorted (first l filled)
+  front-sorted D = D .places ∙ ap (λ (k : ℕ). sorted (tabulate (at l) 0 k)) (sub-zero filled)
+
+  -- what a round and a load ask for
+  pub sorted-ready : 3 * filled ≤ length l → Distinct l m 0 filled count → (3 * count ≤ length m) × RisingPart (at m) 0 count
+  sorted-ready h D =
+      (omega (arith, D .fits, D .size), λ i j x y z. rising-places (at m) 0 count (subst Rising (sym (front-sorted D)) (sorted-rising _)) i j x y (omega arith))
 
 -- ── rounds ──
 module _ (G : Graph) (l₀ : List ℕ) where
@@ -45,14 +55,14 @@ module _ (G : Graph) (l₀ : List ℕ) where
 
   module _ (l m : List ℕ) (s : Builder) (count : ℕ) (C : Closing l s) (D : Distinct l m 0 (s .filled) count) where
     sorted-is : first m count ≡ sorted (first l (s .filled))
-    sorted-is = D .places ∙ ap (λ (k : ℕ). sorted (tabulate (at l) 0 k)) (sub-zero (s .filled))
+    sorted-is = front-sorted l m (s .filled) count D
 
     count-is : count ≡ length (sorted (first l (s .filled)))
     count-is = sym (length-tabulate (at m) 0 count) ∙ ap {B = ℕ} (λ (x : List Triple). length x) sorted-is
 
     -- what a round asks for
     pub round-ready : (3 * count ≤ length m) × RisingPart (at m) 0 count
-    round-ready = (omega (arith, D .fits, D .size, C .room), λ i j x y z. rising-places (at m) 0 count (subst Rising (sym sorted-is) (sorted-rising _)) i j x y (omega arith))
+    round-ready = sorted-ready l m (s .filled) count (C .room) D
 
     -- the base grows: the triple behind it is new
     pub base-grows : s .base < s .filled → s .base < count
@@ -70,7 +80,7 @@ module _ (G : Graph) (l₀ : List ℕ) where
         wider : (u : Triple) → Mem u (first l (s .base)) → Mem u (first l (s .filled))
         wider u k = let z = tabulate-mem (at l) 0 (s .base) k in in-first l (s .filled) (z .0) u (omega (arith, z .2, C .within)) (z .3)
 
-    module _ (n : List ℕ) (c : Builder) (R : Rounded m n count c) where
+    module _ (n : List ℕ) (c : Builder) (R : Rounded m n count 0 6 c) where
       begun : (u : Triple) → Mem u (first m count) → Derives rdfs G u
       begun u k = C .derived u (sorted-mem u _ (subst (Mem u) sorted-is k))
 
@@ -87,9 +97,9 @@ module _ (G : Graph) (l₀ : List ℕ) where
             within = omega (arith, B .base-end, B .sorted-end);
             rising = B .base-rising;
             apart = λ i h k q. B .apart i (c .base) h (omega arith) k q;
-            keeps = λ u g. (R .members f u) .1 (round-keeps rdfs _ u (subst (Mem u) (sym sorted-is) (mem-sorted u _ (C .keeps u g))));
-            derived = λ u k. all-derived u ((R .members f u) .0 k);
-            drawn = λ u k. (R .members f u) .1 (subst (λ (x : List Triple). Mem u (round rdfs x)) (R .base f) k);
+            keeps = λ u g. R .keeps f u (subst (Mem u) (sym sorted-is) (mem-sorted u _ (C .keeps u g)));
+            derived = λ u k. all-derived u (R .inside f u k);
+            drawn = λ u k. all-rules m n count c R f u (subst (λ (x : List Triple). Mem u (round rdfs x)) (R .base f) k);
           }
 
       pub closing-full : c .full ≡ true → Closed G l₀ n c
@@ -142,31 +152,4 @@ closing-start l filled h =
       keeps = λ u g. g;
       derived = λ u m. given m;
       drawn = λ u m. absurd (round-nothing u m);
-    }
-
--- ── loading, then rounds ──
-in-table : (table : List ℕ) (t : Triple) → Mem t (tabulate (at table) 0 (length table / 3)) → Mem t (triples table)
-in-table table t = subst (Mem t) (sym (triples-table table))
-
-table-in : (table : List ℕ) (t : Triple) → Mem t (triples table) → Mem t (tabulate (at table) 0 (length table / 3))
-table-in table t = subst (Mem t) (triples-table table)
-
-pub closed-loaded : (table l m n : List ℕ) (b c : Builder) → Collected (at table) (length table / 3) l m b → b .full ≡ false → Closed (In (first m (b .filled))) m n c → Closed (In (triples table)) l n c
-closed-loaded table l m n b c L f C =
-    record {
-      size = C .size ∙ L .size;
-      room = C .room;
-      exact = λ g u. (λ k. derives-cut rdfs (λ t x. given (in-table table t ((L .members f t) .0 x))) ((C .exact g u) .0 k), λ d. (C .exact g u) .1 (derives-cut rdfs (λ t x. given ((L .members f t) .1 (table-in table t x))) d));
-      over = λ g out h. subst (λ (k : ℕ). k / 3 < length out) (L .size) (C .over g out (λ u d. h u (derives-cut rdfs (λ t x. given (in-table table t ((L .members f t) .0 x))) d)));
-    }
-
-pub closed-full : (table l m : List ℕ) (b : Builder) → Collected (at table) (length table / 3) l m b → b .full ≡ true → Closed (In (triples table)) l m b
-closed-full table l m b L f =
-    record {
-      size = L .size;
-      room = λ g. absurd (true≢false (sym f ∙ g));
-      exact = λ g. absurd (true≢false (sym f ∙ g));
-      over = λ g out h.
-          let few = rising-length (sorted (tabulate (at table) 0 (length table / 3))) out (sorted-rising _) (λ u k. h u (given (in-table table u (sorted-mem u _ k)))) in
-          omega (arith, few, L .over g);
     }
