@@ -1,20 +1,19 @@
 -- Loading a part of the table behind a frozen part.
 -- Assumes nothing.
-use Prim.Native.Nat.{ℕ, zero, suc, _+_, _-_, _*_, _/_, _<_, _≤_}
+use Prim.Native.Nat.{ℕ, _+_, _*_, _/_, _<_, _≤_}
 use mathlib.Core.Path.{_≡_, refl, sym, _∙_, ap, subst}
-use mathlib.Core.Logic.{_⊎_, inl, inr, ⊎-elim, _↔_}
+use mathlib.Core.Logic.{_⊎_, inl, inr, ⊎-elim}
 use mathlib.Core.Bool.{Bool, true, false, cond, not, true≢false}
-use mathlib.Core.List.{List, [], _∷_, _++_, List·Memᴰ as Mem, List·Memᴰ·append-cases as append-cases, Memᴰ·append-left as append-left, Memᴰ·append-right as append-right}
+use mathlib.Core.List.{List, _++_, List·Memᴰ as Mem, List·Memᴰ·append-cases as append-cases, Memᴰ·append-left as append-left, Memᴰ·append-right as append-right}
 use native.Mathlib.Omega.{arith}
-use lib.Dec.{eqb, ltb}
+use lib.Dec.{ltb}
 use lib.ListN.{length}
 use borrow.Author.Count.{below-more}
 use borrow.Author.Tests.{eq-eqb, ne-eqb, lt-ltb}
 use Rattle.model.specs.declared.Triple.{Triple}
 use Rattle.model.specs.Codes.{rdfs, kind}
-use Rattle.model.specs.Lists.{tabulate, collect, when}
+use Rattle.model.specs.Lists.{tabulate, when}
 use Rattle.model.specs.Triples.{triples, sorted}
-use Rattle.model.specs.Order.{Rising}
 use Rattle.theory.proofs.Tests.{bool-cases}
 use Rattle.theory.proofs.Lists.{tabulate-mem, mem-tabulate, when-mem, mem-when, collect-mem, mem-collect}
 use Rattle.theory.proofs.Order.{sorted-rising, sorted-mem, mem-sorted, rising-length}
@@ -22,7 +21,7 @@ use Rattle.lists.specs.Flat.{at, RisingPart}
 use Rattle.lists.proofs.Places.{triples-table}
 use Rattle.sorting.specs.Sorting.{Distinct}
 use Rattle.builder.specs.declared.Builder.{Builder}
-use Rattle.builder.specs.Builder.{first, Built, Offered, State, Step}
+use Rattle.builder.specs.Builder.{first, Offered, Step}
 use Rattle.builder.proofs.Collecting.{opening, offer-step, step-none, step-then}
 use Rattle.saturate.specs.Rounds.{schema, chosen, part, OfferedIf, Added}
 use Rattle.saturate.proofs.Closing.{front-sorted}

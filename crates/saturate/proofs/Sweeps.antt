@@ -20,7 +20,7 @@ use Rattle.model.specs.Saturation.{round}
 use Rattle.theory.proofs.Tests.{and-true, and-both, bool-cases}
 use Rattle.theory.proofs.Lists.{tabulate-mem, mem-tabulate, tabulate-at, length-tabulate}
 use Rattle.theory.proofs.Order.{lt-trans, lt-irrefl, lt-total, lt-before, same-refl, same-eq}
-use Rattle.theory.proofs.Saturated.{Drawn as DrawnBy, round-mem, round-keeps, round-rising}
+use Rattle.theory.proofs.Saturated.{Drawn as DrawnBy, round-mem, round-keeps}
 use Rattle.lists.specs.Flat.{at, RisingPart, Bound}
 use Rattle.lists.proofs.Compare.{Cmp, lt, eq, gt, cmp}
 use Rattle.lists.proofs.Places.{places-rising}

@@ -189,7 +189,7 @@ module _ (v : Vocabulary) (roster : List ℕ) where
   chain-place of-first f a b = refl
   chain-place of-second f a b = refl
 
-  pub chain-schema : {k l p m : ℕ} → PropertyPlace k l p m → Schema k → Schema l → m ≤ 4
+  chain-schema : {k l p m : ℕ} → PropertyPlace k l p m → Schema k → Schema l → m ≤ 4
   chain-schema of-first x y = (schema-bounds x) .1
   chain-schema of-second x y = (schema-bounds y) .1
 

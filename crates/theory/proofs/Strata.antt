@@ -2,14 +2,14 @@
 -- enough to close the schema triples, to add the others, and then to make one pass each with the rule that renames (4), with the rules
 -- that type an end (1, 2), and with the rule that retypes (5): `strata`.
 -- Assumes nothing.
-use Prim.Native.Nat.{ℕ, zero, suc, _≤_, _<_}
+use Prim.Native.Nat.{ℕ, zero, suc, _≤_}
 use mathlib.Core.Path.{_≡_, refl, sym, subst, _∙_, ap}
 use mathlib.Core.Logic.{_⊎_, inl, inr, ⊎-elim, _↔_}
-use mathlib.Core.Bool.{Bool, true, false, _&&_}
+use mathlib.Core.Bool.{true}
 use mathlib.Core.List.{List, [], _∷_, List·Memᴰ as Mem, List·Memᴰ·head as here, List·Memᴰ·tail as there}
 use native.Mathlib.Omega.{arith}
 use lib.Dec.{eqb, ltb}
-use borrow.Author.Tests.{eqb-true, eq-eqb, ltb-true, ltb-false}
+use borrow.Author.Tests.{eq-eqb, ltb-true, ltb-false}
 use Rattle.model.specs.declared.Rule.{Rule}
 use Rattle.model.specs.declared.Triple.{Triple}
 use Rattle.model.specs.Codes.{Vocabulary, kind}
@@ -18,7 +18,7 @@ use Rattle.model.specs.Rules.{rule, rules, place, fits, gives, Derives, given, 
 use Rattle.model.specs.Cliques.{Graph}
 use Rattle.theory.proofs.Tests.{and-both, bool-cases}
 use Rattle.theory.proofs.Covered.{kind-type}
-use Rattle.theory.proofs.RuleLaws.{EndOf, first-subject, first-object, second-subject, second-object, EndPlace, at-subject, at-object, PropertyPlace, of-first, of-second, Schema, is-subclass, is-subproperty, is-domain, is-range, schema-bounds, any-parts, both-parts, chain-fits, chain-kind, All, none, more, all-in, laws}
+use Rattle.theory.proofs.RuleLaws.{EndOf, first-subject, first-object, second-subject, second-object, EndPlace, at-subject, at-object, PropertyPlace, of-first, Schema, is-subclass, is-subproperty, is-domain, is-range, schema-bounds, any-parts, both-parts, chain-fits, chain-kind, All, none, more, all-in, laws}
 use Rattle.theory.proofs.Saturated.{derives-cut}
 
 -- the rules of each pass
