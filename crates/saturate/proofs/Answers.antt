@@ -20,7 +20,7 @@ use Rattle.model.specs.Calls.{tableChecks, saturated, saturateOutcome, saturate
 use Rattle.theory.proofs.Order.{sorted-rising, sorted-mem, mem-sorted, sorted-length}
 use Rattle.theory.proofs.Lists.{length-tabulate}
 use Rattle.theory.proofs.Saturated.{In, saturation-exact, saturation-unique}
-use Rattle.theory.proofs.Accepted.{Right, below}
+use Rattle.theory.proofs.Accepted.{Right, below, in-codes}
 use Rattle.table_checks.specs.declared.Verdict.{Verdict}
 use Rattle.table_checks.specs.declared.Verdict.the-variants.{Passed, Refused}
 use Rattle.table_checks.specs.Verdicts.{verdict}
@@ -29,7 +29,14 @@ use Rattle.lists.specs.Flat.{at, Cleared}
 use Rattle.lists.proofs.Search.{cleared-all}
 use Rattle.builder.specs.declared.Builder.{Builder}
 use Rattle.builder.specs.Builder.{first, Finished}
-use Rattle.saturate.specs.Rounds.{Closed}
+use Rattle.saturate.specs.Rounds.{Closed, FreeEnds}
+
+-- what derive asks for
+pub free-ends : (table roster : List ℕ) (w : Verdict) → verdict w ≡ checked (tableChecks rdfs false table roster) tt → w ≡ Passed → FreeEnds (triples table)
+free-ends table roster w e k t m =
+    let passes : Passes (tableChecks rdfs false table roster) = passed false table roster (subst (λ (z : Verdict). verdict z ≡ checked (tableChecks rdfs false table roster) tt) k e) in
+    let codes = in-codes rdfs roster (triples table) (passed-right false table roster passes) t m in
+    (codes .subject-free, codes .object-free)
 
 module _ (table roster l : List ℕ) where
   abbrev Answers : Counted → List ℕ → Type 0

@@ -20,14 +20,14 @@ use Rattle.model.specs.Saturation.{round}
 use Rattle.theory.proofs.Tests.{and-true, and-both, bool-cases}
 use Rattle.theory.proofs.Lists.{tabulate-mem, mem-tabulate, tabulate-at, length-tabulate}
 use Rattle.theory.proofs.Order.{lt-trans, lt-irrefl, lt-total, lt-before, same-refl, same-eq}
-use Rattle.theory.proofs.Saturated.{Drawn as DrawnBy, round-mem, round-keeps, round-rising}
+use Rattle.theory.proofs.Saturated.{Drawn as DrawnBy, round-mem, round-keeps}
 use Rattle.lists.specs.Flat.{at, RisingPart, Bound}
 use Rattle.lists.proofs.Compare.{Cmp, lt, eq, gt, cmp}
 use Rattle.lists.proofs.Places.{places-rising}
 use Rattle.builder.specs.declared.Builder.{Builder}
 use Rattle.builder.specs.Builder.{first, Built, State, Step}
 use Rattle.builder.proofs.Collecting.{opening, step-none, step-then}
-use Rattle.saturate.specs.Rounds.{noRule, keyOf, drives, firstOf, secondOf, Drawn, Ready, RoundStep, Concluded, DrawnPartners, DrawnRule, Rounded}
+use Rattle.saturate.specs.Rounds.{noRule, keyOf, drives, firstOf, secondOf, Drawn, Ready, RoundStep, Concluded, DrawnPartners, DrawnRule, Draws, Rounded}
 use Rattle.saturate.proofs.Premises.{Partner, partner, Driven, driven, fits-drives}
 
 -- ── the front of a triple ──
@@ -255,13 +255,13 @@ drivers-end l₀ l b s r i D h =
     }
 
 -- ── rules ──
-pub record Rules (l₀ l : List ℕ) (b s : Builder) (k : ℕ) : Type 0 where
+pub record Rules (l₀ l : List ℕ) (b s : Builder) (low k : ℕ) : Type 0 where
   pub going : s .full ≡ false
   pub step : RoundStep l₀ l b s
-  pub done : (j : ℕ) → j < k → (d t : Triple) → Mem d (first l₀ (b .base)) → Mem t (first l₀ (b .base)) → Concluded l s (getD rules j noRule) d t
+  pub done : (j : ℕ) → low ≤ j → j < k → (d t : Triple) → Mem d (first l₀ (b .base)) → Mem t (first l₀ (b .base)) → Concluded l s (getD rules j noRule) d t
 
-pub rules-start : (l : List ℕ) (count : ℕ) → 3 * count ≤ length l → RisingPart (at l) 0 count → Rules l l (opening count) (opening count) 0
-rules-start l count h R =
+pub rules-start : (l : List ℕ) (count low : ℕ) → 3 * count ≤ length l → RisingPart (at l) 0 count → Rules l l (opening count) (opening count) low low
+rules-start l count low h R =
     record {
       going = refl;
       step = step-none _ _ l (opening count)
@@ -278,7 +278,7 @@ rules-start l count h R =
             base-is = refl;
             inside = λ u m. round-keeps rdfs (first l count) u m;
           });
-      done = λ j x. absurd (omega arith);
+      done = λ j x y. absurd (omega arith);
     }
 
 rule-in : (rs : List Rule) (d : Rule) (k : ℕ) → k < length rs → Mem (getD rs k d) rs
@@ -290,44 +290,46 @@ rule-place : (rs : List Rule) (d r : Rule) → Mem r rs → (k : ℕ) × (k < le
 rule-place [] d r m = absurd (no-mem m)
 rule-place (q ∷ rs) d r m = ⊎-elim (λ e. (0, omega arith, e)) (λ n. let w = rule-place rs d r n in (suc (w .0), omega (arith, w .1), w .2)) (mem-cases m)
 
-pub rule-known : (k : ℕ) (r : Rule) → k < 6 → r ≡ getD rules k noRule → Mem r rules
-rule-known k r h e = subst (λ (z : Rule). Mem z rules) (sym e) (rule-in rules noRule k h)
+pub rule-known : (k high : ℕ) (r : Rule) → k < high → high ≤ 6 → r ≡ getD rules k noRule → Mem r rules
+rule-known k high r h u e = subst (λ (z : Rule). Mem z rules) (sym e) (rule-in rules noRule k (omega arith))
 
-module _ (l₀ l m : List ℕ) (b s c : Builder) (k : ℕ) (R : Rules l₀ l b s k) (r : Rule) (e : r ≡ getD rules k noRule) where
-  pub rules-next : DrawnRule l m s c r → c .full ≡ false → Rules l₀ m b c (k + 1)
+module _ (l₀ l m : List ℕ) (b s c : Builder) (low k : ℕ) (R : Rules l₀ l b s low k) (r : Rule) (e : r ≡ getD rules k noRule) where
+  pub rules-next : DrawnRule l m s c r → c .full ≡ false → Rules l₀ m b c low (k + 1)
   rules-next D f =
       record {
         going = f;
         step = step-on l₀ l m b s c (R .step) (R .going) (D .step);
-        done = λ j x d t y z w. go j x d t y z w (cmp j k);
+        done = λ j v x d t y z w. go j v x d t y z w (cmp j k);
       }
     where
       same-base : first l (s .base) ≡ first l₀ (b .base)
       same-base = R .step .goes-on (R .going) .base-is
 
-      go : (j : ℕ) → j < k + 1 → (d t : Triple) → Mem d (first l₀ (b .base)) → Mem t (first l₀ (b .base)) → fits rdfs (getD rules j noRule) (firstOf (getD rules j noRule) d t) (secondOf (getD rules j noRule) d t) ≡ true → Cmp j k
+      go : (j : ℕ) → low ≤ j → j < k + 1 → (d t : Triple) → Mem d (first l₀ (b .base)) → Mem t (first l₀ (b .base)) → fits rdfs (getD rules j noRule) (firstOf (getD rules j noRule) d t) (secondOf (getD rules j noRule) d t) ≡ true → Cmp j k
           → Mem (gives rdfs (getD rules j noRule) (firstOf (getD rules j noRule) d t) (secondOf (getD rules j noRule) d t)) (first m (c .filled))
-      go j x d t y z w (lt p) = D .step .keeps f _ (R .done j p d t y z w)
-      go j x d t y z w (eq p) =
+      go j v x d t y z w (lt p) = D .step .keeps f _ (R .done j v p d t y z w)
+      go j v x d t y z w (eq p) =
           let q : getD rules j noRule ≡ r = ap (λ (n : ℕ). getD rules n noRule) p ∙ sym e in
           subst (λ (u : Rule). Mem (gives rdfs u (firstOf u d t) (secondOf u d t)) (first m (c .filled))) (sym q)
           (D .drawn f d t (subst (Mem d) (sym same-base) y) (subst (Mem t) (sym same-base) z) (subst (λ (u : Rule). fits rdfs u (firstOf u d t) (secondOf u d t) ≡ true) q w))
-      go j x d t y z w (gt p) = absurd (omega arith)
+      go j v x d t y z w (gt p) = absurd (omega arith)
 
-  pub rules-full : (count : ℕ) → b ≡ opening count → DrawnRule l m s c r → c .full ≡ true → Rounded l₀ m count c
-  rules-full count eb D f =
+  pub rules-full : (count high : ℕ) → b ≡ opening count → DrawnRule l m s c r → c .full ≡ true → Rounded l₀ m count low high c
+  rules-full count high eb D f =
       let S = subst (λ (z : Builder). RoundStep l₀ m z c) eb (step-on l₀ l m b s c (R .step) (R .going) (D .step)) in
       record {
         size = S .size;
         built = λ g. absurd (true≢false (sym f ∙ g));
         base = λ g. absurd (true≢false (sym f ∙ g));
         base-count = λ g. absurd (true≢false (sym f ∙ g));
-        members = λ g. absurd (true≢false (sym f ∙ g));
+        keeps = λ g. absurd (true≢false (sym f ∙ g));
+        drawn = λ g. absurd (true≢false (sym f ∙ g));
+        inside = λ g. absurd (true≢false (sym f ∙ g));
         over = S .over;
       }
 
-pub rules-end : (l₀ l : List ℕ) (count : ℕ) (s : Builder) (k : ℕ) → Rules l₀ l (opening count) s k → 6 ≤ k → Rounded l₀ l count s
-rules-end l₀ l count s k R h =
+pub rules-end : (l₀ l : List ℕ) (count low high : ℕ) (s : Builder) (k : ℕ) → Rules l₀ l (opening count) s low k → high ≤ k → Rounded l₀ l count low high s
+rules-end l₀ l count low high s k R h =
     let S = R .step in
     let T = S .goes-on (R .going) in
     record {
@@ -335,20 +337,30 @@ rules-end l₀ l count s k R h =
       built = λ f. T .built;
       base = λ f. T .base-is;
       base-count = λ f. base-size l₀ l count (s .base) (T .base-is);
-      members = λ f u. (T .inside u, λ m. ⊎-elim (λ x. S .keeps (R .going) u x) (λ g. drawn u g) (round-mem rdfs (first l₀ count) u m));
+      keeps = λ f u m. S .keeps (R .going) u m;
+      drawn = λ f. drawn;
+      inside = λ f. T .inside;
       over = S .over;
     }
   where
-    drawn : (u : Triple) → DrawnBy rdfs (first l₀ count) u → Mem u (first l (s .filled))
-    drawn u g =
+    both : (a b d o : Triple) → ((d ≡ b) × (o ≡ a)) ⊎ ((d ≡ a) × (o ≡ b)) → Mem a (first l₀ count) → Mem b (first l₀ count) → Mem d (first l₀ count) × Mem o (first l₀ count)
+    both a b d o (inl (p, q)) x y = (subst (λ (z : Triple). Mem z (first l₀ count)) (sym p) y, subst (λ (z : Triple). Mem z (first l₀ count)) (sym q) x)
+    both a b d o (inr (p, q)) x y = (subst (λ (z : Triple). Mem z (first l₀ count)) (sym p) x, subst (λ (z : Triple). Mem z (first l₀ count)) (sym q) y)
+
+    drawn : Draws low high (first l₀ count) (first l (s .filled))
+    drawn j x y a b m n fit =
+        let r = getD rules j noRule in
+        let q = driven r a b in
+        let w = both a b (q .driver) (q .other) (q .which) m n in
+        subst (λ (z : Triple). Mem z (first l (s .filled))) (λ i. gives rdfs r (q .first i) (q .second i))
+        (R .done j x (omega arith) (q .driver) (q .other) (w .0) (w .1) ((λ i. fits rdfs r (q .first i) (q .second i)) ∙ fit))
+
+-- a round with all rules holds all that the definition's round gives
+pub all-rules : (l l′ : List ℕ) (count : ℕ) (c : Builder) → Rounded l l′ count 0 6 c → c .full ≡ false → (u : Triple) → Mem u (round rdfs (first l count)) → Mem u (first l′ (c .filled))
+all-rules l l′ count c R f u m = ⊎-elim (λ x. R .keeps f u x) (λ g. drawn g) (round-mem rdfs (first l count) u m)
+  where
+    drawn : DrawnBy rdfs (first l count) u → Mem u (first l′ (c .filled))
+    drawn g =
         let w = rule-place rules noRule (g .rule-of) (g .in-table) in
-        let q = driven (getD rules (w .0) noRule) (g .first) (g .second) in
-        let x = both (g .first) (g .second) (q .driver) (q .other) (q .which) (g .first-in) (g .second-in) in
-        let fit : fits rdfs (getD rules (w .0) noRule) (firstOf (getD rules (w .0) noRule) (q .driver) (q .other)) (secondOf (getD rules (w .0) noRule) (q .driver) (q .other)) ≡ true =
-        (λ i. fits rdfs (sym (w .2) i) (q .first i) (q .second i)) ∙ g .fitting in
-        subst (λ (z : Triple). Mem z (first l (s .filled))) ((λ i. gives rdfs (sym (w .2) i) (q .first i) (q .second i)) ∙ sym (g .gives-it))
-        (R .done (w .0) (omega (arith, w .1)) (q .driver) (q .other) (x .0) (x .1) fit)
-      where
-        both : (a b d o : Triple) → ((d ≡ b) × (o ≡ a)) ⊎ ((d ≡ a) × (o ≡ b)) → Mem a (first l₀ count) → Mem b (first l₀ count) → Mem d (first l₀ count) × Mem o (first l₀ count)
-        both a b d o (inl (p, q)) x y = (subst (λ (z : Triple). Mem z (first l₀ count)) (sym p) y, subst (λ (z : Triple). Mem z (first l₀ count)) (sym q) x)
-        both a b d o (inr (p, q)) x y = (subst (λ (z : Triple). Mem z (first l₀ count)) (sym p) x, subst (λ (z : Triple). Mem z (first l₀ count)) (sym q) y)
+        subst (λ (z : Triple). Mem z (first l′ (c .filled))) ((λ i. gives rdfs (sym (w .2) i) (g .first) (g .second)) ∙ sym (g .gives-it))
+        (R .drawn f (w .0) (omega arith) (w .1) (g .first) (g .second) (g .first-in) (g .second-in) ((λ i. fits rdfs (sym (w .2) i) (g .first) (g .second)) ∙ g .fitting))

@@ -1,6 +1,7 @@
-// Saturation: rounds over the constant rule table. A round draws conclusions only from the list as it stood when the round began.
+// Saturation over the constant rule table: rounds over the schema triples, then one pass with each of the other rules. A round draws
+// conclusions only from the list as it stood when the round began.
 
-ghost use mathlib.Core.Bool.{_&&_, _||_};
+ghost use mathlib.Core.Bool.{true, false, _&&_, _||_};
 ghost use mathlib.Core.List.{List·Memᴰ as Mem};
 ghost use mathlib.Core.Path.{_≡_};
 ghost use Prim.Native.Nat.{_+_, _*_, _/_, _<_, _≤_};
@@ -12,8 +13,8 @@ ghost use Rattle.model.specs.Rules.{rules, place, fits, gives};
 ghost use Rattle.model.specs.Outcomes.{counted};
 ghost use Rattle.model.specs.Calls.{saturateOutcome, saturateLeaves};
 ghost use Rattle.lists.specs.Flat.{at, RisingPart};
-ghost use Rattle.builder.specs.Builder.{first, Built, Collected};
-ghost use Rattle.saturate.specs.Rounds.{noRule, keyOf, drives, firstOf, secondOf, Ready, Drawn, DrawnPartners, DrawnRule, Rounded, Closed};
+ghost use Rattle.builder.specs.Builder.{first, Built};
+ghost use Rattle.saturate.specs.Rounds.{noRule, keyOf, drives, firstOf, secondOf, Ready, Drawn, DrawnPartners, DrawnRule, Rounded, Closed, schema, chosen, part, OfferedIf, Added, Swept, FreeEnds, Stratified};
 use builder::Builder;
 use builder::finish;
 use builder::offer;
@@ -211,10 +212,10 @@ fn draw_rule(list: &mut [u32], b: Builder, r: Rule) -> Builder
     state
 }
 
-// One round: all conclusions of all rules from the first `count` triples, which are in rising order.
-fn round(list: &mut [u32], count: usize) -> Builder
-    requires { ⌜ (3 * count ≤ length (now list)) × RisingPart (at (now list)) 0 count ⌝ }
-    ensures { λ x. ⌜ Rounded (now (list .entry)) (now (list .exit)) count x ⌝ }
+// One round: all conclusions of the rules at the table's places low..high from the first `count` triples, which are in rising order.
+fn round(list: &mut [u32], count: usize, low: usize, high: usize) -> Builder
+    requires { ⌜ (3 * count ≤ length (now list)) × RisingPart (at (now list)) 0 count × (high ≤ 6) ⌝ }
+    ensures { λ x. ⌜ Rounded (now (list .entry)) (now (list .exit)) count low high x ⌝ }
 {
     let mut state = Builder {
         base: count,
@@ -222,8 +223,8 @@ fn round(list: &mut [u32], count: usize) -> Builder
         filled: count,
         full: false,
     };
-    let mut k = 0;
-    while k < 6 {
+    let mut k = low;
+    while k < high {
         let r = rule_at(k);
         state = draw_rule(list, state, r);
         if state.full {
@@ -234,21 +235,54 @@ fn round(list: &mut [u32], count: usize) -> Builder
     state
 }
 
-// The table's triples, each at least once, or the builder is full.
-fn load(table: &[u32], list: &mut [u32]) -> Builder
-    ensures { λ x. ⌜ Collected (at (now (table .entry))) (length (now (table .entry)) / 3) (now (list .entry)) (now (list .exit)) x ⌝ }
+// Whether a triple is a schema triple.
+fn is_schema(t: Triple) -> bool
+    ensures { λ r. ⌜ r ≡ schema t ⌝ }
+{
+    let kind = Code(t.property).kind();
+    if kind == Code::TYPE {
+        return false;
+    }
+    kind < Code::DATA
+}
+
+// Whether a triple is a schema triple where these are wanted, or another where those are.
+fn is_chosen(t: Triple, schemas: bool) -> bool
+    ensures { λ r. ⌜ r ≡ chosen schemas t ⌝ }
+{
+    if is_schema(t) {
+        return schemas;
+    }
+    !schemas
+}
+
+// Offers a triple, where it is chosen.
+fn offer_chosen(list: &mut [u32], b: Builder, t: Triple, schemas: bool) -> Builder
+    requires { ⌜ Built (now list) b ⌝ }
+    ensures { λ x. ⌜ OfferedIf (chosen schemas t) (now (list .entry)) (now (list .exit)) b x t ⌝ }
+{
+    if is_chosen(t, schemas) {
+        return offer(list, b, t);
+    }
+    b
+}
+
+// The table's schema triples, or its others, behind the first `count` triples, which are in rising order; or the builder is full.
+fn load(table: &[u32], list: &mut [u32], count: usize, schemas: bool) -> Builder
+    requires { ⌜ (3 * count ≤ length (now list)) × RisingPart (at (now list)) 0 count ⌝ }
+    ensures { λ x. ⌜ Added schemas (triples (now (table .entry))) (now (list .entry)) (now (list .exit)) count x ⌝ }
 {
     let n = table.len() / 3;
     let mut state = Builder {
-        base: 0,
-        sorted: 0,
-        filled: 0,
+        base: count,
+        sorted: count,
+        filled: count,
         full: false,
     };
     let mut i = 0;
     while i < n {
         let t = triple_at(table, i);
-        state = offer(list, state, t);
+        state = offer_chosen(list, state, t, schemas);
         if state.full {
             return state;
         }
@@ -270,7 +304,7 @@ fn close(list: &mut [u32], filled: usize) -> Builder
     };
     while state.base < state.filled {
         let count = sort_distinct(list, 0, state.filled);
-        state = round(list, count);
+        state = round(list, count, 0, 6);
         if state.full {
             return state;
         }
@@ -278,15 +312,66 @@ fn close(list: &mut [u32], filled: usize) -> Builder
     state
 }
 
-// All that the rules derive from the table, in any order, or the builder is full.
-fn derive(table: &[u32], list: &mut [u32]) -> Builder
-    ensures { λ x. ⌜ Closed (λ t. Mem t (triples (now (table .entry)))) (now (list .entry)) (now (list .exit)) x ⌝ }
+// All that the rules derive from the table's schema triples, or the builder is full.
+fn derive_schema(table: &[u32], list: &mut [u32]) -> Builder
+    ensures { λ x. ⌜ Closed (λ t. Mem t (part true (triples (now (table .entry))))) (now (list .entry)) (now (list .exit)) x ⌝ }
 {
-    let loaded = load(table, list);
+    let loaded = load(table, list, 0, true);
     if loaded.full {
         return loaded;
     }
     close(list, loaded.filled)
+}
+
+// The table's other triples behind the first `filled`, or the builder is full.
+fn add_others(table: &[u32], list: &mut [u32], filled: usize) -> Builder
+    requires { ⌜ 3 * filled ≤ length (now list) ⌝ }
+    ensures { λ x. ⌜ Added false (triples (now (table .entry))) (now (list .entry)) (now (list .exit)) filled x ⌝ }
+{
+    let count = sort_distinct(list, 0, filled);
+    load(table, list, count, false)
+}
+
+// One pass with the rules at the table's places low..high over the first `filled` triples.
+fn pass(list: &mut [u32], filled: usize, low: usize, high: usize) -> Builder
+    requires { ⌜ (3 * filled ≤ length (now list)) × (high ≤ 6) ⌝ }
+    ensures { λ x. ⌜ Swept (now (list .entry)) (now (list .exit)) filled low high x ⌝ }
+{
+    let count = sort_distinct(list, 0, filled);
+    round(list, count, low, high)
+}
+
+// The rules that give no schema triple, each once: rule 4, which gives data triples, then 1 and 2, which give type triples of these, then 5.
+fn draw_strata(list: &mut [u32], filled: usize) -> Builder
+    requires { ⌜ 3 * filled ≤ length (now list) ⌝ }
+    ensures { λ x. ⌜ Stratified (now (list .entry)) (now (list .exit)) filled x ⌝ }
+{
+    let renamed = pass(list, filled, 3, 4);
+    if renamed.full {
+        return renamed;
+    }
+    let typed = pass(list, renamed.filled, 0, 2);
+    if typed.full {
+        return typed;
+    }
+    pass(list, typed.filled, 4, 5)
+}
+
+// All that the rules derive from the table, in any order, or the builder is full. The schema triples are closed first: no other triple
+// gives one.
+fn derive(table: &[u32], list: &mut [u32]) -> Builder
+    requires { ⌜ FreeEnds (triples (now table)) ⌝ }
+    ensures { λ x. ⌜ Closed (λ t. Mem t (triples (now (table .entry)))) (now (list .entry)) (now (list .exit)) x ⌝ }
+{
+    let schema = derive_schema(table, list);
+    if schema.full {
+        return schema;
+    }
+    let loaded = add_others(table, list, schema.filled);
+    if loaded.full {
+        return loaded;
+    }
+    draw_strata(list, loaded.filled)
 }
 
 // Saturates a table into the result: 01's "saturate".

@@ -6,6 +6,7 @@ pub mod Checks
 pub mod Covered
 pub mod RuleLaws
 pub mod Saturated
+pub mod Strata
 pub mod Weak
 pub mod Images
 pub mod Quotient

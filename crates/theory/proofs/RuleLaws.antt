@@ -51,10 +51,10 @@ module _ (v : Vocabulary) (roster : List ℕ) where
     pub back : (f : ℕ → ℕ) (a b : Triple) → Covered roster v b → Fixes f b → fits v r a (moved f b) ≡ true → fits v r a b ≡ true
 
   -- ── the premises' kinds and the join, for each second kind ──
-  any-parts : (a b : Triple) (k : ℕ) → (eqb (kind v (a .property)) k && eqb (a .subject) (b .property)) ≡ true → (kind v (a .property) ≡ k) × (a .subject ≡ b .property)
+  pub any-parts : (a b : Triple) (k : ℕ) → (eqb (kind v (a .property)) k && eqb (a .subject) (b .property)) ≡ true → (kind v (a .property) ≡ k) × (a .subject ≡ b .property)
   any-parts a b k h = let s = and-true (eqb (kind v (a .property)) k) _ h in (eqb-true _ _ (s .0), eqb-true _ _ (s .1))
 
-  both-parts : (a b : Triple) (k l x y : ℕ) → (eqb (kind v (a .property)) k && (eqb (kind v (b .property)) l && eqb x y)) ≡ true
+  pub both-parts : (a b : Triple) (k l x y : ℕ) → (eqb (kind v (a .property)) k && (eqb (kind v (b .property)) l && eqb x y)) ≡ true
       → (kind v (a .property) ≡ k) × (kind v (b .property) ≡ l) × (x ≡ y)
   both-parts a b k l x y h =
       let s = and-true (eqb (kind v (a .property)) k) _ h in
@@ -161,24 +161,24 @@ module _ (v : Vocabulary) (roster : List ℕ) where
     is-domain : Schema 3
     is-range : Schema 4
 
-  schema-bounds : {k : ℕ} → Schema k → (1 ≤ k) × (k ≤ 4)
+  pub schema-bounds : {k : ℕ} → Schema k → (1 ≤ k) × (k ≤ 4)
   schema-bounds is-subclass = (omega arith, omega arith)
   schema-bounds is-subproperty = (omega arith, omega arith)
   schema-bounds is-domain = (omega arith, omega arith)
   schema-bounds is-range = (omega arith, omega arith)
 
   -- the test of a rule whose second kind is a schema kind
-  abbrev chainFits : ℕ → ℕ → Triple → Triple → Bool
+  abbrev pub chainFits : ℕ → ℕ → Triple → Triple → Bool
   chainFits k l a b = eqb (kind v (a .property)) k && (eqb (kind v (b .property)) l && eqb (a .object) (b .subject))
 
-  chain-fits : (k l p : ℕ) → Schema l → (a b : Triple) → fits v (rule k l 2 3 0 p 5) a b ≡ chainFits k l a b
+  pub chain-fits : (k l p : ℕ) → Schema l → (a b : Triple) → fits v (rule k l 2 3 0 p 5) a b ≡ chainFits k l a b
   unfolding fits place
   chain-fits k l p is-subclass a b = refl
   chain-fits k l p is-subproperty a b = refl
   chain-fits k l p is-domain a b = refl
   chain-fits k l p is-range a b = refl
 
-  chain-kind : {k l p m : ℕ} → PropertyPlace k l p m → (a b : Triple) → kind v (a .property) ≡ k → kind v (b .property) ≡ l → kind v (place v a b p) ≡ m
+  pub chain-kind : {k l p m : ℕ} → PropertyPlace k l p m → (a b : Triple) → kind v (a .property) ≡ k → kind v (b .property) ≡ l → kind v (place v a b p) ≡ m
   unfolding place
   chain-kind of-first a b e f = e
   chain-kind of-second a b e f = f

@@ -25,7 +25,7 @@ sort-distinct-requires : tie.Need-sort-distinct-requires Inv-loop μ-loop
 sort-distinct-requires c κs = (omega arith, c .before .before .before .loop .inv .room)
 
 round-requires : tie.Need-round-requires Inv-loop μ-loop
-round-requires c κs = round-ready _ _ _ _ _ _ (c .before .before .before .before .before .before .before .loop .inv) (c .before .before .before .sort-distinct .ensures)
+round-requires c κs = let r = round-ready _ _ _ _ _ _ (c .before .before .before .before .before .before .before .loop .inv) (c .before .before .before .sort-distinct .ensures) in (r .0, r .1, omega arith)
 
 same-length : tie.Need-same-length Inv-loop μ-loop
 same-length c = search needs

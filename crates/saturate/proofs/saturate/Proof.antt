@@ -1,4 +1,4 @@
-use Rattle.saturate.proofs.Answers.{answer-refused, answer-slots, answer-count}
+use Rattle.saturate.proofs.Answers.{free-ends, answer-refused, answer-slots, answer-count}
 use borrow.Author.Needs.{needs}
 use Rattle.saturate.proofs.saturate.Statement.{statement}
 use Rattle.saturate.proofs.saturate.Tie as tie
@@ -19,7 +19,7 @@ enum-told : tie.Need-enum-told
 enum-told c = search needs
 
 derive-requires : tie.Need-derive-requires
-derive-requires c κs = search needs
+derive-requires c κs = free-ends _ _ _ (c .before .before .before .table-refusal .ensures) (c .before .enum-told .given .1)
 
 clear-requires : tie.Need-clear-requires
 clear-requires c κs = search needs

@@ -1,0 +1,281 @@
+-- The rules in strata. Where no reserved code is subject or object, the rules derive schema triples from schema triples alone. So it is
+-- enough to close the schema triples, to add the others, and then to make one pass each with the rule that renames (4), with the rules
+-- that type an end (1, 2), and with the rule that retypes (5): `strata`.
+-- Assumes nothing.
+use Prim.Native.Nat.{ℕ, zero, suc, _≤_}
+use mathlib.Core.Path.{_≡_, refl, sym, subst, _∙_, ap}
+use mathlib.Core.Logic.{_⊎_, inl, inr, ⊎-elim, _↔_}
+use mathlib.Core.Bool.{true}
+use mathlib.Core.List.{List, [], _∷_, List·Memᴰ as Mem, List·Memᴰ·head as here, List·Memᴰ·tail as there}
+use native.Mathlib.Omega.{arith}
+use lib.Dec.{eqb, ltb}
+use borrow.Author.Tests.{eq-eqb, ltb-true, ltb-false}
+use Rattle.model.specs.declared.Rule.{Rule}
+use Rattle.model.specs.declared.Triple.{Triple}
+use Rattle.model.specs.Codes.{Vocabulary, kind}
+use Rattle.model.specs.Triples.{triple}
+use Rattle.model.specs.Rules.{rule, rules, place, fits, gives, Derives, given, by-rule}
+use Rattle.model.specs.Cliques.{Graph}
+use Rattle.theory.proofs.Tests.{and-both, bool-cases}
+use Rattle.theory.proofs.Covered.{kind-type}
+use Rattle.theory.proofs.RuleLaws.{EndOf, first-subject, first-object, second-subject, second-object, EndPlace, at-subject, at-object, PropertyPlace, of-first, Schema, is-subclass, is-subproperty, is-domain, is-range, schema-bounds, any-parts, both-parts, chain-fits, chain-kind, All, none, more, all-in, laws}
+use Rattle.theory.proofs.Saturated.{derives-cut}
+
+-- the rules of each pass
+abbrev pub renaming : List Rule
+renaming = rule 2 5 0 4 3 2 5 ∷ []
+
+abbrev pub typing : List Rule
+typing = rule 3 5 0 4 3 6 2 ∷ rule 4 5 0 4 5 6 2 ∷ []
+
+abbrev pub retyping : List Rule
+retyping = rule 1 0 0 5 3 4 2 ∷ []
+
+module _ (v : Vocabulary) where
+  -- 01: reserved codes "stand only in the property place"
+  abbrev pub Free : Triple → Type 0
+  Free t = (5 ≤ kind v (t .subject)) × (5 ≤ kind v (t .object))
+
+  abbrev pub IsSchema : Triple → Type 0
+  IsSchema t = (1 ≤ kind v (t .property)) × (kind v (t .property) ≤ 4)
+
+  -- ── the level of a rule: what it takes and what it gives ──
+  data Level (r : Rule) (a b : Triple) : Type 0 where
+    schemas : IsSchema a → IsSchema b → IsSchema (gives v r a b) → Level r a b
+    renames : kind v (a .property) ≡ 2 → a .subject ≡ b .property → gives v r a b ≡ triple (b .subject) (a .object) (b .object) → Level r a b
+    types : Mem r typing → IsSchema a → a .subject ≡ b .property → kind v (gives v r a b .property) ≡ 0 → Level r a b
+    retypes : kind v (a .property) ≡ 1 → kind v (b .property) ≡ 0 → a .subject ≡ b .object → gives v r a b ≡ triple (b .subject) (b .property) (a .object) → Level r a b
+
+  abbrev Levelled : Rule → Type 0
+  Levelled r = (a b : Triple) → fits v r a b ≡ true → Level r a b
+
+  schema-of : {k : ℕ} (p : ℕ) → Schema v [] k → kind v p ≡ k → (1 ≤ kind v p) × (kind v p ≤ 4)
+  schema-of p s e = let u = schema-bounds v [] s in (omega arith, omega arith)
+
+  end-typed : (k e : ℕ) → EndPlace v [] e → Schema v [] k → Mem (rule k 5 0 4 e 6 2) typing → Levelled (rule k 5 0 4 e 6 2)
+  unfolding fits gives place
+  end-typed k e at-subject s m a b h = let w = any-parts v [] a b k h in types m (schema-of (a .property) s (w .0)) (w .1) (kind-type v)
+  end-typed k e at-object s m a b h = let w = any-parts v [] a b k h in types m (schema-of (a .property) s (w .0)) (w .1) (kind-type v)
+
+  chained : (k l p m : ℕ) → Schema v [] k → Schema v [] l → Schema v [] m → PropertyPlace v [] k l p m → Levelled (rule k l 2 3 0 p 5)
+  unfolding gives
+  chained k l p m sk sl sm pl a b h =
+      let w = both-parts v [] a b k l (a .object) (b .subject) (sym (chain-fits v [] k l p sl a b) ∙ h) in
+      schemas (schema-of (a .property) sk (w .0)) (schema-of (b .property) sl (w .1)) (schema-of (place v a b p) sm (chain-kind v [] pl a b (w .0) (w .1)))
+
+  renamed : Levelled (rule 2 5 0 4 3 2 5)
+  unfolding fits gives place
+  renamed a b h = let w = any-parts v [] a b 2 h in renames (w .0) (w .1) refl
+
+  retyped : Levelled (rule 1 0 0 5 3 4 2)
+  unfolding fits gives place
+  retyped a b h = let w = both-parts v [] a b 1 0 (a .subject) (b .object) h in retypes (w .0) (w .1) (w .2) refl
+
+  levels : All v [] Levelled rules
+  levels =
+      more (end-typed 3 3 at-subject is-domain (here refl))
+      (more (end-typed 4 5 at-object is-range (there (here refl)))
+      (more (chained 2 2 1 2 is-subproperty is-subproperty is-subproperty of-first)
+      (more renamed
+      (more retyped
+      (more (chained 1 1 1 1 is-subclass is-subclass is-subclass of-first) none)))))
+
+  level : (r : Rule) → Mem r rules → Levelled r
+  level r m = all-in v [] levels r m
+
+  -- the two kinds that chain with themselves
+  data Chain : ℕ → Type 0 where
+    subclasses : Chain 1
+    subproperties : Chain 2
+
+  chain-in : {k : ℕ} → Chain k → Mem (rule k k 2 3 0 1 5) rules
+  chain-in subclasses = there (there (there (there (there (here refl)))))
+  chain-in subproperties = there (there (here refl))
+
+  chain-whole : {k : ℕ} → Chain k → (a b : Triple) → kind v (a .property) ≡ k → kind v (b .property) ≡ k → a .object ≡ b .subject → fits v (rule k k 2 3 0 1 5) a b ≡ true
+  unfolding fits place
+  chain-whole subclasses a b e f g = and-both (eqb (kind v (a .property)) 1) _ (eq-eqb _ _ e) (and-both (eqb (kind v (b .property)) 1) _ (eq-eqb _ _ f) (eq-eqb _ _ g))
+  chain-whole subproperties a b e f g = and-both (eqb (kind v (a .property)) 2) _ (eq-eqb _ _ e) (and-both (eqb (kind v (b .property)) 2) _ (eq-eqb _ _ f) (eq-eqb _ _ g))
+
+  chain-gives : (k : ℕ) (a b : Triple) → gives v (rule k k 2 3 0 1 5) a b ≡ triple (a .subject) (a .property) (b .object)
+  unfolding gives place
+  chain-gives k a b = refl
+
+  rename-whole : (a b : Triple) → kind v (a .property) ≡ 2 → a .subject ≡ b .property → fits v (rule 2 5 0 4 3 2 5) a b ≡ true
+  unfolding fits place
+  rename-whole a b e f = and-both (eqb (kind v (a .property)) 2) _ (eq-eqb _ _ e) (eq-eqb _ _ f)
+
+  rename-gives : (a b : Triple) → gives v (rule 2 5 0 4 3 2 5) a b ≡ triple (b .subject) (a .object) (b .object)
+  unfolding gives place
+  rename-gives a b = refl
+
+  retype-whole : (a b : Triple) → kind v (a .property) ≡ 1 → kind v (b .property) ≡ 0 → a .subject ≡ b .object → fits v (rule 1 0 0 5 3 4 2) a b ≡ true
+  unfolding fits place
+  retype-whole a b e f g = and-both (eqb (kind v (a .property)) 1) _ (eq-eqb _ _ e) (and-both (eqb (kind v (b .property)) 0) _ (eq-eqb _ _ f) (eq-eqb _ _ g))
+
+  retype-gives : (a b : Triple) → gives v (rule 1 0 0 5 3 4 2) a b ≡ triple (b .subject) (b .property) (a .object)
+  unfolding gives place
+  retype-gives a b = refl
+
+  -- ── a pass ──
+  -- what a pass with some rules leaves: what was there, their conclusions from it, and nothing that is not derived from it
+  pub record Passed (rs : List Rule) (X Y : Graph) : Type 0 where
+    pub keeps : (t : Triple) → X t → Y t
+    pub draws : (r : Rule) → Mem r rs → (a b : Triple) → X a → X b → fits v r a b ≡ true → Y (gives v r a b)
+    pub derived : (t : Triple) → Y t → Derives v X t
+
+  -- the schema triples of a graph
+  abbrev pub SchemaOf : Graph → Graph
+  SchemaOf G t = G t × IsSchema t
+
+  module _ (G : Graph) (free : (t : Triple) → G t → Free t) where
+    abbrev S : Graph
+    S = Derives v (SchemaOf G)
+
+    -- ── no reserved code comes to an end ──
+    end-free : {a b : Triple} {n : ℕ} → Free a → Free b → EndOf v [] a b n → 5 ≤ kind v n
+    end-free x y (first-subject e) = subst (λ (z : ℕ). 5 ≤ kind v z) (sym e) (x .0)
+    end-free x y (first-object e) = subst (λ (z : ℕ). 5 ≤ kind v z) (sym e) (x .1)
+    end-free x y (second-subject e) = subst (λ (z : ℕ). 5 ≤ kind v z) (sym e) (y .0)
+    end-free x y (second-object e) = subst (λ (z : ℕ). 5 ≤ kind v z) (sym e) (y .1)
+
+    derives-free : {t : Triple} → Derives v G t → Free t
+    derives-free (given {t} x) = free t x
+    derives-free (by-rule r a b k e g x y) =
+        subst Free (sym g) (end-free (derives-free x) (derives-free y) ((laws v [] r k) .subject-end a b), end-free (derives-free x) (derives-free y) ((laws v [] r k) .object-end a b))
+
+    -- ── schema triples come from schema triples ──
+    schema-in : {t : Triple} → Derives v G t → IsSchema t → S t
+    schema-in (given x) h = given (x, h)
+    schema-in {t} (by-rule r a b k e g x y) h = go (level r k a b e) (λ p. schema-in x p) (λ p. schema-in y p) (derives-free x) (subst IsSchema g h)
+      where
+        go : Level r a b → (IsSchema a → S a) → (IsSchema b → S b) → Free a → IsSchema (gives v r a b) → S t
+        go (schemas p q w) i j f s = by-rule r a b k e g (i p) (j q)
+        go (renames p q w) i j f s = absurd (omega (arith, f .1, (subst IsSchema w s) .1))
+        go (types m p q w) i j f s = absurd (omega (arith, s .0))
+        go (retypes p q u w) i j f s = absurd (omega (arith, (subst IsSchema w s) .0))
+
+    -- ── data triples are given ones, renamed at most once ──
+    -- p is q, or a schema triple of the kind k leads from p to q
+    data Up (k p q : ℕ) : Type 0 where
+      stays : p ≡ q → Up k p q
+      leads : (a : Triple) → S a → kind v (a .property) ≡ k → a .subject ≡ p → a .object ≡ q → Up k p q
+
+    climb : {k p q : ℕ} → Chain k → Up k p q → (a : Triple) → S a → kind v (a .property) ≡ k → a .subject ≡ q → Up k p (a .object)
+    climb ch (stays e) a s h f = leads a s h (f ∙ sym e) refl
+    climb {k} {p} ch (leads b z i e e′) a s h f = joined (gives v (rule k k 2 3 0 1 5) b a) refl
+      where
+        joined : (c : Triple) → c ≡ gives v (rule k k 2 3 0 1 5) b a → Up k p (a .object)
+        joined c j =
+            let w = j ∙ chain-gives k b a in
+            leads c (by-rule (rule k k 2 3 0 1 5) b a (chain-in ch) (chain-whole ch b a i h (e′ ∙ sym f)) j z s) (ap (λ (t : Triple). kind v (t .property)) w ∙ i)
+            (ap (λ (t : Triple). t .subject) w ∙ e) (ap (λ (t : Triple). t .object) w)
+
+    record Renamed (t : Triple) : Type 0 where
+      from : Triple
+      held : G from
+      up : Up 2 (from .property) (t .property)
+      is : t ≡ triple (from .subject) (t .property) (from .object)
+
+    data-in : {t : Triple} → Derives v G t → 5 ≤ kind v (t .property) → Renamed t
+    data-in (given {t} x) h = record { from = t; held = x; up = stays refl; is = refl }
+    data-in {t} (by-rule r a b k e g x y) h = go (level r k a b e) (λ p. data-in y p) (derives-free x) (subst (λ (z : Triple). 5 ≤ kind v (z .property)) g h)
+      where
+        go : Level r a b → (5 ≤ kind v (b .property) → Renamed b) → Free a → 5 ≤ kind v (gives v r a b .property) → Renamed t
+        go (schemas p q w) i f d = absurd (omega (arith, w .1))
+        go (types m p q w) i f d = absurd (omega arith)
+        go (retypes p q u w) i f d = absurd (omega (arith, subst (λ (z : Triple). 5 ≤ kind v (z .property)) w d))
+        go (renames p q w) i f d =
+            let R = i (subst (λ (z : ℕ). 5 ≤ kind v z) q (f .0)) in
+            subst Renamed (sym (g ∙ w))
+            (record {
+              from = R .from;
+              held = R .held;
+              up = climb subproperties (R .up) a (schema-in x (schema-of (a .property) is-subproperty p)) p q;
+              is = λ n. triple (R .is n .subject) (a .object) (R .is n .object);
+            })
+
+    -- ── type triples are given or typed ends, retyped at most once ──
+    record Typed (t : Triple) : Type 0 where
+      rule-of : Rule
+      first : Triple
+      second : Triple
+      in-typing : Mem rule-of typing
+      first-in : S first
+      second-in : Renamed second
+      fitting : fits v rule-of first second ≡ true
+      gives-it : t ≡ gives v rule-of first second
+
+    record Retyped (t : Triple) : Type 0 where
+      from : Triple
+      held : G from ⊎ Typed from
+      type : kind v (from .property) ≡ 0
+      up : Up 1 (from .object) (t .object)
+      is : t ≡ triple (from .subject) (from .property) (t .object)
+
+    type-in : {t : Triple} → Derives v G t → kind v (t .property) ≡ 0 → Retyped t
+    type-in (given {t} x) h = record { from = t; held = inl x; type = h; up = stays refl; is = refl }
+    type-in {t} (by-rule r a b k e g x y) h = go (level r k a b e) (λ p. type-in y p) (derives-free x) (subst (λ (z : Triple). kind v (z .property) ≡ 0) g h)
+      where
+        go : Level r a b → (kind v (b .property) ≡ 0 → Retyped b) → Free a → kind v (gives v r a b .property) ≡ 0 → Retyped t
+        go (schemas p q w) i f d = absurd (omega (arith, w .0))
+        go (renames p q w) i f d = absurd (omega (arith, f .1, subst (λ (z : Triple). kind v (z .property) ≡ 0) w d))
+        go (types m p q w) i f d =
+            let D = data-in y (subst (λ (z : ℕ). 5 ≤ kind v z) q (f .0)) in
+            let T : Typed t = record { rule-of = r; first = a; second = b; in-typing = m; first-in = schema-in x p; second-in = D; fitting = e; gives-it = g } in
+            record { from = t; held = inr T; type = h; up = stays refl; is = refl }
+        go (retypes p q u w) i f d =
+            let R = i q in
+            subst Retyped (sym (g ∙ w))
+            (record {
+              from = R .from;
+              held = R .held;
+              type = R .type;
+              up = climb subclasses (R .up) a (schema-in x (schema-of (a .property) is-subclass p)) p u;
+              is = λ n. triple (R .is n .subject) (R .is n .property) (a .object);
+            })
+
+    -- ── the strata ──
+    module _ (X₀ X₁ X₂ X₃ : Graph) (schema : (t : Triple) → S t → X₀ t) (rest : (t : Triple) → G t → X₀ t) (inside : (t : Triple) → X₀ t → Derives v G t)
+        (P₁ : Passed renaming X₀ X₁) (P₂ : Passed typing X₁ X₂) (P₃ : Passed retyping X₂ X₃) where
+      has-data : {t : Triple} → Renamed t → X₁ t
+      has-data {t} R = go (R .up)
+        where
+          go : Up 2 (R .from .property) (t .property) → X₁ t
+          go (stays e) = subst X₁ (sym (R .is ∙ (λ i. triple (R .from .subject) (sym e i) (R .from .object)))) (P₁ .keeps (R .from) (rest (R .from) (R .held)))
+          go (leads a s h e f) =
+              subst X₁ (rename-gives a (R .from) ∙ (λ i. triple (R .from .subject) (f i) (R .from .object)) ∙ sym (R .is))
+              (P₁ .draws _ (here refl) a (R .from) (schema a s) (rest (R .from) (R .held)) (rename-whole a (R .from) h e))
+
+      has-typed : {t : Triple} → G t ⊎ Typed t → X₂ t
+      has-typed {t} (inl x) = P₂ .keeps t (P₁ .keeps t (rest t x))
+      has-typed (inr T) =
+          subst X₂ (sym (T .gives-it)) (P₂ .draws (T .rule-of) (T .in-typing) (T .first) (T .second) (P₁ .keeps (T .first) (schema (T .first) (T .first-in))) (has-data (T .second-in)) (T .fitting))
+
+      has-type : {t : Triple} → Retyped t → X₃ t
+      has-type {t} R = go (R .up)
+        where
+          go : Up 1 (R .from .object) (t .object) → X₃ t
+          go (stays e) = subst X₃ (sym (R .is ∙ (λ i. triple (R .from .subject) (R .from .property) (sym e i)))) (P₃ .keeps (R .from) (has-typed (R .held)))
+          go (leads a s h e f) =
+              subst X₃ (retype-gives a (R .from) ∙ (λ i. triple (R .from .subject) (R .from .property) (f i)) ∙ sym (R .is))
+              (P₃ .draws _ (here refl) a (R .from) (P₂ .keeps a (P₁ .keeps a (schema a s))) (has-typed (R .held)) (retype-whole a (R .from) h (R .type) e))
+
+      upward : (t : Triple) → X₁ t → X₃ t
+      upward t x = P₃ .keeps t (P₂ .keeps t x)
+
+      complete : (t : Triple) → Derives v G t → X₃ t
+      complete t d = go (kind v (t .property)) refl
+        where
+          go : (k : ℕ) → kind v (t .property) ≡ k → X₃ t
+          go zero e = has-type (type-in d e)
+          go (suc k) e =
+              ⊎-elim (λ l. upward t (P₁ .keeps t (schema t (schema-in d (omega arith, omega (arith, ltb-true (suc k) 5 l))))))
+              (λ l. upward t (has-data (data-in d (omega (arith, ltb-false (suc k) 5 l))))) (bool-cases (ltb (suc k) 5))
+
+      sound : (t : Triple) → X₃ t → Derives v G t
+      sound t x = derives-cut v (λ u y. derives-cut v (λ w z. derives-cut v inside (P₁ .derived w z)) (P₂ .derived u y)) (P₃ .derived t x)
+
+      -- the last stratum holds exactly what the rules derive
+      pub strata : (t : Triple) → X₃ t ↔ Derives v G t
+      strata t = (sound t, complete t)
