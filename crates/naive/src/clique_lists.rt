@@ -51,7 +51,9 @@ fn start(table: &[u32], roster: &[u8], sources: bool, list: &mut [u32])
 
 // Whether two triples share a data node at that side.
 fn share(roster: &[u8], t: Triple, u: Triple, sources: bool) -> bool {
-    links(roster, t, sources) && links(roster, u, sources) && end_of(t, sources) == end_of(u, sources)
+    links(roster, t, sources)
+        && links(roster, u, sources)
+        && end_of(t, sources) == end_of(u, sources)
 }
 
 // Gives a the entry of b if that is smaller; whether it was.

@@ -13,8 +13,8 @@ use super::lists::fill;
 use super::lists::holds;
 use super::lists::put;
 use super::lists::sort;
-use super::lists::triple_of;
 use super::lists::triple_at;
+use super::lists::triple_of;
 use super::summary::summarise;
 
 // Opening: both triple lists zero, the map absent.
@@ -47,7 +47,16 @@ pub struct Fed {
 }
 
 // Judges a feed of a triple with a work list of that length; H is the first `held` triples of h.
-pub fn plain_feed(roster: &[u8], slots: usize, h: &mut [u32], held: usize, work: usize, s: u32, p: u32, o: u32) -> Fed
+pub fn plain_feed(
+    roster: &[u8],
+    slots: usize,
+    h: &mut [u32],
+    held: usize,
+    work: usize,
+    s: u32,
+    p: u32,
+    o: u32,
+) -> Fed
     ensures { λ r. ⌜ length (now (h .exit)) ≡ length (now (h .entry)) ⌝ }
 {
     let n = roster.len();
@@ -79,7 +88,14 @@ pub fn plain_feed(roster: &[u8], slots: usize, h: &mut [u32], held: usize, work:
 }
 
 // What the intake's lists hold when H is the triples of h: H in rising order, its summary, its map; the summary's size.
-pub fn plain_lists(h: &[u32], roster: &[u8], triples: &mut [u32], summary: &mut [u32], map: &mut [u32], work: &mut [u32]) -> Answer
+pub fn plain_lists(
+    h: &[u32],
+    roster: &[u8],
+    triples: &mut [u32],
+    summary: &mut [u32],
+    map: &mut [u32],
+    work: &mut [u32],
+) -> Answer
     ensures { λ r. ⌜ length (now (triples .exit)) ≡ length (now (triples .entry)) ⌝ }
     ensures { λ r. ⌜ length (now (summary .exit)) ≡ length (now (summary .entry)) ⌝ }
     ensures { λ r. ⌜ length (now (map .exit)) ≡ length (now (map .entry)) ⌝ }

@@ -8,8 +8,8 @@ use super::lists::entry;
 use super::lists::holds;
 use super::lists::number_at;
 use super::lists::refuse;
+use super::lists::triple_at;
 use super::lists::triple_of;
-use super::summary::node_at;
 
 pub fn look_up(list: &[u32], s: u32, p: u32, o: u32) -> Answer {
     if table_wrong(list.len()) {
@@ -103,17 +103,18 @@ fn used(query: &[u32], variable: usize) -> bool {
     false
 }
 
-// Whether the node at place e stands at no place before.
-fn first_seen(table: &[u32], e: usize) -> bool {
-    let node = node_at(table, e);
+// A node is a code that is subject or object of a triple.
+fn is_node(table: &[u32], code: u32) -> bool {
+    let count = table.len() / 3;
     let mut i = 0;
-    while i < e {
-        if node_at(table, i) == node {
-            return false;
+    while i < count {
+        let t = triple_at(table, i);
+        if t.subject == code || t.object == code {
+            return true;
         }
         i += 1;
     }
-    true
+    false
 }
 
 // The choice with a node for one variable more.
@@ -130,11 +131,13 @@ fn choose(table: &[u32], map: &[u32], query: &[u32], choice: [u32; 8], variable:
     if 8 <= variable {
         return fits(table, map, query, &choice);
     }
-    let ends = table.len() / 3 * 2;
-    let mut e = 0;
-    while e < ends {
-        if first_seen(table, e) {
-            let next = with_node(choice, variable, node_at(table, e));
+    let mut code = 0;
+    while code < 65536 {
+        if map.len() <= code as usize {
+            return false;
+        }
+        if is_node(table, code) {
+            let next = with_node(choice, variable, code);
             if choose(table, map, query, next, variable + 1) {
                 return true;
             }
@@ -142,7 +145,7 @@ fn choose(table: &[u32], map: &[u32], query: &[u32], choice: [u32; 8], variable:
                 return false;
             }
         }
-        e += 1;
+        code += 1;
     }
     false
 }

@@ -14,8 +14,8 @@ use super::lists::add;
 use super::lists::fill;
 use super::lists::refuse;
 use super::lists::sort;
-use super::lists::triple_of;
 use super::lists::triple_at;
+use super::lists::triple_of;
 
 // Rule 1: a domain c, s a o gives s type c.
 fn rdfs2(list: &mut [u32], so_far: Answer, first: Triple, second: Triple) -> Answer
@@ -41,8 +41,15 @@ fn rdfs3(list: &mut [u32], so_far: Answer, first: Triple, second: Triple) -> Ans
 fn rdfs5(list: &mut [u32], so_far: Answer, first: Triple, second: Triple) -> Answer
     ensures { λ r. ⌜ length (now (list .exit)) ≡ length (now (list .entry)) ⌝ }
 {
-    if first.property == SUBPROPERTY && second.property == SUBPROPERTY && second.subject == first.object {
-        return add(list, so_far, triple_of(first.subject, SUBPROPERTY, second.object));
+    if first.property == SUBPROPERTY
+        && second.property == SUBPROPERTY
+        && second.subject == first.object
+    {
+        return add(
+            list,
+            so_far,
+            triple_of(first.subject, SUBPROPERTY, second.object),
+        );
     }
     so_far
 }
@@ -52,7 +59,11 @@ fn rdfs7(list: &mut [u32], so_far: Answer, first: Triple, second: Triple) -> Ans
     ensures { λ r. ⌜ length (now (list .exit)) ≡ length (now (list .entry)) ⌝ }
 {
     if first.property == SUBPROPERTY && second.property == first.subject {
-        return add(list, so_far, triple_of(second.subject, first.object, second.object));
+        return add(
+            list,
+            so_far,
+            triple_of(second.subject, first.object, second.object),
+        );
     }
     so_far
 }
@@ -72,7 +83,11 @@ fn rdfs11(list: &mut [u32], so_far: Answer, first: Triple, second: Triple) -> An
     ensures { λ r. ⌜ length (now (list .exit)) ≡ length (now (list .entry)) ⌝ }
 {
     if first.property == SUBCLASS && second.property == SUBCLASS && second.subject == first.object {
-        return add(list, so_far, triple_of(first.subject, SUBCLASS, second.object));
+        return add(
+            list,
+            so_far,
+            triple_of(first.subject, SUBCLASS, second.object),
+        );
     }
     so_far
 }

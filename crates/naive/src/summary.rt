@@ -18,8 +18,8 @@ use super::lists::fill;
 use super::lists::refuse;
 use super::lists::set_entry;
 use super::lists::sort;
-use super::lists::triple_of;
 use super::lists::triple_at;
+use super::lists::triple_of;
 
 // The clique of a data node: that of the property of any data triple that it stands in at that side, absent if there is none.
 fn clique_of(table: &[u32], cliques: &[u32], sources: bool, node: u32) -> u32 {
@@ -66,7 +66,7 @@ fn start(table: &[u32], map: &mut [u32])
 }
 
 // The node at place e: the ends of triple 0, then those of triple 1, and so on.
-pub fn node_at(table: &[u32], e: usize) -> u32 {
+fn node_at(table: &[u32], e: usize) -> u32 {
     end_of(triple_at(table, e / 2), e % 2 == 0)
 }
 
@@ -95,7 +95,14 @@ fn join_pair(
 }
 
 // Lowers the node a by each node that is alike.
-fn join(table: &[u32], roster: &[u8], sources: &[u32], targets: &[u32], map: &mut [u32], a: u32) -> bool
+fn join(
+    table: &[u32],
+    roster: &[u8],
+    sources: &[u32],
+    targets: &[u32],
+    map: &mut [u32],
+    a: u32,
+) -> bool
     ensures { λ r. ⌜ length (now (map .exit)) ≡ length (now (map .entry)) ⌝ }
 {
     let ends = table.len() / 3 * 2;
@@ -165,7 +172,11 @@ fn replaced(table: &[u32], map: &[u32], list: &mut [u32]) -> Answer
     let mut i = 0;
     while i < count {
         let t = triple_at(table, i);
-        answer = add(list, answer, triple_of(entry(map, t.subject), t.property, entry(map, t.object)));
+        answer = add(
+            list,
+            answer,
+            triple_of(entry(map, t.subject), t.property, entry(map, t.object)),
+        );
         i += 1;
     }
     answer

@@ -5,11 +5,10 @@ use borrow.Fn.PlainCycle.{Measures, is, falls, and}
 use Rattle.naive.proofs.query.choose.Reads as choose
 use Rattle.naive.proofs.query.choose.Kinds as choose-kinds
 use Rattle.naive.proofs.query.+choose.Lts-choose as choose-lts
-use Rattle.naive.proofs.query.first_seen.Reads as first-seen-reads
 use Rattle.naive.proofs.query.fits.Reads as fits-reads
+use Rattle.naive.proofs.query.is_node.Reads as is-node-reads
 use Rattle.naive.proofs.query.used.Reads as used-reads
 use Rattle.naive.proofs.query.with_node.Reads as with-node-reads
-use Rattle.naive.proofs.summary.node_at.Reads as node-at-reads
 use Rattle.naive.proofs.query.+choose.{statement}
 use Rattle.naive.proofs.query.+choose.Tie.{close}
 
@@ -26,10 +25,8 @@ abbrev calls : ℕ → choose-lts.Claims
 calls t = (
   fits-reads.Asked,
   fits-reads.Learnt,
-  first-seen-reads.Asked,
-  first-seen-reads.Learnt,
-  node-at-reads.Asked,
-  node-at-reads.Learnt,
+  is-node-reads.Asked,
+  is-node-reads.Learnt,
   with-node-reads.Asked,
   with-node-reads.Learnt,
   choose-below t,
@@ -39,10 +36,10 @@ calls t = (
 )
 
 abbrev choose-Inv-loop : choose-lts.InvT-loop
-choose-Inv-loop table map query variable choice ends e₀ e = Unit {0}
+choose-Inv-loop table map query variable choice code₀ code = Unit {0}
 
 abbrev choose-μ-loop : choose-lts.MeasureT-loop
-choose-μ-loop table map query variable choice ends e₀ e = ends - e
+choose-μ-loop table map query variable choice code₀ code = 65536 - code
 
 choose-slice-aggregate-fits : (t : ℕ) → choose-lts.Need-slice-aggregate-fits (calls t) (choose-at t) choose.Post choose-Inv-loop choose-μ-loop
 choose-slice-aggregate-fits t c = search needs
@@ -53,17 +50,17 @@ choose-fits-requires t c κs = search needs
 choose-returns : (t : ℕ) → choose-lts.Need-returns (calls t) (choose-at t) choose.Post choose-Inv-loop choose-μ-loop
 choose-returns t c = search needs
 
-choose-mul-ends : (t : ℕ) → choose-lts.Need-mul-ends (calls t) (choose-at t) choose.Post choose-Inv-loop choose-μ-loop
-choose-mul-ends t c = search needs
-
 choose-loop-holds : (t : ℕ) → choose-lts.Need-loop-holds (calls t) (choose-at t) choose.Post choose-Inv-loop choose-μ-loop
 choose-loop-holds t c = search needs
 
-choose-first-seen-requires : (t : ℕ) → choose-lts.Need-first-seen-requires (calls t) (choose-at t) choose.Post choose-Inv-loop choose-μ-loop
-choose-first-seen-requires t c κs = search needs
+choose-cast-if2 : (t : ℕ) → choose-lts.Need-cast-if2 (calls t) (choose-at t) choose.Post choose-Inv-loop choose-μ-loop
+choose-cast-if2 t c = search needs
 
-choose-node-at-requires : (t : ℕ) → choose-lts.Need-node-at-requires (calls t) (choose-at t) choose.Post choose-Inv-loop choose-μ-loop
-choose-node-at-requires t c κs = search needs
+choose-returns-2 : (t : ℕ) → choose-lts.Need-returns-2 (calls t) (choose-at t) choose.Post choose-Inv-loop choose-μ-loop
+choose-returns-2 t c = search needs
+
+choose-is-node-requires : (t : ℕ) → choose-lts.Need-is-node-requires (calls t) (choose-at t) choose.Post choose-Inv-loop choose-μ-loop
+choose-is-node-requires t c κs = search needs
 
 choose-with-node-requires : (t : ℕ) → choose-lts.Need-with-node-requires (calls t) (choose-at t) choose.Post choose-Inv-loop choose-μ-loop
 choose-with-node-requires t c κs = search needs
@@ -74,17 +71,17 @@ choose-add-choose t c = search needs
 choose-choose-requires : (t : ℕ) → choose-lts.Need-choose-requires (calls t) (choose-at t) choose.Post choose-Inv-loop choose-μ-loop
 choose-choose-requires t c κs = search needs
 
-choose-returns-2 : (t : ℕ) → choose-lts.Need-returns-2 (calls t) (choose-at t) choose.Post choose-Inv-loop choose-μ-loop
-choose-returns-2 t c = search needs
+choose-returns-3 : (t : ℕ) → choose-lts.Need-returns-3 (calls t) (choose-at t) choose.Post choose-Inv-loop choose-μ-loop
+choose-returns-3 t c = search needs
 
 choose-used-requires : (t : ℕ) → choose-lts.Need-used-requires (calls t) (choose-at t) choose.Post choose-Inv-loop choose-μ-loop
 choose-used-requires t c κs = search needs
 
-choose-returns-3 : (t : ℕ) → choose-lts.Need-returns-3 (calls t) (choose-at t) choose.Post choose-Inv-loop choose-μ-loop
-choose-returns-3 t c = search needs
+choose-returns-4 : (t : ℕ) → choose-lts.Need-returns-4 (calls t) (choose-at t) choose.Post choose-Inv-loop choose-μ-loop
+choose-returns-4 t c = search needs
 
-choose-add-e : (t : ℕ) → choose-lts.Need-add-e (calls t) (choose-at t) choose.Post choose-Inv-loop choose-μ-loop
-choose-add-e t c = search needs
+choose-add-code : (t : ℕ) → choose-lts.Need-add-code (calls t) (choose-at t) choose.Post choose-Inv-loop choose-μ-loop
+choose-add-code t c = search needs
 
 choose-loop-less : (t : ℕ) → choose-lts.Need-loop-less (calls t) (choose-at t) choose.Post choose-Inv-loop choose-μ-loop
 choose-loop-less t c = search needs
@@ -92,8 +89,8 @@ choose-loop-less t c = search needs
 choose-loop-again : (t : ℕ) → choose-lts.Need-loop-again (calls t) (choose-at t) choose.Post choose-Inv-loop choose-μ-loop
 choose-loop-again t c = search needs
 
-choose-returns-4 : (t : ℕ) → choose-lts.Need-returns-4 (calls t) (choose-at t) choose.Post choose-Inv-loop choose-μ-loop
-choose-returns-4 t c = search needs
+choose-returns-5 : (t : ℕ) → choose-lts.Need-returns-5 (calls t) (choose-at t) choose.Post choose-Inv-loop choose-μ-loop
+choose-returns-5 t c = search needs
 
 pub +choose-spec : {M : Type 1} → statement M
 +choose-spec = close μ-choose λ t. choose-lts.spec (calls t)
@@ -104,17 +101,17 @@ pub +choose-spec : {M : Type 1} → statement M
     (choose-slice-aggregate-fits t)
     (choose-fits-requires t)
     (choose-returns t)
-    (choose-mul-ends t)
     (choose-loop-holds t)
-    (choose-first-seen-requires t)
-    (choose-node-at-requires t)
+    (choose-cast-if2 t)
+    (choose-returns-2 t)
+    (choose-is-node-requires t)
     (choose-with-node-requires t)
     (choose-add-choose t)
     (choose-choose-requires t)
-    (choose-returns-2 t)
-    (choose-used-requires t)
     (choose-returns-3 t)
-    (choose-add-e t)
+    (choose-used-requires t)
+    (choose-returns-4 t)
+    (choose-add-code t)
     (choose-loop-less t)
     (choose-loop-again t)
-    (choose-returns-4 t)
+    (choose-returns-5 t)
