@@ -1,6 +1,4 @@
 // Source and target cliques.
-ghost use mathlib.Core.Path.{_≡_};
-ghost use lib.ListN.{length};
 use super::checks::mark;
 use super::checks::table_refusal;
 use super::lists::ABSENT;
@@ -29,17 +27,13 @@ fn links(roster: &[u8], t: Triple, sources: bool) -> bool {
 }
 
 // The property of such a triple is in its own clique at first.
-fn start_property(roster: &[u8], sources: bool, list: &mut [u32], t: Triple)
-    ensures { λ r. ⌜ length (now (list .exit)) ≡ length (now (list .entry)) ⌝ }
-{
+fn start_property(roster: &[u8], sources: bool, list: &mut [u32], t: Triple) {
     if links(roster, t, sources) {
         set_entry(list, t.property, t.property);
     }
 }
 
-fn start(table: &[u32], roster: &[u8], sources: bool, list: &mut [u32])
-    ensures { λ r. ⌜ length (now (list .exit)) ≡ length (now (list .entry)) ⌝ }
-{
+fn start(table: &[u32], roster: &[u8], sources: bool, list: &mut [u32]) {
     fill(list, ABSENT);
     let count = table.len() / 3;
     let mut i = 0;
@@ -57,9 +51,7 @@ fn share(roster: &[u8], t: Triple, u: Triple, sources: bool) -> bool {
 }
 
 // Gives a the entry of b if that is smaller; whether it was.
-pub fn lower(list: &mut [u32], a: u32, b: u32) -> bool
-    ensures { λ r. ⌜ length (now (list .exit)) ≡ length (now (list .entry)) ⌝ }
-{
+pub fn lower(list: &mut [u32], a: u32, b: u32) -> bool {
     let value = entry(list, b);
     if value < entry(list, a) {
         set_entry(list, a, value);
@@ -69,9 +61,7 @@ pub fn lower(list: &mut [u32], a: u32, b: u32) -> bool
 }
 
 // Lowers t's property by u's if they share a node.
-fn join_pair(roster: &[u8], sources: bool, list: &mut [u32], t: Triple, u: Triple) -> bool
-    ensures { λ r. ⌜ length (now (list .exit)) ≡ length (now (list .entry)) ⌝ }
-{
+fn join_pair(roster: &[u8], sources: bool, list: &mut [u32], t: Triple, u: Triple) -> bool {
     if share(roster, t, u, sources) {
         return lower(list, t.property, u.property);
     }
@@ -79,9 +69,7 @@ fn join_pair(roster: &[u8], sources: bool, list: &mut [u32], t: Triple, u: Tripl
 }
 
 // Lowers the property of the triple at place i by each triple that shares a node with it.
-fn join(table: &[u32], roster: &[u8], sources: bool, list: &mut [u32], i: usize) -> bool
-    ensures { λ r. ⌜ length (now (list .exit)) ≡ length (now (list .entry)) ⌝ }
-{
+fn join(table: &[u32], roster: &[u8], sources: bool, list: &mut [u32], i: usize) -> bool {
     let t = triple_at(table, i);
     let count = table.len() / 3;
     let mut changed = false;
@@ -95,9 +83,7 @@ fn join(table: &[u32], roster: &[u8], sources: bool, list: &mut [u32], i: usize)
     changed
 }
 
-fn join_all(table: &[u32], roster: &[u8], sources: bool, list: &mut [u32]) -> bool
-    ensures { λ r. ⌜ length (now (list .exit)) ≡ length (now (list .entry)) ⌝ }
-{
+fn join_all(table: &[u32], roster: &[u8], sources: bool, list: &mut [u32]) -> bool {
     let count = table.len() / 3;
     let mut changed = false;
     let mut i = 0;
@@ -111,9 +97,7 @@ fn join_all(table: &[u32], roster: &[u8], sources: bool, list: &mut [u32]) -> bo
 }
 
 // The cliques of one side. A chain has no more steps than there are triples, so as many rounds are enough.
-pub fn side(table: &[u32], roster: &[u8], sources: bool, list: &mut [u32])
-    ensures { λ r. ⌜ length (now (list .exit)) ≡ length (now (list .entry)) ⌝ }
-{
+pub fn side(table: &[u32], roster: &[u8], sources: bool, list: &mut [u32]) {
     start(table, roster, sources, list);
     let count = table.len() / 3;
     let mut rounds = 0;
@@ -125,10 +109,7 @@ pub fn side(table: &[u32], roster: &[u8], sources: bool, list: &mut [u32])
     }
 }
 
-pub fn cliques(table: &[u32], roster: &[u8], sources: &mut [u32], targets: &mut [u32]) -> u32
-    ensures { λ r. ⌜ length (now (sources .exit)) ≡ length (now (sources .entry)) ⌝ }
-    ensures { λ r. ⌜ length (now (targets .exit)) ≡ length (now (targets .entry)) ⌝ }
-{
+pub fn cliques(table: &[u32], roster: &[u8], sources: &mut [u32], targets: &mut [u32]) -> u32 {
     let n = roster.len();
     let others_wrong = sources.len() != n || targets.len() != n;
     let number = table_refusal(others_wrong, table, roster);

@@ -1,6 +1,4 @@
 // The plain intake: the triples fed, in order of arrival.
-ghost use mathlib.Core.Path.{_≡_};
-ghost use lib.ListN.{length};
 use super::checks::covered;
 use super::checks::roster_wrong;
 use super::checks::size_wrong;
@@ -18,11 +16,7 @@ use super::lists::triple_of;
 use super::summary::summarise;
 
 // Opening: both triple lists zero, the map absent.
-pub fn open(roster: &[u8], triples: &mut [u32], summary: &mut [u32], map: &mut [u32]) -> u32
-    ensures { λ r. ⌜ length (now (triples .exit)) ≡ length (now (triples .entry)) ⌝ }
-    ensures { λ r. ⌜ length (now (summary .exit)) ≡ length (now (summary .entry)) ⌝ }
-    ensures { λ r. ⌜ length (now (map .exit)) ≡ length (now (map .entry)) ⌝ }
-{
+pub fn open(roster: &[u8], triples: &mut [u32], summary: &mut [u32], map: &mut [u32]) -> u32 {
     let slots = triples.len() / 3;
     if size_wrong(roster.len()) || map.len() != roster.len() {
         return 1;
@@ -56,9 +50,7 @@ pub fn plain_feed(
     s: u32,
     p: u32,
     o: u32,
-) -> Fed
-    ensures { λ r. ⌜ length (now (h .exit)) ≡ length (now (h .entry)) ⌝ }
-{
+) -> Fed {
     let n = roster.len();
     let t = triple_of(s, p, o);
     let mut refused = 0;
@@ -95,12 +87,7 @@ pub fn plain_lists(
     summary: &mut [u32],
     map: &mut [u32],
     work: &mut [u32],
-) -> Answer
-    ensures { λ r. ⌜ length (now (triples .exit)) ≡ length (now (triples .entry)) ⌝ }
-    ensures { λ r. ⌜ length (now (summary .exit)) ≡ length (now (summary .entry)) ⌝ }
-    ensures { λ r. ⌜ length (now (map .exit)) ≡ length (now (map .entry)) ⌝ }
-    ensures { λ r. ⌜ length (now (work .exit)) ≡ length (now (work .entry)) ⌝ }
-{
+) -> Answer {
     fill(triples, 0);
     let count = h.len() / 3;
     let mut answer = accept(0);

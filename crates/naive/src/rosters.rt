@@ -1,6 +1,4 @@
 // The own roster of a table.
-ghost use mathlib.Core.Path.{_≡_};
-ghost use lib.ListN.{length};
 use super::checks::codes_wrong;
 use super::checks::mark;
 use super::checks::size_wrong;
@@ -13,9 +11,7 @@ use super::lists::TYPE;
 use super::lists::Triple;
 use super::lists::triple_at;
 
-fn set_mark(roster: &mut [u8], code: u32, value: u8)
-    ensures { λ r. ⌜ length (now (roster .exit)) ≡ length (now (roster .entry)) ⌝ }
-{
+fn set_mark(roster: &mut [u8], code: u32, value: u8) {
     let i = code as usize;
     if i < roster.len() {
         roster[i] = value;
@@ -23,9 +19,7 @@ fn set_mark(roster: &mut [u8], code: u32, value: u8)
 }
 
 // 0 and 1 become 1, 2 and 3 become 3.
-fn mark_class(roster: &mut [u8], code: u32)
-    ensures { λ r. ⌜ length (now (roster .exit)) ≡ length (now (roster .entry)) ⌝ }
-{
+fn mark_class(roster: &mut [u8], code: u32) {
     let m = mark(roster, code);
     if m == 0 {
         set_mark(roster, code, 1);
@@ -37,9 +31,7 @@ fn mark_class(roster: &mut [u8], code: u32)
 }
 
 // 0 and 2 become 2, 1 and 3 become 3.
-fn mark_property(roster: &mut [u8], code: u32)
-    ensures { λ r. ⌜ length (now (roster .exit)) ≡ length (now (roster .entry)) ⌝ }
-{
+fn mark_property(roster: &mut [u8], code: u32) {
     let m = mark(roster, code);
     if m == 0 {
         set_mark(roster, code, 2);
@@ -51,9 +43,7 @@ fn mark_property(roster: &mut [u8], code: u32)
 }
 
 // Marks each role of a triple.
-fn mark_triple(roster: &mut [u8], t: Triple)
-    ensures { λ r. ⌜ length (now (roster .exit)) ≡ length (now (roster .entry)) ⌝ }
-{
+fn mark_triple(roster: &mut [u8], t: Triple) {
     if t.property == TYPE {
         mark_class(roster, t.object);
         return;
@@ -76,9 +66,7 @@ fn mark_triple(roster: &mut [u8], t: Triple)
     mark_property(roster, t.property);
 }
 
-fn unmark_all(roster: &mut [u8])
-    ensures { λ r. ⌜ length (now (roster .exit)) ≡ length (now (roster .entry)) ⌝ }
-{
+fn unmark_all(roster: &mut [u8]) {
     let mut i = 0;
     while i < roster.len() {
         roster[i] = 0;
@@ -86,9 +74,7 @@ fn unmark_all(roster: &mut [u8])
     }
 }
 
-pub fn own_roster(table: &[u32], roster: &mut [u8]) -> u32
-    ensures { λ r. ⌜ length (now (roster .exit)) ≡ length (now (roster .entry)) ⌝ }
-{
+pub fn own_roster(table: &[u32], roster: &mut [u8]) -> u32 {
     if size_wrong(roster.len()) || table_wrong(table.len()) {
         return 1;
     }

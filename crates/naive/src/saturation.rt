@@ -1,6 +1,4 @@
 // Saturation: the six rules written out, over all pairs of triples, until nothing is new.
-ghost use mathlib.Core.Path.{_≡_};
-ghost use lib.ListN.{length};
 use super::checks::table_refusal;
 use super::lists::Answer;
 use super::lists::DOMAIN;
@@ -18,9 +16,7 @@ use super::lists::triple_at;
 use super::lists::triple_of;
 
 // Rule 1: a domain c, s a o gives s type c.
-fn rdfs2(list: &mut [u32], so_far: Answer, first: Triple, second: Triple) -> Answer
-    ensures { λ r. ⌜ length (now (list .exit)) ≡ length (now (list .entry)) ⌝ }
-{
+fn rdfs2(list: &mut [u32], so_far: Answer, first: Triple, second: Triple) -> Answer {
     if first.property == DOMAIN && second.property == first.subject {
         return add(list, so_far, triple_of(second.subject, TYPE, first.object));
     }
@@ -28,9 +24,7 @@ fn rdfs2(list: &mut [u32], so_far: Answer, first: Triple, second: Triple) -> Ans
 }
 
 // Rule 2: a range c, s a o gives o type c.
-fn rdfs3(list: &mut [u32], so_far: Answer, first: Triple, second: Triple) -> Answer
-    ensures { λ r. ⌜ length (now (list .exit)) ≡ length (now (list .entry)) ⌝ }
-{
+fn rdfs3(list: &mut [u32], so_far: Answer, first: Triple, second: Triple) -> Answer {
     if first.property == RANGE && second.property == first.subject {
         return add(list, so_far, triple_of(second.object, TYPE, first.object));
     }
@@ -38,9 +32,7 @@ fn rdfs3(list: &mut [u32], so_far: Answer, first: Triple, second: Triple) -> Ans
 }
 
 // Rule 3: a subproperty b, b subproperty c gives a subproperty c.
-fn rdfs5(list: &mut [u32], so_far: Answer, first: Triple, second: Triple) -> Answer
-    ensures { λ r. ⌜ length (now (list .exit)) ≡ length (now (list .entry)) ⌝ }
-{
+fn rdfs5(list: &mut [u32], so_far: Answer, first: Triple, second: Triple) -> Answer {
     if first.property == SUBPROPERTY
         && second.property == SUBPROPERTY
         && second.subject == first.object
@@ -55,9 +47,7 @@ fn rdfs5(list: &mut [u32], so_far: Answer, first: Triple, second: Triple) -> Ans
 }
 
 // Rule 4: a subproperty b, s a o gives s b o.
-fn rdfs7(list: &mut [u32], so_far: Answer, first: Triple, second: Triple) -> Answer
-    ensures { λ r. ⌜ length (now (list .exit)) ≡ length (now (list .entry)) ⌝ }
-{
+fn rdfs7(list: &mut [u32], so_far: Answer, first: Triple, second: Triple) -> Answer {
     if first.property == SUBPROPERTY && second.property == first.subject {
         return add(
             list,
@@ -69,9 +59,7 @@ fn rdfs7(list: &mut [u32], so_far: Answer, first: Triple, second: Triple) -> Ans
 }
 
 // Rule 5: c subclass d, s type c gives s type d.
-fn rdfs9(list: &mut [u32], so_far: Answer, first: Triple, second: Triple) -> Answer
-    ensures { λ r. ⌜ length (now (list .exit)) ≡ length (now (list .entry)) ⌝ }
-{
+fn rdfs9(list: &mut [u32], so_far: Answer, first: Triple, second: Triple) -> Answer {
     if first.property == SUBCLASS && second.property == TYPE && second.object == first.subject {
         return add(list, so_far, triple_of(second.subject, TYPE, first.object));
     }
@@ -79,9 +67,7 @@ fn rdfs9(list: &mut [u32], so_far: Answer, first: Triple, second: Triple) -> Ans
 }
 
 // Rule 6: c subclass d, d subclass e gives c subclass e.
-fn rdfs11(list: &mut [u32], so_far: Answer, first: Triple, second: Triple) -> Answer
-    ensures { λ r. ⌜ length (now (list .exit)) ≡ length (now (list .entry)) ⌝ }
-{
+fn rdfs11(list: &mut [u32], so_far: Answer, first: Triple, second: Triple) -> Answer {
     if first.property == SUBCLASS && second.property == SUBCLASS && second.subject == first.object {
         return add(
             list,
@@ -93,9 +79,7 @@ fn rdfs11(list: &mut [u32], so_far: Answer, first: Triple, second: Triple) -> An
 }
 
 // What a first and a second triple give.
-fn apply(list: &mut [u32], so_far: Answer, first: Triple, second: Triple) -> Answer
-    ensures { λ r. ⌜ length (now (list .exit)) ≡ length (now (list .entry)) ⌝ }
-{
+fn apply(list: &mut [u32], so_far: Answer, first: Triple, second: Triple) -> Answer {
     let a = rdfs2(list, so_far, first, second);
     let b = rdfs3(list, a, first, second);
     let c = rdfs5(list, b, first, second);
@@ -105,9 +89,7 @@ fn apply(list: &mut [u32], so_far: Answer, first: Triple, second: Triple) -> Ans
 }
 
 // What the triple at place i gives as first, with each of the first `count` triples as second.
-fn apply_first(list: &mut [u32], so_far: Answer, i: usize, count: usize) -> Answer
-    ensures { λ r. ⌜ length (now (list .exit)) ≡ length (now (list .entry)) ⌝ }
-{
+fn apply_first(list: &mut [u32], so_far: Answer, i: usize, count: usize) -> Answer {
     let mut answer = so_far;
     let mut j = 0;
     while j < count {
@@ -118,9 +100,7 @@ fn apply_first(list: &mut [u32], so_far: Answer, i: usize, count: usize) -> Answ
 }
 
 // One round over all pairs of the first `count` triples.
-fn round(list: &mut [u32], so_far: Answer, count: usize) -> Answer
-    ensures { λ r. ⌜ length (now (list .exit)) ≡ length (now (list .entry)) ⌝ }
-{
+fn round(list: &mut [u32], so_far: Answer, count: usize) -> Answer {
     let mut answer = so_far;
     let mut i = 0;
     while i < count {
@@ -131,9 +111,7 @@ fn round(list: &mut [u32], so_far: Answer, count: usize) -> Answer
 }
 
 // Rounds until one adds nothing. Each of the others fills a slot, so there are no more of them than slots.
-fn close(list: &mut [u32], so_far: Answer) -> Answer
-    ensures { λ r. ⌜ length (now (list .exit)) ≡ length (now (list .entry)) ⌝ }
-{
+fn close(list: &mut [u32], so_far: Answer) -> Answer {
     let slots = list.len() / 3;
     let mut answer = so_far;
     let mut rounds = 0;
@@ -149,9 +127,7 @@ fn close(list: &mut [u32], so_far: Answer) -> Answer
 }
 
 // The triples of the table, each once.
-fn given(table: &[u32], list: &mut [u32]) -> Answer
-    ensures { λ r. ⌜ length (now (list .exit)) ≡ length (now (list .entry)) ⌝ }
-{
+fn given(table: &[u32], list: &mut [u32]) -> Answer {
     let n = table.len() / 3;
     let mut answer = accept(0);
     let mut i = 0;
@@ -162,9 +138,7 @@ fn given(table: &[u32], list: &mut [u32]) -> Answer
     answer
 }
 
-pub fn saturate(table: &[u32], roster: &[u8], result: &mut [u32]) -> Answer
-    ensures { λ r. ⌜ length (now (result .exit)) ≡ length (now (result .entry)) ⌝ }
-{
+pub fn saturate(table: &[u32], roster: &[u8], result: &mut [u32]) -> Answer {
     let number = table_refusal(false, table, roster);
     if number != 0 {
         return refuse(number);

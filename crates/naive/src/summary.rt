@@ -1,7 +1,4 @@
 // The weak summary, through cliques and weak equivalence.
-ghost use mathlib.Core.Path.{_≡_};
-ghost use Prim.Native.Nat.{_+_, _*_};
-ghost use lib.ListN.{length};
 use super::checks::mark;
 use super::checks::table_refusal;
 use super::clique_lists::end_of;
@@ -51,9 +48,7 @@ fn alike(table: &[u32], sources: &[u32], targets: &[u32], a: u32, b: u32) -> boo
 }
 
 // Each node represents itself at first, and a code that is no node is absent.
-fn start(table: &[u32], map: &mut [u32])
-    ensures { λ r. ⌜ length (now (map .exit)) ≡ length (now (map .entry)) ⌝ }
-{
+fn start(table: &[u32], map: &mut [u32]) {
     fill(map, ABSENT);
     let count = table.len() / 3;
     let mut i = 0;
@@ -79,9 +74,7 @@ fn join_pair(
     map: &mut [u32],
     a: u32,
     b: u32,
-) -> bool
-    ensures { λ r. ⌜ length (now (map .exit)) ≡ length (now (map .entry)) ⌝ }
-{
+) -> bool {
     if mark(roster, a) != 0 || mark(roster, b) != 0 {
         return false;
     }
@@ -102,9 +95,7 @@ fn join(
     targets: &[u32],
     map: &mut [u32],
     a: u32,
-) -> bool
-    ensures { λ r. ⌜ length (now (map .exit)) ≡ length (now (map .entry)) ⌝ }
-{
+) -> bool {
     let ends = table.len() / 3 * 2;
     let mut changed = false;
     let mut e = 0;
@@ -117,9 +108,13 @@ fn join(
     changed
 }
 
-fn join_all(table: &[u32], roster: &[u8], sources: &[u32], targets: &[u32], map: &mut [u32]) -> bool
-    ensures { λ r. ⌜ length (now (map .exit)) ≡ length (now (map .entry)) ⌝ }
-{
+fn join_all(
+    table: &[u32],
+    roster: &[u8],
+    sources: &[u32],
+    targets: &[u32],
+    map: &mut [u32],
+) -> bool {
     let ends = table.len() / 3 * 2;
     let mut changed = false;
     let mut e = 0;
@@ -133,9 +128,7 @@ fn join_all(table: &[u32], roster: &[u8], sources: &[u32], targets: &[u32], map:
 }
 
 // The smallest code of each class. A chain has no more steps than there are nodes, so as many rounds are enough.
-fn represent(table: &[u32], roster: &[u8], sources: &[u32], targets: &[u32], map: &mut [u32])
-    ensures { λ r. ⌜ length (now (map .exit)) ≡ length (now (map .entry)) ⌝ }
-{
+fn represent(table: &[u32], roster: &[u8], sources: &[u32], targets: &[u32], map: &mut [u32]) {
     start(table, map);
     let ends = table.len() / 3 * 2;
     let mut rounds = 0;
@@ -148,25 +141,19 @@ fn represent(table: &[u32], roster: &[u8], sources: &[u32], targets: &[u32], map
 }
 
 // The work list holds the source cliques, then the target cliques.
-fn both_sides(table: &[u32], roster: &[u8], work: &mut [u32])
-    ensures { λ r. ⌜ length (now (work .exit)) ≡ length (now (work .entry)) ⌝ }
-{
+fn both_sides(table: &[u32], roster: &[u8], work: &mut [u32]) {
     let half = work.len() / 2;
     side(table, roster, true, &mut work[..half]);
     side(table, roster, false, &mut work[half..]);
 }
 
-fn represent_by(table: &[u32], roster: &[u8], work: &[u32], map: &mut [u32])
-    ensures { λ r. ⌜ length (now (map .exit)) ≡ length (now (map .entry)) ⌝ }
-{
+fn represent_by(table: &[u32], roster: &[u8], work: &[u32], map: &mut [u32]) {
     let half = work.len() / 2;
     represent(table, roster, &work[..half], &work[half..], map);
 }
 
 // The triples with each subject and object replaced by its representative, each once.
-fn replaced(table: &[u32], map: &[u32], list: &mut [u32]) -> Answer
-    ensures { λ r. ⌜ length (now (list .exit)) ≡ length (now (list .entry)) ⌝ }
-{
+fn replaced(table: &[u32], map: &[u32], list: &mut [u32]) -> Answer {
     let count = table.len() / 3;
     let mut answer = accept(0);
     let mut i = 0;
@@ -188,11 +175,7 @@ pub fn summarise(
     result: &mut [u32],
     map: &mut [u32],
     work: &mut [u32],
-) -> Answer
-    ensures { λ r. ⌜ length (now (result .exit)) ≡ length (now (result .entry)) ⌝ }
-    ensures { λ r. ⌜ length (now (map .exit)) ≡ length (now (map .entry)) ⌝ }
-    ensures { λ r. ⌜ length (now (work .exit)) ≡ length (now (work .entry)) ⌝ }
-{
+) -> Answer {
     let n = roster.len();
     let others_wrong = map.len() != n || work.len() / 2 != n || work.len() % 2 != 0;
     let number = table_refusal(others_wrong, table, roster);
