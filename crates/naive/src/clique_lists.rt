@@ -1,12 +1,12 @@
 // Source and target cliques.
-use super::checks::mark;
-use super::checks::table_refusal;
-use super::lists::ABSENT;
-use super::lists::Triple;
-use super::lists::entry;
-use super::lists::fill;
-use super::lists::set_entry;
-use super::lists::triple_at;
+use super::flat::ABSENT;
+use super::flat::Triple;
+use super::flat::entry;
+use super::flat::fill;
+use super::flat::set_entry;
+use super::flat::triple_at;
+use super::refusals::mark;
+use super::refusals::table_refusal;
 
 // A data triple has a property of 5 or more.
 pub fn is_data(t: Triple) -> bool {

@@ -1,15 +1,15 @@
 // The own roster of a table.
-use super::checks::codes_wrong;
-use super::checks::mark;
-use super::checks::size_wrong;
-use super::checks::table_wrong;
-use super::lists::DOMAIN;
-use super::lists::RANGE;
-use super::lists::SUBCLASS;
-use super::lists::SUBPROPERTY;
-use super::lists::TYPE;
-use super::lists::Triple;
-use super::lists::triple_at;
+use super::flat::DOMAIN;
+use super::flat::RANGE;
+use super::flat::SUBCLASS;
+use super::flat::SUBPROPERTY;
+use super::flat::TYPE;
+use super::flat::Triple;
+use super::flat::triple_at;
+use super::refusals::codes_wrong;
+use super::refusals::mark;
+use super::refusals::size_wrong;
+use super::refusals::table_wrong;
 
 fn set_mark(roster: &mut [u8], code: u32, value: u8) {
     let i = code as usize;

@@ -1,19 +1,19 @@
 // Saturation: the six rules written out, over all pairs of triples, until nothing is new.
-use super::checks::table_refusal;
-use super::lists::Answer;
-use super::lists::DOMAIN;
-use super::lists::RANGE;
-use super::lists::SUBCLASS;
-use super::lists::SUBPROPERTY;
-use super::lists::TYPE;
-use super::lists::Triple;
-use super::lists::accept;
-use super::lists::add;
-use super::lists::fill;
-use super::lists::refuse;
-use super::lists::sort;
-use super::lists::triple_at;
-use super::lists::triple_of;
+use super::flat::Answer;
+use super::flat::DOMAIN;
+use super::flat::RANGE;
+use super::flat::SUBCLASS;
+use super::flat::SUBPROPERTY;
+use super::flat::TYPE;
+use super::flat::Triple;
+use super::flat::accept;
+use super::flat::add;
+use super::flat::fill;
+use super::flat::refuse;
+use super::flat::sort;
+use super::flat::triple_at;
+use super::flat::triple_of;
+use super::refusals::table_refusal;
 
 // Rule 1: a domain c, s a o gives s type c.
 fn rdfs2(list: &mut [u32], so_far: Answer, first: Triple, second: Triple) -> Answer {

@@ -1,22 +1,22 @@
 // The weak summary, through cliques and weak equivalence.
-use super::checks::mark;
-use super::checks::table_refusal;
 use super::clique_lists::end_of;
 use super::clique_lists::is_data;
 use super::clique_lists::lower;
 use super::clique_lists::side;
-use super::lists::ABSENT;
-use super::lists::Answer;
-use super::lists::Triple;
-use super::lists::accept;
-use super::lists::add;
-use super::lists::entry;
-use super::lists::fill;
-use super::lists::refuse;
-use super::lists::set_entry;
-use super::lists::sort;
-use super::lists::triple_at;
-use super::lists::triple_of;
+use super::flat::ABSENT;
+use super::flat::Answer;
+use super::flat::Triple;
+use super::flat::accept;
+use super::flat::add;
+use super::flat::entry;
+use super::flat::fill;
+use super::flat::refuse;
+use super::flat::set_entry;
+use super::flat::sort;
+use super::flat::triple_at;
+use super::flat::triple_of;
+use super::refusals::mark;
+use super::refusals::table_refusal;
 
 // The clique of a data node: that of the property of any data triple that it stands in at that side, absent if there is none.
 fn clique_of(table: &[u32], cliques: &[u32], sources: bool, node: u32) -> u32 {

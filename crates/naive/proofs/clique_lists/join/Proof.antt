@@ -7,7 +7,7 @@ use Rattle.naive.proofs.clique_lists.join.Tie as tie
 use Rattle.naive.proofs.clique_lists.join.Reads as reads
 use Rattle.naive.proofs.clique_lists.join.Lts as lts
 use Rattle.naive.proofs.clique_lists.join_pair.Reads as join-pair-reads
-use Rattle.naive.proofs.lists.triple_at.Reads as triple-at-reads
+use Rattle.naive.proofs.flat.triple_at.Reads as triple-at-reads
 
 abbrev Inv-loop : tie.InvT-loop
 Inv-loop table roster sources list₀ i t count changed₀ j₀ list changed j = (length list ≡ length list₀)

@@ -7,8 +7,8 @@ use Rattle.naive.proofs.clique_lists.start.Tie as tie
 use Rattle.naive.proofs.clique_lists.start.Reads as reads
 use Rattle.naive.proofs.clique_lists.start.Lts as lts
 use Rattle.naive.proofs.clique_lists.start_property.Reads as start-property-reads
-use Rattle.naive.proofs.lists.fill.Reads as fill-reads
-use Rattle.naive.proofs.lists.triple_at.Reads as triple-at-reads
+use Rattle.naive.proofs.flat.fill.Reads as fill-reads
+use Rattle.naive.proofs.flat.triple_at.Reads as triple-at-reads
 
 abbrev Inv-loop : tie.InvT-loop
 Inv-loop table roster sources list₀ count i₀ list i = (length list ≡ length list₀)

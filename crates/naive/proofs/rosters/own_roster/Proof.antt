@@ -6,10 +6,10 @@ use Rattle.naive.proofs.rosters.own_roster.Statement.{statement}
 use Rattle.naive.proofs.rosters.own_roster.Tie as tie
 use Rattle.naive.proofs.rosters.own_roster.Reads as reads
 use Rattle.naive.proofs.rosters.own_roster.Lts as lts
-use Rattle.naive.proofs.checks.codes_wrong.Reads as codes-wrong-reads
-use Rattle.naive.proofs.checks.size_wrong.Reads as size-wrong-reads
-use Rattle.naive.proofs.checks.table_wrong.Reads as table-wrong-reads
-use Rattle.naive.proofs.lists.triple_at.Reads as triple-at-reads
+use Rattle.naive.proofs.refusals.codes_wrong.Reads as codes-wrong-reads
+use Rattle.naive.proofs.refusals.size_wrong.Reads as size-wrong-reads
+use Rattle.naive.proofs.refusals.table_wrong.Reads as table-wrong-reads
+use Rattle.naive.proofs.flat.triple_at.Reads as triple-at-reads
 use Rattle.naive.proofs.rosters.mark_triple.Reads as mark-triple-reads
 use Rattle.naive.proofs.rosters.unmark_all.Reads as unmark-all-reads
 

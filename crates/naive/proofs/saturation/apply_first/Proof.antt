@@ -6,7 +6,7 @@ use Rattle.naive.proofs.saturation.apply_first.Statement.{statement}
 use Rattle.naive.proofs.saturation.apply_first.Tie as tie
 use Rattle.naive.proofs.saturation.apply_first.Reads as reads
 use Rattle.naive.proofs.saturation.apply_first.Lts as lts
-use Rattle.naive.proofs.lists.triple_at.Reads as triple-at-reads
+use Rattle.naive.proofs.flat.triple_at.Reads as triple-at-reads
 use Rattle.naive.proofs.saturation.apply.Reads as apply-reads
 
 abbrev Inv-loop : tie.InvT-loop

@@ -6,9 +6,9 @@ use Rattle.naive.proofs.saturation.given.Statement.{statement}
 use Rattle.naive.proofs.saturation.given.Tie as tie
 use Rattle.naive.proofs.saturation.given.Reads as reads
 use Rattle.naive.proofs.saturation.given.Lts as lts
-use Rattle.naive.proofs.lists.accept.Reads as accept-reads
-use Rattle.naive.proofs.lists.add.Reads as add-reads
-use Rattle.naive.proofs.lists.triple_at.Reads as triple-at-reads
+use Rattle.naive.proofs.flat.accept.Reads as accept-reads
+use Rattle.naive.proofs.flat.add.Reads as add-reads
+use Rattle.naive.proofs.flat.triple_at.Reads as triple-at-reads
 
 abbrev Inv-loop : tie.InvT-loop
 Inv-loop table list₀ n answer₀ i₀ list answer i = (length list ≡ length list₀)

@@ -6,8 +6,8 @@ use Rattle.naive.proofs.summary.clique_of.Reads as reads
 use Rattle.naive.proofs.summary.clique_of.Lts as lts
 use Rattle.naive.proofs.clique_lists.end_of.Reads as end-of-reads
 use Rattle.naive.proofs.clique_lists.is_data.Reads as is-data-reads
-use Rattle.naive.proofs.lists.entry.Reads as entry-reads
-use Rattle.naive.proofs.lists.triple_at.Reads as triple-at-reads
+use Rattle.naive.proofs.flat.entry.Reads as entry-reads
+use Rattle.naive.proofs.flat.triple_at.Reads as triple-at-reads
 
 abbrev Inv-loop : tie.InvT-loop
 Inv-loop table cliques sources node count i₀ i = Unit {0}

@@ -6,11 +6,11 @@ use Rattle.naive.proofs.summary.replaced.Statement.{statement}
 use Rattle.naive.proofs.summary.replaced.Tie as tie
 use Rattle.naive.proofs.summary.replaced.Reads as reads
 use Rattle.naive.proofs.summary.replaced.Lts as lts
-use Rattle.naive.proofs.lists.accept.Reads as accept-reads
-use Rattle.naive.proofs.lists.add.Reads as add-reads
-use Rattle.naive.proofs.lists.entry.Reads as entry-reads
-use Rattle.naive.proofs.lists.triple_at.Reads as triple-at-reads
-use Rattle.naive.proofs.lists.triple_of.Reads as triple-of-reads
+use Rattle.naive.proofs.flat.accept.Reads as accept-reads
+use Rattle.naive.proofs.flat.add.Reads as add-reads
+use Rattle.naive.proofs.flat.entry.Reads as entry-reads
+use Rattle.naive.proofs.flat.triple_at.Reads as triple-at-reads
+use Rattle.naive.proofs.flat.triple_of.Reads as triple-of-reads
 
 abbrev Inv-loop : tie.InvT-loop
 Inv-loop table map list₀ count answer₀ i₀ list answer i = (length list ≡ length list₀)

@@ -6,9 +6,9 @@ use Rattle.naive.proofs.summary.start.Statement.{statement}
 use Rattle.naive.proofs.summary.start.Tie as tie
 use Rattle.naive.proofs.summary.start.Reads as reads
 use Rattle.naive.proofs.summary.start.Lts as lts
-use Rattle.naive.proofs.lists.fill.Reads as fill-reads
-use Rattle.naive.proofs.lists.set_entry.Reads as set-entry-reads
-use Rattle.naive.proofs.lists.triple_at.Reads as triple-at-reads
+use Rattle.naive.proofs.flat.fill.Reads as fill-reads
+use Rattle.naive.proofs.flat.set_entry.Reads as set-entry-reads
+use Rattle.naive.proofs.flat.triple_at.Reads as triple-at-reads
 
 abbrev Inv-loop : tie.InvT-loop
 Inv-loop table map₀ count i₀ map i = (length map ≡ length map₀)
