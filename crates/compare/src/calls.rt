@@ -10,6 +10,7 @@ use super::report::SATURATE;
 use super::report::SUMMARISE;
 use super::report::check;
 use super::report::record;
+use intake::OpenedCounts;
 use model::Counted;
 use model::Done;
 use model::Found;
@@ -146,6 +147,18 @@ fn check_answer(tally: &mut [u64; 90], call: usize, seed: u64, got: Answer, want
     check(tally, call, seed, b"count", got.count == want.count);
 }
 
+// Compares a list of each engine.
+pub fn check_list(
+    tally: &mut [u64; 90],
+    call: usize,
+    seed: u64,
+    what: &[u8],
+    a: &[u32],
+    b: &[u32],
+) {
+    check(tally, call, seed, what, same(a, b));
+}
+
 pub fn own_roster(
     tally: &mut [u64; 90],
     seed: u64,
@@ -169,6 +182,16 @@ pub fn own_roster(
     got
 }
 
+fn engine_saturate(table: &[u32], roster: &[u8], result: &mut [u32]) -> Answer {
+    junk(result);
+    of_counted(saturate::saturate(table, roster, result))
+}
+
+fn naive_saturate(table: &[u32], roster: &[u8], result: &mut [u32]) -> Answer {
+    junk(result);
+    naive::saturate(table, roster, result)
+}
+
 pub fn saturate(
     tally: &mut [u64; 90],
     seed: u64,
@@ -177,14 +200,24 @@ pub fn saturate(
     result: &mut [u32],
     plain: &mut [u32],
 ) -> Answer {
-    junk(result);
-    junk(plain);
-    let got = of_counted(saturate::saturate(table, roster, result));
-    let want = naive::saturate(table, roster, plain);
+    let got = engine_saturate(table, roster, result);
+    let want = naive_saturate(table, roster, plain);
     check_answer(tally, SATURATE, seed, got, want);
     check(tally, SATURATE, seed, b"result", same(result, plain));
     record(tally, SATURATE, got.refused);
     got
+}
+
+fn engine_cliques(table: &[u32], roster: &[u8], sources: &mut [u32], targets: &mut [u32]) -> u32 {
+    junk(sources);
+    junk(targets);
+    of_done(cliques::cliques(table, roster, sources, targets))
+}
+
+fn naive_cliques(table: &[u32], roster: &[u8], sources: &mut [u32], targets: &mut [u32]) -> u32 {
+    junk(sources);
+    junk(targets);
+    naive::cliques(table, roster, sources, targets)
 }
 
 pub fn cliques(
@@ -197,29 +230,60 @@ pub fn cliques(
     plain_sources: &mut [u32],
     plain_targets: &mut [u32],
 ) -> u32 {
-    junk(sources);
-    junk(targets);
-    junk(plain_sources);
-    junk(plain_targets);
-    let got = of_done(cliques::cliques(table, roster, sources, targets));
-    let want = naive::cliques(table, roster, plain_sources, plain_targets);
+    let got = engine_cliques(table, roster, sources, targets);
+    let want = naive_cliques(table, roster, plain_sources, plain_targets);
     check(tally, CLIQUES, seed, b"answer", got == want);
-    check(
-        tally,
-        CLIQUES,
-        seed,
-        b"sources",
-        same(sources, plain_sources),
-    );
-    check(
-        tally,
-        CLIQUES,
-        seed,
-        b"targets",
-        same(targets, plain_targets),
-    );
+    check_list(tally, CLIQUES, seed, b"sources", sources, plain_sources);
+    check_list(tally, CLIQUES, seed, b"targets", targets, plain_targets);
     record(tally, CLIQUES, got);
     got
+}
+
+fn engine_summarise(
+    table: &[u32],
+    roster: &[u8],
+    result: &mut [u32],
+    map: &mut [u32],
+    work: &mut [u32],
+) -> Answer {
+    junk(result);
+    junk(map);
+    junk(work);
+    of_counted(summarise::summarise(table, roster, result, map, work))
+}
+
+fn naive_summarise(
+    table: &[u32],
+    roster: &[u8],
+    result: &mut [u32],
+    map: &mut [u32],
+    work: &mut [u32],
+) -> Answer {
+    junk(result);
+    junk(map);
+    junk(work);
+    naive::summarise(table, roster, result, map, work)
+}
+
+// Compares three lists of each engine.
+pub fn check_three(
+    tally: &mut [u64; 90],
+    call: usize,
+    seed: u64,
+    triples: &[u32],
+    map: &[u32],
+    third: &[u32],
+    plain_triples: &[u32],
+    plain_map: &[u32],
+    plain_third: &[u32],
+) {
+    check_list(tally, call, seed, b"triples", triples, plain_triples);
+    check_list(tally, call, seed, b"map", map, plain_map);
+    if call == SUMMARISE {
+        check_list(tally, call, seed, b"work", third, plain_third);
+    } else {
+        check_list(tally, call, seed, b"summary", third, plain_third);
+    }
 }
 
 pub fn summarise(
@@ -234,24 +298,20 @@ pub fn summarise(
     plain_map: &mut [u32],
     plain_work: &mut [u32],
 ) -> Answer {
-    junk(result);
-    junk(map);
-    junk(work);
-    junk(plain_result);
-    junk(plain_map);
-    junk(plain_work);
-    let got = of_counted(summarise::summarise(table, roster, result, map, work));
-    let want = naive::summarise(table, roster, plain_result, plain_map, plain_work);
+    let got = engine_summarise(table, roster, result, map, work);
+    let want = naive_summarise(table, roster, plain_result, plain_map, plain_work);
     check_answer(tally, SUMMARISE, seed, got, want);
-    check(
+    check_three(
         tally,
         SUMMARISE,
         seed,
-        b"result",
-        same(result, plain_result),
+        result,
+        map,
+        work,
+        plain_result,
+        plain_map,
+        plain_work,
     );
-    check(tally, SUMMARISE, seed, b"map", same(map, plain_map));
-    check(tally, SUMMARISE, seed, b"work", same(work, plain_work));
     record(tally, SUMMARISE, got.refused);
     got
 }
@@ -310,6 +370,43 @@ pub fn ask(tally: &mut [u64; 90], seed: u64, table: &[u32], map: &[u32], query: 
     column(got)
 }
 
+fn engine_open(
+    roster: &[u8],
+    triples: &mut [u32],
+    summary: &mut [u32],
+    map: &mut [u32],
+) -> OpenedCounts {
+    junk(triples);
+    junk(summary);
+    junk(map);
+    intake::open_counts(70, 71, roster, triples, summary, map)
+}
+
+fn naive_open(roster: &[u8], triples: &mut [u32], summary: &mut [u32], map: &mut [u32]) -> u32 {
+    junk(triples);
+    junk(summary);
+    junk(map);
+    naive::open(roster, triples, summary, map)
+}
+
+// An accepted opening makes both counts zero, a refused one leaves them.
+fn check_opened(
+    tally: &mut [u64; 90],
+    seed: u64,
+    got: u32,
+    want: u32,
+    held: usize,
+    summarised: usize,
+) {
+    check(tally, OPEN, seed, b"answer", got == want);
+    if want == 0 {
+        check(tally, OPEN, seed, b"counts", held == 0 && summarised == 0);
+    } else {
+        check(tally, OPEN, seed, b"counts", held == 70 && summarised == 71);
+    }
+    record(tally, OPEN, got);
+}
+
 pub fn open(
     tally: &mut [u64; 90],
     seed: u64,
@@ -321,36 +418,21 @@ pub fn open(
     plain_summary: &mut [u32],
     plain_map: &mut [u32],
 ) -> u32 {
-    junk(triples);
-    junk(summary);
-    junk(map);
-    junk(plain_triples);
-    junk(plain_summary);
-    junk(plain_map);
-    let opened = intake::open_counts(70, 71, roster, triples, summary, map);
-    let got = of_done(opened.answer);
-    let want = naive::open(roster, plain_triples, plain_summary, plain_map);
-    check(tally, OPEN, seed, b"answer", got == want);
-    check(tally, OPEN, seed, b"triples", same(triples, plain_triples));
-    check(tally, OPEN, seed, b"summary", same(summary, plain_summary));
-    check(tally, OPEN, seed, b"map", same(map, plain_map));
-    if want == 0 {
-        check(
-            tally,
-            OPEN,
-            seed,
-            b"counts",
-            opened.held == 0 && opened.summarised == 0,
-        );
-    } else {
-        check(
-            tally,
-            OPEN,
-            seed,
-            b"counts",
-            opened.held == 70 && opened.summarised == 71,
-        );
-    }
-    record(tally, OPEN, got);
+    let opened = engine_open(roster, triples, summary, map);
+    let want = naive_open(roster, plain_triples, plain_summary, plain_map);
+    let done = opened.answer;
+    let got = of_done(done);
+    check_opened(tally, seed, got, want, opened.held, opened.summarised);
+    check_three(
+        tally,
+        OPEN,
+        seed,
+        triples,
+        map,
+        summary,
+        plain_triples,
+        plain_map,
+        plain_summary,
+    );
     got
 }

@@ -11,6 +11,10 @@ use super::report::FEED;
 use super::report::check;
 use super::report::record;
 use super::sites;
+use intake::FedCounts;
+use model::Found;
+use naive::Answer;
+use naive::Fed;
 
 // The engine's two counts, the size of H, and the engine's last answer.
 pub struct State {
@@ -52,22 +56,18 @@ fn check_against(
         plain_map,
         plain_work,
     );
-    check(
-        tally,
-        FEED,
-        seed,
-        b"triples",
-        calls::same(triples, plain_triples),
-    );
-    check(
-        tally,
-        FEED,
-        seed,
-        b"summary",
-        calls::same(summary, plain_summary),
-    );
-    check(tally, FEED, seed, b"map", calls::same(map, plain_map));
     check(tally, FEED, seed, b"summarised", summarised == plain.count);
+    calls::check_three(
+        tally,
+        FEED,
+        seed,
+        triples,
+        map,
+        summary,
+        plain_triples,
+        plain_map,
+        plain_summary,
+    );
 }
 
 fn check_lists(
@@ -104,6 +104,62 @@ fn check_lists(
     );
 }
 
+fn engine_feed(
+    state: State,
+    roster: &[u8],
+    triples: &mut [u32],
+    summary: &mut [u32],
+    map: &mut [u32],
+    work: &mut [u32],
+    s: u32,
+    p: u32,
+    o: u32,
+) -> FedCounts {
+    calls::junk(work);
+    intake::feed_lists(
+        state.held,
+        state.summarised,
+        roster,
+        triples,
+        summary,
+        map,
+        work,
+        s,
+        p,
+        o,
+    )
+}
+
+fn clear_if(list: &mut [u32], yes: bool) {
+    if yes {
+        calls::clear(list);
+    }
+}
+
+// The plain intake, and what a feed leaves of a work list: zeros if it is not refused.
+fn naive_feed(
+    state: State,
+    roster: &[u8],
+    slots: usize,
+    h: &mut [u32],
+    work: &mut [u32],
+    s: u32,
+    p: u32,
+    o: u32,
+) -> Fed {
+    calls::junk(work);
+    let fed = naive::plain_feed(roster, slots, h, state.plain, work.len(), s, p, o);
+    clear_if(work, fed.refused == 0);
+    fed
+}
+
+fn check_fed(tally: &mut [u64; 90], seed: u64, got: Answer, held: usize, plain: Fed) {
+    check(tally, FEED, seed, b"answer", got.refused == plain.refused);
+    check(tally, FEED, seed, b"new", plain.new == (got.count == 1));
+    check(tally, FEED, seed, b"held", held == plain.held);
+    record(tally, FEED, calls::column(got));
+}
+
 // Feeds both with a work list, and compares answers, counts and the work list.
 fn feed_both(
     tally: &mut [u64; 90],
@@ -120,39 +176,12 @@ fn feed_both(
     p: u32,
     o: u32,
 ) -> State {
-    calls::junk(work);
-    calls::junk(left);
-    let fed = intake::feed_lists(
-        state.held,
-        state.summarised,
-        roster,
-        triples,
-        summary,
-        map,
-        work,
-        s,
-        p,
-        o,
-    );
-    let plain = naive::plain_feed(
-        roster,
-        triples.len() / 3,
-        h,
-        state.plain,
-        work.len(),
-        s,
-        p,
-        o,
-    );
-    let got = calls::of_found(fed.answer);
-    if plain.refused == 0 {
-        calls::clear(left);
-    }
-    check(tally, FEED, seed, b"answer", got.refused == plain.refused);
-    check(tally, FEED, seed, b"new", plain.new == (got.count == 1));
-    check(tally, FEED, seed, b"held", fed.held == plain.held);
-    check(tally, FEED, seed, b"work", calls::same(work, left));
-    record(tally, FEED, calls::column(got));
+    let fed = engine_feed(state, roster, triples, summary, map, work, s, p, o);
+    let plain = naive_feed(state, roster, triples.len() / 3, h, left, s, p, o);
+    let answer = fed.answer;
+    let got = calls::of_found(answer);
+    check_fed(tally, seed, got, fed.held, plain);
+    calls::check_list(tally, FEED, seed, b"work", work, left);
     State {
         held: fed.held,
         summarised: fed.summarised,
@@ -260,7 +289,41 @@ pub fn feed(
     next
 }
 
-// Feeds the triples of a table one after the other; now and then with a work list of a wrong length.
+// Feeds the triple at place i of a table; now and then with a work list of a wrong length.
+fn feed_at(
+    tally: &mut [u64; 90],
+    seed: u64,
+    state: State,
+    i: usize,
+    table: &[u32],
+    roster: &[u8],
+    triples: &mut [u32],
+    summary: &mut [u32],
+    map: &mut [u32],
+    h: &mut [u32],
+) -> State {
+    let k = 3 * at_most(i, 1000);
+    let w = sites::near(mix(seed, 70), k as u64, 2 * at_most(roster.len(), 24));
+    let s = get(table, k);
+    let p = get(table, k + 1);
+    let o = get(table, k + 2);
+    feed(
+        tally,
+        seed,
+        state,
+        roster,
+        triples,
+        summary,
+        map,
+        h,
+        w,
+        s,
+        p,
+        o,
+    )
+}
+
+// Feeds the 30 triples of a table one after the other.
 fn feed_all(
     tally: &mut [u64; 90],
     seed: u64,
@@ -271,26 +334,20 @@ fn feed_all(
     map: &mut [u32],
     h: &mut [u32],
 ) {
-    let n = at_most(roster.len(), 24);
-    let count = table.len() / 3;
     let mut state = opened();
     let mut i = 0;
-    while i < count {
-        let k = 3 * i;
-        let w = sites::near(mix(seed, 70), i as u64, 2 * n);
-        state = feed(
+    while i < 30 {
+        state = feed_at(
             tally,
             seed,
             state,
+            i,
+            table,
             roster,
             triples,
             summary,
             map,
             h,
-            w,
-            get(table, k),
-            get(table, k + 1),
-            get(table, k + 2),
         );
         i += 1;
     }
@@ -304,11 +361,11 @@ fn make(seed: u64, table: &mut [u32], roster: &mut [u8]) {
     sites::damage_table(table, mix(seed, 73), roster.len());
 }
 
-fn intake_of(
+fn run(
     tally: &mut [u64; 90],
     seed: u64,
-    table: &mut [u32],
-    roster: &mut [u8],
+    table: &[u32],
+    roster: &[u8],
     triples: &mut [u32],
     summary: &mut [u32],
     map: &mut [u32],
@@ -316,7 +373,6 @@ fn intake_of(
     plain_summary: &mut [u32],
     plain_map: &mut [u32],
 ) {
-    make(seed, table, roster);
     let got = calls::open(
         tally,
         seed,
@@ -340,6 +396,121 @@ fn intake_of(
             plain_triples,
         );
     }
+}
+
+fn intake_of(
+    tally: &mut [u64; 90],
+    seed: u64,
+    table: &mut [u32],
+    roster: &mut [u8],
+    triples: &mut [u32],
+    summary: &mut [u32],
+    map: &mut [u32],
+    plain_triples: &mut [u32],
+    plain_summary: &mut [u32],
+    plain_map: &mut [u32],
+) {
+    make(seed, table, roster);
+    run(
+        tally,
+        seed,
+        table,
+        roster,
+        triples,
+        summary,
+        map,
+        plain_triples,
+        plain_summary,
+        plain_map,
+    );
+}
+
+fn junk_four(a: &mut [u32], b: &mut [u32], c: &mut [u32], d: &mut [u32]) {
+    calls::junk(a);
+    calls::junk(b);
+    calls::junk(c);
+    calls::junk(d);
+}
+
+fn feed_junk(
+    roster: &[u8],
+    triples: &mut [u32],
+    summary: &mut [u32],
+    map: &mut [u32],
+    work: &mut [u32],
+) -> FedCounts {
+    junk_four(triples, summary, map, work);
+    intake::feed_lists(1, 1, roster, triples, summary, map, work, 10, 5, 12)
+}
+
+fn check_refused(
+    tally: &mut [u64; 90],
+    expected: u32,
+    answer: Found,
+    held: usize,
+    summarised: usize,
+) -> u32 {
+    let got = calls::of_found(answer);
+    check(tally, FEED, 0, b"answer", got.refused == expected);
+    check(tally, FEED, 0, b"counts", held == 1 && summarised == 1);
+    record(tally, FEED, got.refused);
+    got.refused
+}
+
+fn check_four(
+    tally: &mut [u64; 90],
+    triples: &[u32],
+    summary: &[u32],
+    map: &[u32],
+    work: &[u32],
+    left_triples: &[u32],
+    left_summary: &[u32],
+    left_map: &[u32],
+    left_work: &[u32],
+) {
+    calls::check_three(
+        tally,
+        FEED,
+        0,
+        triples,
+        map,
+        summary,
+        left_triples,
+        left_map,
+        left_summary,
+    );
+    calls::check_list(tally, FEED, 0, b"work", work, left_work);
+}
+
+// A feed of 10 5 12 that is refused before the state matters: it leaves all as it was, also what no opening left there.
+pub fn feed_refused(
+    tally: &mut [u64; 90],
+    expected: u32,
+    roster: &[u8],
+    triples: &mut [u32],
+    summary: &mut [u32],
+    map: &mut [u32],
+    work: &mut [u32],
+    left_triples: &mut [u32],
+    left_summary: &mut [u32],
+    left_map: &mut [u32],
+    left_work: &mut [u32],
+) -> u32 {
+    let fed = feed_junk(roster, triples, summary, map, work);
+    junk_four(left_triples, left_summary, left_map, left_work);
+    check_four(
+        tally,
+        triples,
+        summary,
+        map,
+        work,
+        left_triples,
+        left_summary,
+        left_map,
+        left_work,
+    );
+    let answer = fed.answer;
+    check_refused(tally, expected, answer, fed.held, fed.summarised)
 }
 
 // The length of an intake's list: few slots, or enough.
@@ -392,7 +563,7 @@ fn intake_case(tally: &mut [u64; 90], seed: u64) {
 
 pub fn all(tally: &mut [u64; 90]) {
     let mut seed = 200000;
-    while seed < 200600 {
+    while seed < 212000 {
         intake_case(tally, seed);
         seed += 1;
     }

@@ -1,5 +1,6 @@
 // Random queries: on a table, on its saturation and on a summary with its map.
 ghost use Prim.Native.Nat.{_≤_};
+ghost use lib.ListN.{length};
 use super::calls;
 use super::random::at_most;
 use super::random::chance;
@@ -87,7 +88,40 @@ fn identity(map: &mut [u32]) {
     }
 }
 
-// Four queries on a list: with a map, on its summary with that map, and with the codes as they are.
+// Two queries on a list and on its summary, with its map.
+fn ask_both(
+    tally: &mut [u64; 90],
+    seed: u64,
+    list: &[u32],
+    summary: &[u32],
+    map: &[u32],
+    query: &[u32],
+) {
+    calls::ask(tally, seed, list, map, query);
+    calls::ask(tally, seed, summary, map, query);
+}
+
+// A query with the codes as they are.
+fn ask_plain(tally: &mut [u64; 90], seed: u64, list: &[u32], map: &mut [u32], query: &mut [u32]) {
+    identity(map);
+    fill_query(query, mix(seed, 62), list);
+    calls::ask(tally, seed, list, map, query);
+}
+
+// Summarises; the numbers of the summary.
+fn summary_end(
+    list: &[u32],
+    roster: &[u8],
+    summary: &mut [u32],
+    map: &mut [u32],
+    work: &mut [u32],
+) -> usize
+    ensures { λ r. ⌜ r ≤ length (now (summary .exit)) ⌝ }
+{
+    let answer = naive::summarise(list, roster, summary, map, work);
+    triples_end(answer.count, summary.len())
+}
+
 fn ask_list(
     tally: &mut [u64; 90],
     seed: u64,
@@ -98,18 +132,12 @@ fn ask_list(
     work: &mut [u32],
     query: &mut [u32],
 ) {
-    let answer = naive::summarise(list, roster, summary, map, work);
-    let end = triples_end(answer.count, summary.len());
+    let end = summary_end(list, roster, summary, map, work);
     fill_query(query, mix(seed, 61), list);
-    calls::ask(tally, seed, list, map, query);
-    calls::ask(tally, seed, &summary[0..end], map, query);
-    fill_query(query, mix(seed, 62), list);
-    calls::ask(tally, seed, &summary[0..end], map, query);
-    identity(map);
-    calls::ask(tally, seed, list, map, query);
+    ask_both(tally, seed, list, &summary[0..end], map, query);
+    ask_plain(tally, seed, list, map, query);
 }
 
-// Every other time the table is saturated first.
 fn ask_site(
     tally: &mut [u64; 90],
     seed: u64,
@@ -121,13 +149,7 @@ fn ask_site(
     work: &mut [u32],
     query: &mut [u32],
 ) {
-    sites::make(seed, table, roster);
-    if chance(seed, 60, 2) {
-        ask_list(tally, seed, table, roster, summary, map, work, query);
-        return;
-    }
-    let saturated = naive::saturate(table, roster, closed);
-    let end = triples_end(saturated.count, closed.len());
+    let end = sites::base(seed, table, roster, closed);
     ask_list(
         tally,
         seed,
@@ -149,7 +171,7 @@ fn ask_case(tally: &mut [u64; 90], seed: u64) {
     let mut work = [0u32; 50];
     let mut query = [0u32; 41];
     let n = sites::size(seed);
-    let t = sites::length(seed);
+    let t = sites::table_length(seed);
     let m = sites::near(seed, 63, n);
     let w = at_most(2 * n, 50);
     ask_site(
@@ -167,7 +189,7 @@ fn ask_case(tally: &mut [u64; 90], seed: u64) {
 
 pub fn all(tally: &mut [u64; 90]) {
     let mut seed = 100000;
-    while seed < 102000 {
+    while seed < 140000 {
         ask_case(tally, seed);
         seed += 1;
     }

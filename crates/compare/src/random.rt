@@ -8,7 +8,9 @@ fn step(x: u64) -> u64
 }
 
 // The high half becomes the low one: the low bits of a step are poor.
-fn exchange(x: u64) -> u64 {
+fn exchange(x: u64) -> u64
+    ensures { λ r. ⌜ r < 2147483648 ⌝ }
+{
     x % 65536 * 32768 + x / 65536 % 32768
 }
 
@@ -20,13 +22,20 @@ pub fn mix(seed: u64, place: u64) -> u64
     step(b)
 }
 
-// A number below `bound`, or 0.
-pub fn pick(seed: u64, place: u64, bound: u32) -> u32 {
-    if bound == 0 {
+pub fn remainder(x: u32, m: u32) -> u32
+    ensures { λ r. ⌜ r ≤ x ⌝ }
+{
+    if m == 0 {
         return 0;
     }
-    let x = (mix(seed, place) / 128) as u32;
-    x % bound
+    x % m
+}
+
+// A number below `bound`, or 0.
+pub fn pick(seed: u64, place: u64, bound: u32) -> u32
+    ensures { λ r. ⌜ r ≤ 16777215 ⌝ }
+{
+    remainder((mix(seed, place) / 128) as u32, bound)
 }
 
 // Whether a chance of one in `bound` falls.

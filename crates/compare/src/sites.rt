@@ -1,11 +1,13 @@
 // Random sites, some of them damaged, and the calls on a table with its roster.
 ghost use Prim.Native.Nat.{_*_, _≤_};
+ghost use lib.ListN.{length};
 use super::calls;
 use super::random::at_most;
 use super::random::chance;
 use super::random::get;
 use super::random::mix;
 use super::random::pick;
+use super::random::remainder;
 use super::random::set;
 use super::random::set_mark;
 use super::random::triples_end;
@@ -21,7 +23,7 @@ pub fn size(seed: u64) -> usize
 }
 
 // The length of a table: 0 to 20 triples, now and then one or two numbers more.
-pub fn length(seed: u64) -> usize
+pub fn table_length(seed: u64) -> usize
     ensures { λ r. ⌜ r ≤ 62 ⌝ }
 {
     let numbers = at_most(3 * pick(seed, 3, 21) as usize, 60);
@@ -80,7 +82,7 @@ fn code(seed: u64, place: u64, zone: u32, n: usize) -> u32 {
         return 5 + pick(s, 1, free - 5);
     }
     let third = (free - 3) / 3;
-    5 + (zone_start(zone, third) + pick(s, 1, third)) % (free - 5)
+    5 + remainder(zone_start(zone, third) + pick(s, 1, third), free - 5)
 }
 
 fn put_triple(table: &mut [u32], i: usize, s: u32, p: u32, o: u32) {
@@ -162,7 +164,9 @@ pub fn fill_table(table: &mut [u32], seed: u64, n: usize) {
 }
 
 // A place of a list of that length.
-fn place_in(seed: u64, place: u64, length: usize) -> usize {
+fn place_in(seed: u64, place: u64, length: usize) -> usize
+    ensures { λ r. ⌜ r ≤ 16777215 ⌝ }
+{
     pick(seed, place, at_most(length, 1000) as u32) as usize
 }
 
@@ -184,6 +188,7 @@ pub fn damage_table(table: &mut [u32], seed: u64, n: usize) {
     let k = place_in(seed, 11, table.len() / 3);
     if d == 2 {
         set(table, 3 * k, pick(seed, 12, 5));
+        return;
     }
     if d == 3 {
         set(table, 3 * k + 2, pick(seed, 12, 5));
@@ -238,7 +243,7 @@ fn roster_case(tally: &mut [u64; 90], seed: u64) {
     let mut a = [0u8; 24];
     let mut b = [0u8; 24];
     let n = size(seed);
-    let t = length(seed);
+    let t = table_length(seed);
     roster_of(tally, seed, &mut table[0..t], &mut a[0..n], &mut b[0..n]);
 }
 
@@ -260,7 +265,7 @@ fn saturation_case(tally: &mut [u64; 90], seed: u64) {
     let mut a = [0u32; 600];
     let mut b = [0u32; 600];
     let n = size(seed);
-    let t = length(seed);
+    let t = table_length(seed);
     let r = room(seed);
     saturation_of(
         tally,
@@ -294,7 +299,7 @@ fn cliques_case(tally: &mut [u64; 90], seed: u64) {
     let mut c = [0u32; 50];
     let mut d = [0u32; 50];
     let n = size(seed);
-    let t = length(seed);
+    let t = table_length(seed);
     let s = near(seed, 30, n);
     let o = near(seed, 31, n);
     cliques_of(
@@ -309,7 +314,27 @@ fn cliques_case(tally: &mut [u64; 90], seed: u64) {
     );
 }
 
-// Every other time the table is saturated first.
+// A list to summarise or to ask, and its length: the table, or every other time its saturation.
+pub fn base(seed: u64, table: &mut [u32], roster: &mut [u8], list: &mut [u32]) -> usize
+    ensures { λ r. ⌜ r ≤ length (now (list .exit)) ⌝ }
+{
+    make(seed, table, roster);
+    if chance(seed, 35, 2) {
+        copy(table, list);
+        return at_most(table.len(), list.len());
+    }
+    let answer = naive::saturate(table, roster, list);
+    triples_end(answer.count, list.len())
+}
+
+fn copy(from: &[u32], to: &mut [u32]) {
+    let mut i = 0;
+    while i < from.len() {
+        set(to, i, from[i]);
+        i += 1;
+    }
+}
+
 fn summary_of(
     tally: &mut [u64; 90],
     seed: u64,
@@ -323,24 +348,7 @@ fn summary_of(
     plain_map: &mut [u32],
     plain_work: &mut [u32],
 ) {
-    make(seed, table, roster);
-    if chance(seed, 35, 2) {
-        calls::summarise(
-            tally,
-            seed,
-            table,
-            roster,
-            result,
-            map,
-            work,
-            plain_result,
-            plain_map,
-            plain_work,
-        );
-        return;
-    }
-    let saturated = naive::saturate(table, roster, closed);
-    let end = triples_end(saturated.count, closed.len());
+    let end = base(seed, table, roster, closed);
     calls::summarise(
         tally,
         seed,
@@ -366,7 +374,7 @@ fn summary_case(tally: &mut [u64; 90], seed: u64) {
     let mut plain_map = [0u32; 50];
     let mut plain_work = [0u32; 50];
     let n = size(seed);
-    let t = length(seed);
+    let t = table_length(seed);
     let r = room(seed);
     let m = near(seed, 32, n);
     let w = near(seed, 33, 2 * n);
@@ -398,7 +406,7 @@ fn look_up_of(tally: &mut [u64; 90], seed: u64, table: &mut [u32]) {
 
 fn look_up_case(tally: &mut [u64; 90], seed: u64) {
     let mut table = [0u32; 62];
-    let t = length(seed);
+    let t = table_length(seed);
     look_up_of(tally, seed, &mut table[0..t]);
 }
 
@@ -412,7 +420,7 @@ fn site_cases(tally: &mut [u64; 90], seed: u64) {
 
 pub fn all(tally: &mut [u64; 90]) {
     let mut seed = 0;
-    while seed < 4000 {
+    while seed < 80000 {
         site_cases(tally, seed);
         seed += 1;
     }

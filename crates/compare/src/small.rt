@@ -3,6 +3,7 @@ use super::calls;
 use super::feeds;
 use super::feeds::State;
 use super::random::at_most;
+use super::random::get;
 use super::random::set;
 use super::report::ASK;
 use super::report::CLIQUES;
@@ -12,8 +13,6 @@ use super::report::OPEN;
 use super::report::OWN_ROSTER;
 use super::report::SATURATE;
 use super::report::SUMMARISE;
-use super::report::check;
-use super::report::record;
 use super::report::small;
 
 // The six triples of the paper's example, with N 14.
@@ -265,18 +264,98 @@ fn opens(tally: &mut [u64; 90]) {
     open(tally, b"reserved-marked", 2, &reserved, 6, 6, 14);
 }
 
+// Ten feeds of an intake of two slots, each with the number expected, the work list's length and the triple.
+const FEEDS: [u32; 50] = [
+    0,
+    28,
+    10,
+    5,
+    12,
+    1,
+    27,
+    11,
+    6,
+    13,
+    3,
+    28,
+    10,
+    5,
+    14,
+    3,
+    28,
+    10,
+    5,
+    0,
+    4,
+    28,
+    10,
+    10,
+    11,
+    0,
+    28,
+    11,
+    6,
+    13,
+    0,
+    28,
+    10,
+    5,
+    12,
+    7,
+    28,
+    10,
+    6,
+    12,
+    3,
+    28,
+    10,
+    5,
+    0,
+    4,
+    28,
+    10,
+    10,
+    11,
+];
+
+fn small_feed(i: usize, expected: u32, got: u32) {
+    if i == 0 {
+        small(FEED, b"new", expected, got);
+    } else if i == 1 {
+        small(FEED, b"27-work", expected, got);
+    } else if i == 2 {
+        small(FEED, b"10-5-14", expected, got);
+    } else if i == 3 {
+        small(FEED, b"10-5-0", expected, got);
+    } else if i == 4 {
+        small(FEED, b"uncovered", expected, got);
+    } else if i == 5 {
+        small(FEED, b"last-slot", expected, got);
+    } else if i == 6 {
+        small(FEED, b"full-repeat", expected, got);
+    } else if i == 7 {
+        small(FEED, b"full-new", expected, got);
+    } else if i == 8 {
+        small(FEED, b"full-10-5-0", expected, got);
+    } else {
+        small(FEED, b"full-uncovered", expected, got);
+    }
+}
+
 fn feed(
     tally: &mut [u64; 90],
-    name: &[u8],
-    expected: u32,
+    i: usize,
     state: State,
     triples: &mut [u32],
     summary: &mut [u32],
     map: &mut [u32],
     h: &mut [u32],
-    work: usize,
-    t: [u32; 3],
 ) -> State {
+    let k = 5 * at_most(i, 9);
+    let w = get(&FEEDS, k + 1) as usize;
+    let s = get(&FEEDS, k + 2);
+    let p = get(&FEEDS, k + 3);
+    let o = get(&FEEDS, k + 4);
     let next = feeds::feed(
         tally,
         0,
@@ -286,16 +365,15 @@ fn feed(
         summary,
         map,
         h,
-        work,
-        t[0],
-        t[1],
-        t[2],
+        w,
+        s,
+        p,
+        o,
     );
-    small(FEED, name, expected, next.answer);
+    small_feed(i, get(&FEEDS, k), next.answer);
     next
 }
 
-// Feeds an intake of two slots until it is full, and then on.
 fn feed_two_slots(
     tally: &mut [u64; 90],
     triples: &mut [u32],
@@ -303,127 +381,12 @@ fn feed_two_slots(
     map: &mut [u32],
     h: &mut [u32],
 ) {
-    let a = feeds::opened();
-    let b = feed(
-        tally,
-        b"new",
-        0,
-        a,
-        triples,
-        summary,
-        map,
-        h,
-        28,
-        [10, 5, 12],
-    );
-    let c = feed(
-        tally,
-        b"27-work",
-        1,
-        b,
-        triples,
-        summary,
-        map,
-        h,
-        27,
-        [11, 6, 13],
-    );
-    let d = feed(
-        tally,
-        b"10-5-14",
-        3,
-        c,
-        triples,
-        summary,
-        map,
-        h,
-        28,
-        [10, 5, 14],
-    );
-    let e = feed(
-        tally,
-        b"10-5-0",
-        3,
-        d,
-        triples,
-        summary,
-        map,
-        h,
-        28,
-        [10, 5, 0],
-    );
-    let f = feed(
-        tally,
-        b"uncovered",
-        4,
-        e,
-        triples,
-        summary,
-        map,
-        h,
-        28,
-        [10, 10, 11],
-    );
-    let g = feed(
-        tally,
-        b"last-slot",
-        0,
-        f,
-        triples,
-        summary,
-        map,
-        h,
-        28,
-        [11, 6, 13],
-    );
-    let i = feed(
-        tally,
-        b"full-repeat",
-        0,
-        g,
-        triples,
-        summary,
-        map,
-        h,
-        28,
-        [10, 5, 12],
-    );
-    let j = feed(
-        tally,
-        b"full-new",
-        7,
-        i,
-        triples,
-        summary,
-        map,
-        h,
-        28,
-        [10, 6, 12],
-    );
-    let k = feed(
-        tally,
-        b"full-10-5-0",
-        3,
-        j,
-        triples,
-        summary,
-        map,
-        h,
-        28,
-        [10, 5, 0],
-    );
-    feed(
-        tally,
-        b"full-uncovered",
-        4,
-        k,
-        triples,
-        summary,
-        map,
-        h,
-        28,
-        [10, 10, 11],
-    );
+    let mut state = feeds::opened();
+    let mut i = 0;
+    while i < 10 {
+        state = feed(tally, i, state, triples, summary, map, h);
+        i += 1;
+    }
 }
 
 fn feed_opened(tally: &mut [u64; 90]) {
@@ -448,86 +411,50 @@ fn feed_opened(tally: &mut [u64; 90]) {
     feed_two_slots(tally, &mut a, &mut b, &mut c, &mut d);
 }
 
-// A feed that is refused leaves all as it was, also what no opening left there.
+// A feed of 10 5 12 that is refused, with lists of those lengths.
 fn feed_refused(
     tally: &mut [u64; 90],
     name: &[u8],
     expected: u32,
     roster: &[u8],
-    lists: &mut [u32],
-    map: &mut [u32],
-    left: &mut [u32],
-    left_map: &mut [u32],
+    triples: usize,
+    summary: usize,
+    map: usize,
 ) {
-    let mut summary = [0u32; 6];
-    let mut work = [0u32; 28];
-    let mut left_summary = [0u32; 6];
-    let mut left_work = [0u32; 28];
-    calls::junk(lists);
-    calls::junk(map);
-    calls::junk(left);
-    calls::junk(left_map);
-    calls::junk(&mut summary);
-    calls::junk(&mut work);
-    calls::junk(&mut left_summary);
-    calls::junk(&mut left_work);
-    let fed = intake::feed_lists(1, 1, roster, lists, &mut summary, map, &mut work, 10, 5, 12);
-    let got = calls::of_found(fed.answer);
-    check(tally, FEED, 0, b"triples", calls::same(lists, left));
-    check(
+    let mut a = [0u32; 20];
+    let mut b = [0u32; 20];
+    let mut c = [0u32; 20];
+    let mut d = [0u32; 28];
+    let mut e = [0u32; 20];
+    let mut f = [0u32; 20];
+    let mut g = [0u32; 20];
+    let mut h = [0u32; 28];
+    let t = at_most(triples, 20);
+    let s = at_most(summary, 20);
+    let m = at_most(map, 20);
+    let got = feeds::feed_refused(
         tally,
-        FEED,
-        0,
-        b"summary",
-        calls::same(&summary, &left_summary),
+        expected,
+        roster,
+        &mut a[0..t],
+        &mut b[0..s],
+        &mut c[0..m],
+        &mut d,
+        &mut e[0..t],
+        &mut f[0..s],
+        &mut g[0..m],
+        &mut h,
     );
-    check(tally, FEED, 0, b"map", calls::same(map, left_map));
-    check(tally, FEED, 0, b"work", calls::same(&work, &left_work));
-    check(
-        tally,
-        FEED,
-        0,
-        b"counts",
-        fed.held == 1 && fed.summarised == 1,
-    );
-    check(tally, FEED, 0, b"answer", got.refused == expected);
-    record(tally, FEED, got.refused);
-    small(FEED, name, expected, got.refused);
+    small(FEED, name, expected, got);
 }
 
 fn feeds_refused(tally: &mut [u64; 90]) {
     let over = [0u8, 0, 0, 0, 0, 2, 2, 2, 1, 1, 0, 0, 0, 4];
-    let mut a = [0u32; 9];
-    let mut b = [0u32; 14];
-    let mut c = [0u32; 9];
-    let mut d = [0u32; 14];
-    feed_refused(
-        tally,
-        b"unequal-slots",
-        1,
-        &SIX_ROSTER,
-        &mut a,
-        &mut b,
-        &mut c,
-        &mut d,
-    );
-    let mut e = [0u32; 6];
-    let mut f = [0u32; 13];
-    let mut g = [0u32; 6];
-    let mut h = [0u32; 13];
-    feed_refused(
-        tally,
-        b"13-map",
-        1,
-        &SIX_ROSTER,
-        &mut e,
-        &mut f,
-        &mut g,
-        &mut h,
-    );
-    let mut i = [0u32; 6];
-    let mut j = [0u32; 6];
-    feed_refused(tally, b"value-4", 2, &over, &mut i, &mut b, &mut j, &mut d);
+    let reserved = [2u8, 0, 0, 0, 0, 2, 2, 2, 1, 1, 0, 0, 0, 0];
+    feed_refused(tally, b"unequal-slots", 1, &SIX_ROSTER, 9, 6, 14);
+    feed_refused(tally, b"13-map", 1, &SIX_ROSTER, 6, 6, 13);
+    feed_refused(tally, b"value-4", 2, &over, 6, 6, 14);
+    feed_refused(tally, b"reserved-marked", 2, &reserved, 6, 6, 14);
 }
 
 pub fn all(tally: &mut [u64; 90]) {
