@@ -562,8 +562,8 @@ fn intake_case(tally: &mut [u64; 90], seed: u64) {
 }
 
 pub fn all(tally: &mut [u64; 90]) {
-    let mut seed = 200000;
-    while seed < 212000 {
+    let mut seed = 2000000;
+    while seed < 2030000 {
         intake_case(tally, seed);
         seed += 1;
     }

@@ -188,8 +188,8 @@ fn ask_case(tally: &mut [u64; 90], seed: u64) {
 }
 
 pub fn all(tally: &mut [u64; 90]) {
-    let mut seed = 100000;
-    while seed < 140000 {
+    let mut seed = 1000000;
+    while seed < 1100000 {
         ask_case(tally, seed);
         seed += 1;
     }

@@ -420,7 +420,7 @@ fn site_cases(tally: &mut [u64; 90], seed: u64) {
 
 pub fn all(tally: &mut [u64; 90]) {
     let mut seed = 0;
-    while seed < 80000 {
+    while seed < 200000 {
         site_cases(tally, seed);
         seed += 1;
     }
