@@ -1,0 +1,196 @@
+// Random queries: on a table, on its saturation and on a summary with its map.
+ghost use Prim.Native.Nat.{_≤_};
+ghost use lib.ListN.{length};
+use super::calls;
+use super::random::at_most;
+use super::random::chance;
+use super::random::get;
+use super::random::mix;
+use super::random::pick;
+use super::random::set;
+use super::random::triples_end;
+use super::sites;
+
+// How many patterns: mostly 1 to 3.
+fn count_of(seed: u64) -> u32 {
+    let x = pick(seed, 0, 40);
+    if x == 0 {
+        return 0;
+    }
+    if x < 5 {
+        return 4 + x;
+    }
+    if x == 5 {
+        return 9;
+    }
+    1 + x % 3
+}
+
+// A variable: mostly 0 to 2, now and then 7 or 8.
+fn variable(seed: u64) -> u32 {
+    let x = pick(seed, 1, 60);
+    if x == 0 {
+        return 7;
+    }
+    if x == 1 {
+        return 8;
+    }
+    x % 3
+}
+
+// Puts an end for a node: a variable, the node itself, or now and then any code.
+fn put_end(query: &mut [u32], k: usize, seed: u64, node: u32) {
+    let i = at_most(k, 100);
+    let x = pick(seed, 0, 40);
+    if x < 28 {
+        set(query, i, 0);
+        set(query, i + 1, variable(seed));
+        return;
+    }
+    set(query, i, 1);
+    if x < 37 {
+        set(query, i + 1, node);
+        return;
+    }
+    set(query, i + 1, pick(seed, 2, 26));
+}
+
+// Puts a pattern made of a triple of the list; now and then with another property.
+fn put_pattern(query: &mut [u32], k: usize, seed: u64, list: &[u32]) {
+    let i = at_most(k, 100);
+    let t = 3 * pick(seed, 1, at_most(list.len() / 3, 1000) as u32) as usize;
+    put_end(query, i, mix(seed, 2), get(list, t));
+    put_end(query, i + 3, mix(seed, 3), get(list, t + 2));
+    if chance(seed, 4, 24) {
+        set(query, i + 2, pick(seed, 5, 26));
+        return;
+    }
+    set(query, i + 2, get(list, t + 1));
+}
+
+fn fill_query(query: &mut [u32], seed: u64, list: &[u32]) {
+    set(query, 0, count_of(seed));
+    let mut k = 0;
+    while k < 8 {
+        put_pattern(query, 1 + 5 * k, mix(seed, 10 + k as u64), list);
+        k += 1;
+    }
+}
+
+// Each code stands for itself.
+fn identity(map: &mut [u32]) {
+    let mut i = 0;
+    let mut code = 0;
+    while i < map.len() {
+        map[i] = code;
+        code = std::num::wrapping_add_u32(code, 1);
+        i += 1;
+    }
+}
+
+// Two queries on a list and on its summary, with its map.
+fn ask_both(
+    tally: &mut [u64; 90],
+    seed: u64,
+    list: &[u32],
+    summary: &[u32],
+    map: &[u32],
+    query: &[u32],
+) {
+    calls::ask(tally, seed, list, map, query);
+    calls::ask(tally, seed, summary, map, query);
+}
+
+// A query with the codes as they are.
+fn ask_plain(tally: &mut [u64; 90], seed: u64, list: &[u32], map: &mut [u32], query: &mut [u32]) {
+    identity(map);
+    fill_query(query, mix(seed, 62), list);
+    calls::ask(tally, seed, list, map, query);
+}
+
+// Summarises; the numbers of the summary.
+fn summary_end(
+    list: &[u32],
+    roster: &[u8],
+    summary: &mut [u32],
+    map: &mut [u32],
+    work: &mut [u32],
+) -> usize
+    ensures { λ r. ⌜ r ≤ length (now (summary .exit)) ⌝ }
+{
+    let answer = naive::summarise(list, roster, summary, map, work);
+    triples_end(answer.count, summary.len())
+}
+
+fn ask_list(
+    tally: &mut [u64; 90],
+    seed: u64,
+    list: &[u32],
+    roster: &[u8],
+    summary: &mut [u32],
+    map: &mut [u32],
+    work: &mut [u32],
+    query: &mut [u32],
+) {
+    let end = summary_end(list, roster, summary, map, work);
+    fill_query(query, mix(seed, 61), list);
+    ask_both(tally, seed, list, &summary[0..end], map, query);
+    ask_plain(tally, seed, list, map, query);
+}
+
+fn ask_site(
+    tally: &mut [u64; 90],
+    seed: u64,
+    table: &mut [u32],
+    roster: &mut [u8],
+    closed: &mut [u32],
+    summary: &mut [u32],
+    map: &mut [u32],
+    work: &mut [u32],
+    query: &mut [u32],
+) {
+    let end = sites::base(seed, table, roster, closed);
+    ask_list(
+        tally,
+        seed,
+        &closed[0..end],
+        roster,
+        summary,
+        map,
+        work,
+        query,
+    );
+}
+
+fn ask_case(tally: &mut [u64; 90], seed: u64) {
+    let mut table = [0u32; 62];
+    let mut roster = [0u8; 24];
+    let mut closed = [0u32; 240];
+    let mut summary = [0u32; 240];
+    let mut map = [0u32; 50];
+    let mut work = [0u32; 50];
+    let mut query = [0u32; 41];
+    let n = sites::size(seed);
+    let t = sites::table_length(seed);
+    let m = sites::near(seed, 63, n);
+    let w = at_most(2 * n, 50);
+    ask_site(
+        tally,
+        seed,
+        &mut table[0..t],
+        &mut roster[0..n],
+        &mut closed,
+        &mut summary,
+        &mut map[0..m],
+        &mut work[0..w],
+        &mut query,
+    );
+}
+
+pub fn all(tally: &mut [u64; 90]) {
+    let mut seed = 1000000;
+    while seed < 1100000 {
+        ask_case(tally, seed);
+        seed += 1;
+    }
+}

@@ -1,0 +1,469 @@
+// The small graphs of the scope paper that are not proved as theorems, and every refusal of every call.
+use super::calls;
+use super::feeds;
+use super::feeds::State;
+use super::random::at_most;
+use super::random::get;
+use super::random::set;
+use super::report::ASK;
+use super::report::CLIQUES;
+use super::report::FEED;
+use super::report::LOOK_UP;
+use super::report::OPEN;
+use super::report::OWN_ROSTER;
+use super::report::SATURATE;
+use super::report::SUMMARISE;
+use super::report::small;
+
+// The six triples of the paper's example, with N 14.
+const SIX: [u32; 18] = [5, 2, 7, 6, 2, 7, 7, 3, 8, 8, 1, 9, 10, 5, 12, 11, 6, 13];
+
+const SIX_ROSTER: [u8; 14] = [0, 0, 0, 0, 0, 2, 2, 2, 1, 1, 0, 0, 0, 0];
+
+fn own_roster(tally: &mut [u64; 90], name: &[u8], expected: u32, table: &[u32]) {
+    let mut a = [0u8; 14];
+    let mut b = [0u8; 14];
+    let got = calls::own_roster(tally, 0, table, &mut a, &mut b);
+    small(OWN_ROSTER, name, expected, got);
+}
+
+// Saturates into that many numbers.
+fn saturate(
+    tally: &mut [u64; 90],
+    name: &[u8],
+    expected: u32,
+    table: &[u32],
+    roster: &[u8],
+    length: usize,
+) {
+    let mut a = [0u32; 60];
+    let mut b = [0u32; 60];
+    let m = at_most(length, 60);
+    let got = calls::saturate(tally, 0, table, roster, &mut a[0..m], &mut b[0..m]);
+    small(SATURATE, name, expected, got.refused);
+}
+
+// Cliques into lists of those lengths.
+fn cliques(
+    tally: &mut [u64; 90],
+    name: &[u8],
+    expected: u32,
+    table: &[u32],
+    roster: &[u8],
+    sources: usize,
+    targets: usize,
+) {
+    let mut a = [0u32; 20];
+    let mut b = [0u32; 20];
+    let mut c = [0u32; 20];
+    let mut d = [0u32; 20];
+    let s = at_most(sources, 20);
+    let t = at_most(targets, 20);
+    let got = calls::cliques(
+        tally,
+        0,
+        table,
+        roster,
+        &mut a[0..s],
+        &mut b[0..t],
+        &mut c[0..s],
+        &mut d[0..t],
+    );
+    small(CLIQUES, name, expected, got);
+}
+
+// Summarises with a result, a map and a work list of those lengths.
+fn summarise(
+    tally: &mut [u64; 90],
+    name: &[u8],
+    expected: u32,
+    table: &[u32],
+    roster: &[u8],
+    result: usize,
+    map: usize,
+    work: usize,
+) {
+    let mut a = [0u32; 40];
+    let mut b = [0u32; 40];
+    let mut c = [0u32; 40];
+    let mut d = [0u32; 40];
+    let mut e = [0u32; 40];
+    let mut f = [0u32; 40];
+    let r = at_most(result, 40);
+    let m = at_most(map, 40);
+    let w = at_most(work, 40);
+    let got = calls::summarise(
+        tally,
+        0,
+        table,
+        roster,
+        &mut a[0..r],
+        &mut b[0..m],
+        &mut c[0..w],
+        &mut d[0..r],
+        &mut e[0..m],
+        &mut f[0..w],
+    );
+    small(SUMMARISE, name, expected, got.refused);
+}
+
+// The three calls on a table with its roster, with lists long enough.
+fn three(tally: &mut [u64; 90], name: &[u8], expected: u32, table: &[u32], roster: &[u8]) {
+    saturate(tally, name, expected, table, roster, 60);
+    cliques(tally, name, expected, table, roster, 14, 14);
+    summarise(tally, name, expected, table, roster, 40, 14, 28);
+}
+
+// Refusals 1 to 4 of these calls.
+fn tables(tally: &mut [u64; 90]) {
+    let over = [0u8, 0, 0, 0, 0, 2, 2, 2, 1, 1, 0, 0, 0, 4];
+    let reserved = [0u8, 0, 1, 0, 0, 2, 2, 2, 1, 1, 0, 0, 0, 0];
+    let none = [0u8; 14];
+    three(tally, b"six", 0, &SIX, &SIX_ROSTER);
+    three(tally, b"length-17", 1, &SIX[0..17], &SIX_ROSTER);
+    three(tally, b"value-4", 2, &SIX, &over);
+    three(tally, b"reserved-marked", 2, &SIX, &reserved);
+    three(tally, b"10-5-14", 3, &[10, 5, 14], &SIX_ROSTER);
+    three(tally, b"10-5-0", 3, &[10, 5, 0], &SIX_ROSTER);
+    three(
+        tally,
+        b"10-5-0-uncovered",
+        3,
+        &[10, 5, 0, 10, 10, 11],
+        &SIX_ROSTER,
+    );
+    three(
+        tally,
+        b"uncovered-10-5-0",
+        3,
+        &[10, 10, 11, 10, 5, 0],
+        &SIX_ROSTER,
+    );
+    three(
+        tally,
+        b"uncovered",
+        4,
+        &[10, 5, 11, 10, 10, 11],
+        &SIX_ROSTER,
+    );
+    three(tally, b"no-marks", 4, &SIX, &none);
+}
+
+// Lists of wrong lengths, and results with too few slots.
+fn lengths(tally: &mut [u64; 90]) {
+    saturate(tally, b"36-numbers", 0, &SIX, &SIX_ROSTER, 36);
+    saturate(tally, b"35-numbers", 5, &SIX, &SIX_ROSTER, 35);
+    saturate(tally, b"0-numbers", 5, &SIX, &SIX_ROSTER, 0);
+    cliques(tally, b"13-sources", 1, &SIX, &SIX_ROSTER, 13, 14);
+    cliques(tally, b"15-targets", 1, &SIX, &SIX_ROSTER, 14, 15);
+    summarise(tally, b"18-numbers", 0, &SIX, &SIX_ROSTER, 18, 14, 28);
+    summarise(tally, b"17-numbers", 5, &SIX, &SIX_ROSTER, 17, 14, 28);
+    summarise(tally, b"13-map", 1, &SIX, &SIX_ROSTER, 18, 13, 28);
+    summarise(tally, b"29-work", 1, &SIX, &SIX_ROSTER, 18, 14, 29);
+}
+
+fn rosters(tally: &mut [u64; 90]) {
+    own_roster(tally, b"six", 0, &SIX);
+    own_roster(tally, b"length-17", 1, &SIX[0..17]);
+    own_roster(tally, b"10-5-14", 3, &[10, 5, 14]);
+    own_roster(tally, b"10-5-0", 3, &[10, 5, 0]);
+    own_roster(tally, b"10-5-0-uncovered", 3, &[10, 5, 0, 10, 10, 11]);
+}
+
+fn look_ups(tally: &mut [u64; 90]) {
+    let refused = calls::look_up(tally, 0, &SIX[0..17], 5, 2, 7);
+    small(LOOK_UP, b"length-17", 1, refused);
+    let held = calls::look_up(tally, 0, &SIX, 11, 6, 13);
+    small(LOOK_UP, b"held", 9, held);
+    let other = calls::look_up(tally, 0, &SIX, 11, 6, 12);
+    small(LOOK_UP, b"other", 0, other);
+}
+
+// Asks a query of `count` patterns, the first of which is given and the others ask nothing of the table.
+fn ask(
+    tally: &mut [u64; 90],
+    name: &[u8],
+    expected: u32,
+    table: &[u32],
+    map: &[u32],
+    count: u32,
+    pattern: &[u32; 5],
+) {
+    let mut query = [0u32; 41];
+    set(&mut query, 0, count);
+    set(&mut query, 1, pattern[0]);
+    set(&mut query, 2, pattern[1]);
+    set(&mut query, 3, pattern[2]);
+    set(&mut query, 4, pattern[3]);
+    set(&mut query, 5, pattern[4]);
+    small(
+        ASK,
+        name,
+        expected,
+        calls::ask(tally, 0, table, map, &query),
+    );
+}
+
+fn asks(tally: &mut [u64; 90]) {
+    let map = [0u32, 1, 2, 3, 4, 5, 6, 7, 8, 9, 10, 11, 12, 13];
+    let open = [0u32, 0, 5, 0, 1];
+    ask(tally, b"maybe", 9, &SIX, &map, 1, &open);
+    ask(tally, b"none", 0, &SIX, &map, 1, &[0, 0, 5, 0, 0]);
+    ask(tally, b"no-triples", 0, &[], &map, 1, &open);
+    ask(tally, b"length-17", 1, &SIX[0..17], &map, 1, &open);
+    ask(tally, b"10-5-0", 3, &[10, 5, 0], &map, 1, &open);
+    ask(tally, b"10-5-0-no-patterns", 3, &[10, 5, 0], &map, 0, &open);
+    ask(tally, b"no-patterns", 6, &SIX, &map, 0, &open);
+    ask(tally, b"9-patterns", 6, &SIX, &map, 9, &open);
+    ask(tally, b"variable-8", 6, &SIX, &map, 1, &[0, 8, 5, 0, 0]);
+    ask(tally, b"variable-7", 9, &SIX, &map, 1, &[0, 7, 5, 0, 1]);
+    ask(tally, b"code-14", 6, &SIX, &map, 1, &[0, 0, 5, 1, 14]);
+    ask(tally, b"property-14", 6, &SIX, &map, 1, &[0, 0, 14, 0, 1]);
+}
+
+// Opens with lists of those lengths.
+fn open(
+    tally: &mut [u64; 90],
+    name: &[u8],
+    expected: u32,
+    roster: &[u8],
+    triples: usize,
+    summary: usize,
+    map: usize,
+) {
+    let mut a = [0u32; 20];
+    let mut b = [0u32; 20];
+    let mut c = [0u32; 20];
+    let mut d = [0u32; 20];
+    let mut e = [0u32; 20];
+    let mut f = [0u32; 20];
+    let t = at_most(triples, 20);
+    let s = at_most(summary, 20);
+    let m = at_most(map, 20);
+    let got = calls::open(
+        tally,
+        0,
+        roster,
+        &mut a[0..t],
+        &mut b[0..s],
+        &mut c[0..m],
+        &mut d[0..t],
+        &mut e[0..s],
+        &mut f[0..m],
+    );
+    small(OPEN, name, expected, got);
+}
+
+fn opens(tally: &mut [u64; 90]) {
+    let over = [0u8, 0, 0, 0, 0, 2, 2, 2, 1, 1, 0, 0, 0, 4];
+    let reserved = [2u8, 0, 0, 0, 0, 2, 2, 2, 1, 1, 0, 0, 0, 0];
+    open(tally, b"equal-slots", 0, &SIX_ROSTER, 7, 8, 14);
+    open(tally, b"unequal-slots", 1, &SIX_ROSTER, 8, 9, 14);
+    open(tally, b"13-map", 1, &SIX_ROSTER, 6, 6, 13);
+    open(tally, b"value-4", 2, &over, 6, 6, 14);
+    open(tally, b"reserved-marked", 2, &reserved, 6, 6, 14);
+}
+
+// Ten feeds of an intake of two slots, each with the number expected, the work list's length and the triple.
+const FEEDS: [u32; 50] = [
+    0,
+    28,
+    10,
+    5,
+    12,
+    1,
+    27,
+    11,
+    6,
+    13,
+    3,
+    28,
+    10,
+    5,
+    14,
+    3,
+    28,
+    10,
+    5,
+    0,
+    4,
+    28,
+    10,
+    10,
+    11,
+    0,
+    28,
+    11,
+    6,
+    13,
+    0,
+    28,
+    10,
+    5,
+    12,
+    7,
+    28,
+    10,
+    6,
+    12,
+    3,
+    28,
+    10,
+    5,
+    0,
+    4,
+    28,
+    10,
+    10,
+    11,
+];
+
+fn small_feed(i: usize, expected: u32, got: u32) {
+    if i == 0 {
+        small(FEED, b"new", expected, got);
+    } else if i == 1 {
+        small(FEED, b"27-work", expected, got);
+    } else if i == 2 {
+        small(FEED, b"10-5-14", expected, got);
+    } else if i == 3 {
+        small(FEED, b"10-5-0", expected, got);
+    } else if i == 4 {
+        small(FEED, b"uncovered", expected, got);
+    } else if i == 5 {
+        small(FEED, b"last-slot", expected, got);
+    } else if i == 6 {
+        small(FEED, b"full-repeat", expected, got);
+    } else if i == 7 {
+        small(FEED, b"full-new", expected, got);
+    } else if i == 8 {
+        small(FEED, b"full-10-5-0", expected, got);
+    } else {
+        small(FEED, b"full-uncovered", expected, got);
+    }
+}
+
+fn feed(
+    tally: &mut [u64; 90],
+    i: usize,
+    state: State,
+    triples: &mut [u32],
+    summary: &mut [u32],
+    map: &mut [u32],
+    h: &mut [u32],
+) -> State {
+    let k = 5 * at_most(i, 9);
+    let w = get(&FEEDS, k + 1) as usize;
+    let s = get(&FEEDS, k + 2);
+    let p = get(&FEEDS, k + 3);
+    let o = get(&FEEDS, k + 4);
+    let next = feeds::feed(
+        tally,
+        0,
+        state,
+        &SIX_ROSTER,
+        triples,
+        summary,
+        map,
+        h,
+        w,
+        s,
+        p,
+        o,
+    );
+    small_feed(i, get(&FEEDS, k), next.answer);
+    next
+}
+
+fn feed_two_slots(
+    tally: &mut [u64; 90],
+    triples: &mut [u32],
+    summary: &mut [u32],
+    map: &mut [u32],
+    h: &mut [u32],
+) {
+    let mut state = feeds::opened();
+    let mut i = 0;
+    while i < 10 {
+        state = feed(tally, i, state, triples, summary, map, h);
+        i += 1;
+    }
+}
+
+fn feed_opened(tally: &mut [u64; 90]) {
+    let mut a = [0u32; 8];
+    let mut b = [0u32; 7];
+    let mut c = [0u32; 14];
+    let mut d = [0u32; 8];
+    let mut e = [0u32; 7];
+    let mut f = [0u32; 14];
+    let got = calls::open(
+        tally,
+        0,
+        &SIX_ROSTER,
+        &mut a,
+        &mut b,
+        &mut c,
+        &mut d,
+        &mut e,
+        &mut f,
+    );
+    small(OPEN, b"two-slots", 0, got);
+    feed_two_slots(tally, &mut a, &mut b, &mut c, &mut d);
+}
+
+// A feed of 10 5 12 that is refused, with lists of those lengths.
+fn feed_refused(
+    tally: &mut [u64; 90],
+    name: &[u8],
+    expected: u32,
+    roster: &[u8],
+    triples: usize,
+    summary: usize,
+    map: usize,
+) {
+    let mut a = [0u32; 20];
+    let mut b = [0u32; 20];
+    let mut c = [0u32; 20];
+    let mut d = [0u32; 28];
+    let mut e = [0u32; 20];
+    let mut f = [0u32; 20];
+    let mut g = [0u32; 20];
+    let mut h = [0u32; 28];
+    let t = at_most(triples, 20);
+    let s = at_most(summary, 20);
+    let m = at_most(map, 20);
+    let got = feeds::feed_refused(
+        tally,
+        expected,
+        roster,
+        &mut a[0..t],
+        &mut b[0..s],
+        &mut c[0..m],
+        &mut d,
+        &mut e[0..t],
+        &mut f[0..s],
+        &mut g[0..m],
+        &mut h,
+    );
+    small(FEED, name, expected, got);
+}
+
+fn feeds_refused(tally: &mut [u64; 90]) {
+    let over = [0u8, 0, 0, 0, 0, 2, 2, 2, 1, 1, 0, 0, 0, 4];
+    let reserved = [2u8, 0, 0, 0, 0, 2, 2, 2, 1, 1, 0, 0, 0, 0];
+    feed_refused(tally, b"unequal-slots", 1, &SIX_ROSTER, 9, 6, 14);
+    feed_refused(tally, b"13-map", 1, &SIX_ROSTER, 6, 6, 13);
+    feed_refused(tally, b"value-4", 2, &over, 6, 6, 14);
+    feed_refused(tally, b"reserved-marked", 2, &reserved, 6, 6, 14);
+}
+
+pub fn all(tally: &mut [u64; 90]) {
+    tables(tally);
+    lengths(tally);
+    rosters(tally);
+    look_ups(tally);
+    asks(tally);
+    opens(tally);
+    feed_opened(tally);
+    feeds_refused(tally);
+}

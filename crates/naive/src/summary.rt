@@ -1,0 +1,197 @@
+// The weak summary, through cliques and weak equivalence.
+use super::clique_lists::end_of;
+use super::clique_lists::is_data;
+use super::clique_lists::lower;
+use super::clique_lists::side;
+use super::flat::ABSENT;
+use super::flat::Answer;
+use super::flat::Triple;
+use super::flat::accept;
+use super::flat::add;
+use super::flat::entry;
+use super::flat::fill;
+use super::flat::refuse;
+use super::flat::set_entry;
+use super::flat::sort;
+use super::flat::triple_at;
+use super::flat::triple_of;
+use super::refusals::mark;
+use super::refusals::table_refusal;
+
+// The clique of a data node: that of the property of any data triple that it stands in at that side, absent if there is none.
+fn clique_of(table: &[u32], cliques: &[u32], sources: bool, node: u32) -> u32 {
+    let count = table.len() / 3;
+    let mut i = 0;
+    while i < count {
+        let t = triple_at(table, i);
+        if is_data(t) && end_of(t, sources) == node {
+            return entry(cliques, t.property);
+        }
+        i += 1;
+    }
+    ABSENT
+}
+
+// Whether two data nodes have the same non-empty source or target clique, or both have no clique at all.
+fn alike(table: &[u32], sources: &[u32], targets: &[u32], a: u32, b: u32) -> bool {
+    let source_a = clique_of(table, sources, true, a);
+    let source_b = clique_of(table, sources, true, b);
+    let target_a = clique_of(table, targets, false, a);
+    let target_b = clique_of(table, targets, false, b);
+    if source_a != ABSENT && source_a == source_b {
+        return true;
+    }
+    if target_a != ABSENT && target_a == target_b {
+        return true;
+    }
+    source_a == ABSENT && source_b == ABSENT && target_a == ABSENT && target_b == ABSENT
+}
+
+// Each node represents itself at first, and a code that is no node is absent.
+fn start(table: &[u32], map: &mut [u32]) {
+    fill(map, ABSENT);
+    let count = table.len() / 3;
+    let mut i = 0;
+    while i < count {
+        let t = triple_at(table, i);
+        set_entry(map, t.subject, t.subject);
+        set_entry(map, t.object, t.object);
+        i += 1;
+    }
+}
+
+// The node at place e: the ends of triple 0, then those of triple 1, and so on.
+fn node_at(table: &[u32], e: usize) -> u32 {
+    end_of(triple_at(table, e / 2), e % 2 == 0)
+}
+
+// Lowers a data node a by a data node b if they are alike.
+fn join_pair(
+    table: &[u32],
+    roster: &[u8],
+    sources: &[u32],
+    targets: &[u32],
+    map: &mut [u32],
+    a: u32,
+    b: u32,
+) -> bool {
+    if mark(roster, a) != 0 || mark(roster, b) != 0 {
+        return false;
+    }
+    if entry(map, a) <= entry(map, b) {
+        return false;
+    }
+    if alike(table, sources, targets, a, b) {
+        return lower(map, a, b);
+    }
+    false
+}
+
+// Lowers the node a by each node that is alike.
+fn join(
+    table: &[u32],
+    roster: &[u8],
+    sources: &[u32],
+    targets: &[u32],
+    map: &mut [u32],
+    a: u32,
+) -> bool {
+    let ends = table.len() / 3 * 2;
+    let mut changed = false;
+    let mut e = 0;
+    while e < ends {
+        if join_pair(table, roster, sources, targets, map, a, node_at(table, e)) {
+            changed = true;
+        }
+        e += 1;
+    }
+    changed
+}
+
+fn join_all(
+    table: &[u32],
+    roster: &[u8],
+    sources: &[u32],
+    targets: &[u32],
+    map: &mut [u32],
+) -> bool {
+    let ends = table.len() / 3 * 2;
+    let mut changed = false;
+    let mut e = 0;
+    while e < ends {
+        if join(table, roster, sources, targets, map, node_at(table, e)) {
+            changed = true;
+        }
+        e += 1;
+    }
+    changed
+}
+
+// The smallest code of each class. A chain has no more steps than there are nodes, so as many rounds are enough.
+fn represent(table: &[u32], roster: &[u8], sources: &[u32], targets: &[u32], map: &mut [u32]) {
+    start(table, map);
+    let ends = table.len() / 3 * 2;
+    let mut rounds = 0;
+    while rounds < ends {
+        if !join_all(table, roster, sources, targets, map) {
+            return;
+        }
+        rounds += 1;
+    }
+}
+
+// The work list holds the source cliques, then the target cliques.
+fn both_sides(table: &[u32], roster: &[u8], work: &mut [u32]) {
+    let half = work.len() / 2;
+    side(table, roster, true, &mut work[..half]);
+    side(table, roster, false, &mut work[half..]);
+}
+
+fn represent_by(table: &[u32], roster: &[u8], work: &[u32], map: &mut [u32]) {
+    let half = work.len() / 2;
+    represent(table, roster, &work[..half], &work[half..], map);
+}
+
+// The triples with each subject and object replaced by its representative, each once.
+fn replaced(table: &[u32], map: &[u32], list: &mut [u32]) -> Answer {
+    let count = table.len() / 3;
+    let mut answer = accept(0);
+    let mut i = 0;
+    while i < count {
+        let t = triple_at(table, i);
+        answer = add(
+            list,
+            answer,
+            triple_of(entry(map, t.subject), t.property, entry(map, t.object)),
+        );
+        i += 1;
+    }
+    answer
+}
+
+pub fn summarise(
+    table: &[u32],
+    roster: &[u8],
+    result: &mut [u32],
+    map: &mut [u32],
+    work: &mut [u32],
+) -> Answer {
+    let n = roster.len();
+    let others_wrong = map.len() != n || work.len() / 2 != n || work.len() % 2 != 0;
+    let number = table_refusal(others_wrong, table, roster);
+    if number != 0 {
+        return refuse(number);
+    }
+    both_sides(table, roster, work);
+    represent_by(table, roster, work, map);
+    fill(work, 0);
+    fill(result, 0);
+    let answer = replaced(table, map, result);
+    if answer.refused != 0 {
+        fill(result, 0);
+        fill(map, 0);
+        return answer;
+    }
+    sort(result, answer.count);
+    answer
+}
