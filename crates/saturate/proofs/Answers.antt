@@ -1,10 +1,9 @@
 -- What saturate returns and leaves.
 -- Assumes nothing.
-use Prim.Native.Nat.{ℕ, _+_, _*_, _/_, _<_, _≤_}
-use mathlib.Core.Path.{_≡_, refl, sym, _∙_, ap, subst}
-use mathlib.Core.Logic.{_↔_}
-use mathlib.Core.Bool.{Bool, true, false}
-use mathlib.Core.List.{List, [], _∷_, _++_, List·Memᴰ as Mem}
+use Prim.Native.Nat.{ℕ, _/_, _<_, _≤_}
+use mathlib.Core.Path.{_≡_, sym, _∙_, ap, subst}
+use mathlib.Core.Bool.{true, false}
+use mathlib.Core.List.{List}
 use native.Mathlib.Omega.{arith}
 use lib.ListN.{length}
 use Rattle.model.specs.declared.Triple.{Triple}
@@ -15,7 +14,7 @@ use Rattle.model.specs.declared.Counted.the-variants.{Count, Refused as counted
 use Rattle.model.specs.Codes.{rdfs}
 use Rattle.model.specs.Lists.{zeros}
 use Rattle.model.specs.Triples.{triples, slots, sorted, listed}
-use Rattle.model.specs.Outcomes.{Outcome, refused, accepted, number, counted, checked, Passes, left}
+use Rattle.model.specs.Outcomes.{accepted, number, counted, checked, Passes}
 use Rattle.model.specs.Calls.{tableChecks, saturated, saturateOutcome, saturateLeaves}
 use Rattle.theory.proofs.Order.{sorted-rising, sorted-mem, mem-sorted, sorted-length}
 use Rattle.theory.proofs.Lists.{length-tabulate}
