@@ -3,6 +3,8 @@
  *
  * Link with libweak_summary.a (rt staticlib weak_summary writes it to target/staticlib/). x86-64 Linux.
  *
+ * Each name begins with ws, for weak summary.
+ *
  * Terms
  *   A code is a uint32_t below N, the site size, 5 to 65,536. Codes 0 to 4 are reserved and stand only as a property.
  *   A triple is three codes: subject, property, object. A table is a list of triples, three numbers each, at most
@@ -15,8 +17,8 @@
  *   The lists that a call may alter overlap with no other argument. The engine keeps no pointer and allocates nothing.
  *
  * Answers
- *   Each call returns WS_OK or the number of a refusal. The checks run in the order of these numbers, each over all its
- *   input before the next.
+ *   Each call returns WS_OK or the number of a refusal. The checks run in the order that stands at the call, each over all
+ *   its input before the next.
  *   After 1, 2, 3, 4, 6 and 7 nothing that was lent is altered.
  *   After 5 and 8 the lists are zero, as said at each call.
  *   A number that is lent to take an answer (count, found, maybe, is_new) is altered by accepted calls only; ws_read says
@@ -176,7 +178,7 @@ uint32_t ws_open(const uint8_t *roster, size_t roster_length, uint32_t *triples,
  *   work         2 * N numbers with any content; zero after an accepted feed, new or not.
  *   *held        the number of triples held.
  *   *summarised  the number of triples of their summary.
- *   *is_new      1 if the triple was new, 0 if it was held already; then lists and counts stay as they are.
+ *   *is_new      1 if the triple was new, 0 if it was held already; then the work list is zero and all else stays as it is.
  * Refusals, in order
  *   1  N out of range; map, work, triples or summary of a wrong length
  *   2
@@ -184,7 +186,8 @@ uint32_t ws_open(const uint8_t *roster, size_t roster_length, uint32_t *triples,
  *   4  of the fed triple
  *   7  the triple is new and every slot holds one; a triple that is held passes
  * They alter nothing, not even the work list.
- * An intake whose lists, counts or roster were altered between calls gives no promise but to end safely.
+ * If lists, counts or roster were altered between calls: the call ends safely, refusals 1 to 4 hold as above, any other answer
+ * is acceptance or 7, and the lists keep their lengths; their contents are open.
  */
 uint32_t ws_feed(const uint8_t *roster, size_t roster_length, uint32_t *triples, size_t triples_length,
                  uint32_t *summary, size_t summary_length, uint32_t *map, size_t map_length, uint32_t *work,

@@ -176,7 +176,8 @@ pub fn chain(random: &mut Random, report: &mut Report, mistake: Mistake, [n, amo
     }
 }
 
-/// A feed to lists and counts altered by hand. It must end; refusals 1 to 4 hold as ever, what else it answers is open.
+/// A feed to lists and counts altered by hand. It must end; refusals 1 to 4 hold as ever, any other answer is acceptance or 7, and
+/// what the lists then hold is open.
 pub fn altered(random: &mut Random, report: &mut Report) {
     let site = generate::site(random);
     let n = site.n;
@@ -194,8 +195,9 @@ pub fn altered(random: &mut Random, report: &mut Report) {
     before.fed = fed(random, table, n);
     let ours = run(&before, feed);
     let mut expected = run(&before, |l| PlainIntake::refusal(&l.roster, l.fed));
-    if expected.status == plain::OK {
-        expected = ours.clone();
+    if expected.status == plain::OK && [plain::OK, plain::FULL].contains(&ours.status) {
+        let lent = Lent { roster: before.roster.clone(), ..ours.lent.clone() };
+        expected = Outcome { status: ours.status, lent };
     }
     report.compare(Call::FeedAltered, &before, ours, expected, true);
 }

@@ -122,6 +122,37 @@ fn intake_refuses_in_order() {
     assert_eq!((intake.triples(), intake.summary()), (&[10, 5, 11][..], &[10, 5, 11][..]));
 }
 
+/// Feeds 10 5 11 to lists of ones with 12 codes; the status and what the lists then hold.
+fn fed(roster: &[u8], work_length: usize) -> (u32, [Vec<u32>; 4]) {
+    let mut lists = [vec![1; 6], vec![1; 6], vec![1; roster.len()], vec![1; work_length]];
+    let (mut held, mut summarised, mut is_new) = (0, 0, 7);
+    let [triples, summary, map, work] = &mut lists;
+    let lent = calls::Lent { roster, triples, summary, map, work, held: &mut held, summarised: &mut summarised };
+    let status = calls::feed(lent, [10, 5, 11], &mut is_new);
+    assert_eq!((held, summarised, is_new), (0, 0, 7));
+    (status, lists)
+}
+
+#[test]
+fn a_feed_refuses_lengths_and_rosters() {
+    let roster = roster_of(&[10, 5, 11], 12);
+    let mut marked = roster.clone();
+    marked[4] = 2;
+    for (roster, work_length, refusal) in [(&roster, 23, 1), (&marked, 25, 1), (&marked, 24, 2)] {
+        let (status, lists) = fed(roster, work_length);
+        assert_eq!(status, refusal);
+        assert!(all(&lists, 1));
+    }
+}
+
+#[test]
+fn reading_refuses_a_list_of_queries_of_another_length() {
+    let (mut list, mut queries) = ([1; 6], [1; 655]);
+    let (mut n, mut count, mut asks) = (7, 7, 7);
+    assert_eq!(calls::read(b"(site 05)\n", &mut list, &mut queries, &mut n, &mut count, &mut asks), 1);
+    assert_eq!((list, queries, n, count, asks), ([1; 6], [1; 655], 7, 7, 7));
+}
+
 #[test]
 fn read_and_write_refuse() {
     let mut list = [1; 5];

@@ -14,7 +14,7 @@ use Rattle.theory.proofs.Tests.{not-both}
 use Rattle.union_find.specs.Roots.{Forest, root}
 use Rattle.union_find.proofs.Laws.{by-parents, root-top, root-up, set-at}
 use Rattle.union_find.specs.Calls.{ActivePair, United}
-use Rattle.cliques.specs.Grouping.{opened, Linkable, NodeLinked, Emptied, NodesCleared}
+use Rattle.cliques.specs.Grouping.{opened, Linkable, NodeLinked, NodesCleared}
 
 -- ── a list with the same entries on a forest ──
 module _ (A : ℕ → Bool) (l l′ : List ℕ) (f : Forest A l) (same : (y : ℕ) → A y ≡ true → getD l′ y 0 ≡ getD l y 0) where
@@ -56,19 +56,6 @@ module _ (l : List ℕ) (n p i a q : ℕ) (e : i ≡ n) (h : getD l i 0 ≡ abse
 
   pub node-later : (l′ : List ℕ) → United l l′ a q → NodeLinked l l′ n p
   node-later l′ u = record { first = λ z. absurd (named z); later = λ z. rw (← there, ← s) u }
-
--- ── every entry absent ──
-pub emptied-start : (l : List ℕ) → Emptied l l 0
-emptied-start l = record { size = refl; absents = λ x h. absurd (omega arith) }
-
-pub emptied-step : (l₀ l : List ℕ) (i : ℕ) → Emptied l₀ l i → i < length l → Emptied l₀ (set l i absent) (i + 1)
-emptied-step l₀ l i d h = record {
-  size = length-set l i absent ∙ d .size;
-  absents = λ x. set-at l i absent h (λ x z. x < i + 1 → z ≡ absent) x (λ b. refl) (λ n b. d .absents x (omega arith));
-}
-
-pub emptied-end : (l₀ l : List ℕ) (i : ℕ) → Emptied l₀ l i → length l ≤ i → Emptied l₀ l (length l₀)
-emptied-end l₀ l i d h = record { size = d .size; absents = λ x b. d .absents x (omega (arith, d .size)) }
 
 -- ── the entries of unmarked codes absent ──
 module _ (roster : List ℕ) where

@@ -19,9 +19,9 @@ use Rattle.theory.proofs.Lists.{tabulate-mem, mem-tabulate}
 use Rattle.theory.proofs.Covered.{Below, kind-top, property-at, property-marked}
 use Rattle.theory.proofs.Weak.{data-kind, clique-self}
 use Rattle.theory.proofs.Accepted.{Right, room, below, covered}
-use Rattle.lists.specs.Flat.{at}
+use Rattle.lists.specs.Flat.{Emptied, at}
 use Rattle.roster.proofs.Tables.{at-in, below-at}
-use Rattle.cliques.specs.Grouping.{Grouping, Before, Grouped, opened, Linkable, NodeLinked, Emptied}
+use Rattle.cliques.specs.Grouping.{Grouping, Before, Grouped, opened, Linkable, NodeLinked}
 use Rattle.cliques.proofs.Sides.{end-below}
 use Rattle.cliques.proofs.Steps.{Grown, widen, skip, open-state, linkable, link-state}
 

@@ -50,11 +50,6 @@ pub record NodeLinked (l l′ : List ℕ) (n p : ℕ) : Type 0 where
   pub first : getD l n 0 ≡ absent → l′ ≡ set l n p
   pub later : (getD l n 0 ≡ absent → ⊥) → United l l′ (getD l n 0) p
 
--- the entries below i are absent
-pub record Emptied (l l′ : List ℕ) (i : ℕ) : Type 0 where
-  pub size : length l′ ≡ length l
-  pub absents : (x : ℕ) → x < i → getD l′ x 0 ≡ absent
-
 -- the entries of the unmarked codes below i are absent, and those of the marked codes as they were
 pub record NodesCleared (roster l l′ : List ℕ) (i : ℕ) : Type 0 where
   pub size : length l′ ≡ length l

@@ -12,17 +12,18 @@ ghost use Rattle.model.specs.Triples.{triples};
 ghost use Rattle.model.specs.Cliques.{end, links, cliques};
 ghost use Rattle.theory.proofs.Accepted.{Right};
 ghost use Rattle.theory.proofs.Covered.{Below};
-ghost use Rattle.cliques.specs.Grouping.{Grouped, opened, Linkable, NodeLinked, Emptied, NodesCleared};
+ghost use Rattle.cliques.specs.Grouping.{Grouped, opened, Linkable, NodeLinked, NodesCleared};
 ghost use Rattle.cliques.specs.Calls.{sideOf, CliquesCall};
 use lists::Code;
+use lists::empty;
 use lists::triple_at;
+use lists::wide;
 use model::Done;
 use model::Triple;
 use table_checks::Verdict;
 use table_checks::table_refusal;
 use union_find::flatten;
 use union_find::union;
-use union_find::wide;
 
 // The end of a triple at a side: its subject for the sources, its object for the targets.
 pub fn side_end(sources: bool, t: Triple) -> u32
@@ -94,17 +95,6 @@ fn link_table(table: &[u32], roster: &[u8], sources: bool, list: &mut [u32])
     let mut i = 0;
     while i < n {
         link_at(table, roster, sources, list, i);
-        i += 1;
-    }
-}
-
-// Makes every entry absent.
-pub fn empty(list: &mut [u32])
-    ensures { λ r. ⌜ Emptied (now (list .entry)) (now (list .exit)) (length (now (list .entry))) ⌝ }
-{
-    let mut i = 0;
-    while i < list.len() {
-        list[i] = Code::ABSENT;
         i += 1;
     }
 }

@@ -10,7 +10,7 @@ use Rattle.site_form.proofs.Example.{sign-bytes, prints-example}
 use Rattle.demands.specs.Demands.{GraphsRight, Demand2, Demand3, SiteForms}
 use Rattle.demands.proofs.NoneMeansNone.{none-means-none}
 use Rattle.demands.proofs.Feeds.{list-of-calls}
-use Rattle.demands.proofs.Routes.{shortcut-of-calls, none-of-calls, ask-refuses-six}
+use Rattle.demands.proofs.Routes.{accepted-calls, shortcut-of-calls, none-of-calls, ask-refuses-six}
 
 pub graphs-right : GraphsRight
 graphs-right = graphs.graphs-right
@@ -31,6 +31,7 @@ demand-3 =
     record {
       shortcut = theorems.shortcut-holds;
       routes = theorems.routes-accepted;
+      accepted-calls = accepted-calls;
       shortcut-of-calls = shortcut-of-calls;
       any-order = theorems.any-order;
       fed-in-any-order = theorems.fed-in-any-order;

@@ -2,23 +2,26 @@
 -- Assumes nothing.
 use Prim.Native.Nat.{ℕ, _*_}
 use mathlib.Core.Path.{_≡_, refl, sym, subst, _∙_, ap}
-use mathlib.Core.Bool.{Bool, true, false}
-use mathlib.Core.List.{List, [], _∷_}
+use mathlib.Core.Bool.{Bool, true, false, not, _||_}
+use mathlib.Core.List.{List, [], _∷_, _++_}
 use native.Mathlib.Omega.{arith}
+use lib.Dec.{eqb, ltb}
+use borrow.Author.Tests.{eq-eqb}
 use lib.ListN.{length, take}
 use lib.Seq.{take-append-seam}
 use Rattle.model.specs.declared.Triple.{Triple}
 use Rattle.model.specs.Codes.{rdfs}
 use Rattle.model.specs.Lists.{padded}
-use Rattle.model.specs.Triples.{triples, flat, listed}
+use Rattle.model.specs.Triples.{triples, flat, listed, slots}
 use Rattle.model.specs.Partition.{label}
 use Rattle.model.specs.Classes.{mapOf}
 use Rattle.model.specs.Summary.{summary}
 use Rattle.model.specs.Saturation.{saturation}
-use Rattle.model.specs.Outcomes.{Outcome, accepted, refused, check, checked, decided, left, wrongSize, wrongLength}
+use Rattle.model.specs.Outcomes.{Outcome, accepted, refused, check, checked, decided, left, wrongSize, wrongLength, wrongWork}
 use Rattle.model.specs.Calls.{tableChecks, Accepted, saturated, saturateOutcome, saturateLeaves, summariseOutcome, summariseLeaves}
 use Rattle.theory.proofs.Tests.{or-false, or-neither}
 use Rattle.theory.proofs.Checks.{passed, passed-all, first-passes, passes-first, not-accepted, no-checks}
+use Rattle.table_checks.proofs.Laws.{enough}
 use Rattle.theory.proofs.Flat.{triples-flat, length-flat}
 use Rattle.theory.proofs.Theorems.{shortcut-holds, own-roster-least}
 use Rattle.theory.proofs.Accepted.{Right, size-bounds, saturation-right, summary-right, right-accepted}
@@ -28,7 +31,7 @@ use Rattle.demands.proofs.NoneMeansNone.{none-means-none}
 use Rattle.model.specs.Roster.{ownRoster, wrongCodes}
 use Rattle.query.specs.Ask.{askOutcome, askChecks}
 use Rattle.query.specs.Match.{Match}
-use Rattle.demands.specs.Routes.{tableIn, Lent, Summarises, Saturates, ShortcutOfCalls, NoneOfCalls, AskRefusesSix}
+use Rattle.demands.specs.Routes.{tableIn, Lent, Summarises, Saturates, AcceptedCalls, ShortcutOfCalls, NoneOfCalls, AskRefusesSix}
 
 -- what a list that lists triples begins with
 listed-table : (n : ℕ) (ts : List Triple) (c : ℕ) → length ts ≡ c → tableIn c (listed n ts) ≡ flat ts
@@ -143,3 +146,16 @@ ask-refuses-six n ts ps r w h few e =
     (subst (λ (z : ℕ). wrongCodes rdfs z (triples (flat (summary rdfs own (saturation rdfs n ts)))) ≡ false) (sym len)
     (subst (λ (us : List Triple). wrongCodes rdfs (length own) us ≡ false) (sym (triples-flat _)) (T .codes)))
     e
+
+-- ── long enough lists ──
+pub accepted-calls : AcceptedCalls
+unfolding saturateOutcome saturated summariseOutcome wrongWork
+accepted-calls table roster h =
+    record {
+      saturates = λ result few. enough (tableChecks rdfs false table roster) (slots result) _ h few;
+      summarises = λ l m w few.
+          let lengths : (not (eqb (length (l .map)) (length roster)) || not (eqb (length (l .work)) (2 * length roster))) ≡ false =
+          or-neither (not (eqb (length (l .map)) (length roster))) _ (ap not (eq-eqb _ _ m)) (ap not (eq-eqb _ _ w)) in
+          ap (λ (b : Bool). checked (tableChecks rdfs b table roster ++ check 5 (ltb (slots (l .result)) (length (summary rdfs roster (triples table)))) ∷ []) (length (summary rdfs roster (triples table)))) lengths
+          ∙ enough (tableChecks rdfs false table roster) (slots (l .result)) _ h few;
+    }

@@ -9,7 +9,7 @@ use Rattle.site_form.specs.Example.{SignBytes, PrintsExample}
 use Rattle.theory.specs.Theorems.{SaturationExact, CliquesExact, RepresentativesExact, SummaryExact, OwnRosterLeast, ShortcutHolds, RoutesAccepted, AnyOrder, FedInAnyOrder, WholeList}
 use Rattle.demands.specs.NoneMeansNone.{NoneMeansNone}
 use Rattle.demands.specs.Feeds.{ListOfCalls}
-use Rattle.demands.specs.Routes.{ShortcutOfCalls, NoneOfCalls, AskRefusesSix}
+use Rattle.demands.specs.Routes.{AcceptedCalls, ShortcutOfCalls, NoneOfCalls, AskRefusesSix}
 
 -- the small graphs of 01, computed
 abbrev pub GraphsRight : Type 0
@@ -26,6 +26,7 @@ pub record Demand2 : Type 0 where
 pub record Demand3 : Type 0 where
   pub shortcut : ShortcutHolds
   pub routes : RoutesAccepted
+  pub accepted-calls : AcceptedCalls
   pub shortcut-of-calls : ShortcutOfCalls
   pub any-order : AnyOrder
   pub fed-in-any-order : FedInAnyOrder

@@ -6,7 +6,7 @@ use mathlib.Core.Bool.{false}
 use mathlib.Core.List.{List}
 use lib.ListN.{length, take}
 use Rattle.model.specs.declared.Triple.{Triple}
-use Rattle.model.specs.Triples.{triples, flat}
+use Rattle.model.specs.Triples.{triples, flat, slots}
 use Rattle.model.specs.Roster.{ownRoster, wrongCodes}
 use Rattle.model.specs.Saturation.{saturation}
 use Rattle.model.specs.Classes.{mapOf}
@@ -20,7 +20,7 @@ use Rattle.site_form.specs.Printing.{printerSlots}
 use Rattle.model.specs.Codes.{rdfs}
 use Rattle.model.specs.Partition.{label}
 use Rattle.model.specs.Outcomes.{accepted, refused, wrongSize}
-use Rattle.model.specs.Calls.{saturateOutcome, saturateLeaves, summariseOutcome, summariseLeaves}
+use Rattle.model.specs.Calls.{Accepted, saturateOutcome, saturateLeaves, summariseOutcome, summariseLeaves}
 
 -- the table that a call left in its result list: the triples that it counted
 abbrev pub tableIn : ℕ → List ℕ → List ℕ
@@ -42,6 +42,18 @@ pub record Summarises (table roster : List ℕ) (l : Lent) (count : ℕ) (out ma
 pub record Saturates (table roster result : List ℕ) (count : ℕ) (out : List ℕ) : Type 0 where
   pub returns : saturateOutcome rdfs table roster result ≡ accepted count
   pub triples : out ≡ tableIn count (saturateLeaves rdfs table roster result)
+
+-- 01: "A table is accepted with a roster if no check before 5 below refuses it; a list is long enough if its length causes no 1, 5 or 7."
+-- On an accepted table, with lists that are long enough, both calls are accepted. `RoutesAccepted` says that the tables on either route are
+-- accepted, so each call of a route is.
+pub record CallsAccept (table roster : List ℕ) : Type 0 where
+  pub saturates : (result : List ℕ) → length (saturation rdfs (length roster) (triples table)) ≤ slots result
+      → saturateOutcome rdfs table roster result ≡ accepted (length (saturation rdfs (length roster) (triples table)))
+  pub summarises : (l : Lent) → length (l .map) ≡ length roster → length (l .work) ≡ 2 * length roster → length (summary rdfs roster (triples table)) ≤ slots (l .result)
+      → summariseOutcome rdfs table roster (l .result) (l .map) (l .work) ≡ accepted (length (summary rdfs roster (triples table)))
+
+abbrev pub AcceptedCalls : Type 0
+AcceptedCalls = (table roster : List ℕ) → Accepted rdfs table roster → CallsAccept table roster
 
 -- the two routes as calls, each on what the call before left: they end with one table, and the maps of the short route lead, one after the
 -- other, where the map of the long route leads

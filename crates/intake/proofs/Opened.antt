@@ -22,7 +22,7 @@ use Rattle.theory.proofs.Tests.{or-left, or-right, or-false}
 use Rattle.theory.proofs.Accepted.{size-bounds}
 use Rattle.lists.specs.Flat.{Cleared}
 use Rattle.lists.proofs.Search.{cleared-all}
-use Rattle.cliques.specs.Grouping.{Emptied}
+use Rattle.lists.specs.Flat.{Emptied}
 use Rattle.intake.specs.Opening.{wrongLengths, stateWith, OpenCall, Opens}
 
 -- ── the lengths ──

@@ -51,6 +51,10 @@ module _ (roster triples sums map₀ work : List ℕ) (held summarised : ℕ) (t
   left-new = refl
 
   -- more triples than slots: an intake altered by hand
+  -- a refusal is what `refuse` gives
+  pub taken-refused : (y : FedCounts) → y ≡ refusal Full held summarised → Takes (found (Refused Full)) s work → Takes (found (y .answer)) (stateWith triples sums map₀ (y .held) (y .summarised)) work
+  taken-refused y e T = subst (λ (y : FedCounts). Takes (found (y .answer)) (stateWith triples sums map₀ (y .held) (y .summarised)) work) (sym e) T
+
   pub taken-over : length triples / 3 < held → Takes (found (Refused Full)) s work
   unfolding found number slots
   taken-over h =

@@ -18,13 +18,14 @@ ghost use Rattle.intake.specs.Feeding.{Place, StandsAt, Known, bad, Read
 use checks::size_wrong;
 use checks::triple_wrong;
 use checks::work_wrong;
-use cliques::empty;
 use lists::Code;
 use lists::before_at;
 use lists::clear;
+use lists::empty;
 use lists::put;
 use lists::same;
 use lists::triple_at;
+use lists::wide;
 use model::Counted;
 use model::Done;
 use model::Found;
@@ -33,13 +34,12 @@ use model::Triple;
 use roster::covers_triple;
 use roster::roster_wrong;
 use summarise::condense;
-use union_find::wide;
 
 // The most slots of an intake's lists.
 pub const MOST_SLOTS: usize = 1048576;
 
 // Puts t at place i of the first `count` triples; those from there on move up by one.
-pub fn insert_at(list: &mut [u32], count: usize, i: usize, t: Triple)
+fn insert_at(list: &mut [u32], count: usize, i: usize, t: Triple)
     requires { ⌜ (i ≤ count) × (3 * count + 2 < length (now list)) ⌝ }
     ensures { λ r. ⌜ Inserted (now (list .entry)) (now (list .exit)) count i t ⌝ }
 {
@@ -69,7 +69,7 @@ fn lengths_wrong(n: usize, triples: usize, summary: usize, map: usize) -> bool
 }
 
 // Opens an intake: both lists zero, the map absent.
-pub fn open_lists(roster: &[u8], triples: &mut [u32], summary: &mut [u32], map: &mut [u32]) -> Done
+fn open_lists(roster: &[u8], triples: &mut [u32], summary: &mut [u32], map: &mut [u32]) -> Done
     ensures { λ r. ⌜ OpenCall (now (roster .entry)) (now (triples .entry)) (now (summary .entry)) (now (map .entry)) r (now (triples .exit)) (now (summary .exit)) (now (map .exit)) ⌝ }
 {
     if lengths_wrong(roster.len(), triples.len(), summary.len(), map.len()) {
@@ -244,11 +244,7 @@ fn take_in(
 {
     let slots = triples.len() / 3;
     if slots < held {
-        return FedCounts {
-            answer: Found::Refused(Refusal::Full),
-            held: held,
-            summarised: summarised,
-        };
+        return refuse(Refusal::Full, held, summarised);
     }
     let i = find_place(triples, held, t);
     if stands_at(triples, held, i, t) {
@@ -262,11 +258,7 @@ fn take_in(
     if held < slots {
         return add(held, summarised, roster, triples, summary, map, work, t, i);
     }
-    FedCounts {
-        answer: Found::Refused(Refusal::Full),
-        held: held,
-        summarised: summarised,
-    }
+    refuse(Refusal::Full, held, summarised)
 }
 
 // Feeds a triple to an intake with two counts, over plain lists.

@@ -9,13 +9,14 @@ use native.Mathlib.Omega.{arith}
 use lib.ListN.{length, getD, set, length-set, replicate, length-replicate, getD-replicate}
 use lib.Seq.{getD-set-same, getD-set-other, ext-getD}
 use Rattle.model.specs.declared.Triple.{Triple}
+use Rattle.model.specs.Codes.{absent}
 use Rattle.model.specs.Lists.{tabulate, zeros}
 use Rattle.model.specs.Triples.{before, same, holds}
 use Rattle.model.specs.Order.{Lt}
 use Rattle.theory.proofs.Tests.{bool-cases, not-true-false}
 use Rattle.theory.proofs.Lists.{tabulate-mem, mem-tabulate}
 use Rattle.theory.proofs.Order.{lt-trans, lt-irrefl, before-lt, lt-before, same-eq, same-refl, mem-holds, holds-mem}
-use Rattle.lists.specs.Flat.{RisingPart, Bound, Cleared}
+use Rattle.lists.specs.Flat.{RisingPart, Bound, Cleared, Emptied}
 use Rattle.lists.proofs.Compare.{Cmp, lt, eq, gt, cmp}
 
 -- all before `low` comes before t, all from `high` on does not
@@ -114,3 +115,18 @@ unfolding zeros
 cleared-all l m i c h =
     ext-getD 0 m (replicate (length l) 0) (c .size ∙ sym (length-replicate (length l) 0))
     (λ k q. c .zeros k (omega arith) (omega (arith, c .size)) ∙ sym (getD-replicate (length l) k 0 0 (omega (arith, c .size))))
+
+-- ── every entry absent ──
+pub emptied-start : (l : List ℕ) → Emptied l l 0
+emptied-start l = record { size = refl; absents = λ x h. absurd (omega arith) }
+
+pub emptied-step : (l₀ l : List ℕ) (i : ℕ) → Emptied l₀ l i → i < length l → Emptied l₀ (set l i absent) (i + 1)
+emptied-step l₀ l i d h = record { size = length-set l i absent ∙ d .size; absents = λ x b. go x b (cmp x i) }
+  where
+    go : (x : ℕ) → x < i + 1 → Cmp x i → getD (set l i absent) x 0 ≡ absent
+    go x b (lt z) = getD-set-other l i x absent 0 (omega arith) ∙ d .absents x z
+    go x b (eq z) = rw z (getD-set-same l i absent 0 h)
+    go x b (gt z) = absurd (omega arith)
+
+pub emptied-end : (l₀ l : List ℕ) (i : ℕ) → Emptied l₀ l i → length l ≤ i → Emptied l₀ l (length l₀)
+emptied-end l₀ l i d h = record { size = d .size; absents = λ x b. d .absents x (omega (arith, d .size)) }

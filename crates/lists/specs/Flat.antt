@@ -6,6 +6,7 @@ use mathlib.Core.Bool.{false}
 use mathlib.Core.List.{List}
 use lib.ListN.{length, getD, set}
 use Rattle.model.specs.declared.Triple.{Triple}
+use Rattle.model.specs.Codes.{absent}
 use Rattle.model.specs.Triples.{triple, before}
 use Rattle.model.specs.Order.{Lt}
 
@@ -37,3 +38,8 @@ pub record Cleared (l l′ : List ℕ) (a b : ℕ) : Type 0 where
   pub size : length l′ ≡ length l
   pub zeros : (i : ℕ) → a ≤ i → i < b → getD l′ i 0 ≡ 0
   pub rest : (i : ℕ) → (a ≤ i → b ≤ i) → getD l′ i 0 ≡ getD l i 0
+
+-- the entries below i are absent
+pub record Emptied (l l′ : List ℕ) (i : ℕ) : Type 0 where
+  pub size : length l′ ≡ length l
+  pub absents : (x : ℕ) → x < i → getD l′ x 0 ≡ absent

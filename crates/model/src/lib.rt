@@ -2,6 +2,7 @@
 // What they mean is defined in specs/.
 
 ghost use mathlib.Core.Path.{_≡_};
+ghost use Rattle.model.specs.Outcomes.{number};
 ghost use Rattle.model.specs.Rules.{rules};
 
 // Subject, property, object.
@@ -26,6 +27,7 @@ pub struct Rule {
 
 // The six rules of RDFS that saturation walks: rdfs2, rdfs3, rdfs5, rdfs7, rdfs9, rdfs11.
 pub const RULES: [Rule; 6] = [
+    // rdfs2: a domain c, s a o give s type c
     Rule {
         first: 3,
         second: 5,
@@ -35,6 +37,7 @@ pub const RULES: [Rule; 6] = [
         property: 6,
         object: 2,
     },
+    // rdfs3: a range c, s a o give o type c
     Rule {
         first: 4,
         second: 5,
@@ -44,6 +47,7 @@ pub const RULES: [Rule; 6] = [
         property: 6,
         object: 2,
     },
+    // rdfs5: a subproperty b, b subproperty c give a subproperty c
     Rule {
         first: 2,
         second: 2,
@@ -53,6 +57,7 @@ pub const RULES: [Rule; 6] = [
         property: 1,
         object: 5,
     },
+    // rdfs7: a subproperty b, s a o give s b o
     Rule {
         first: 2,
         second: 5,
@@ -62,6 +67,7 @@ pub const RULES: [Rule; 6] = [
         property: 2,
         object: 5,
     },
+    // rdfs9: c subclass d, s type c give s type d
     Rule {
         first: 1,
         second: 0,
@@ -71,6 +77,7 @@ pub const RULES: [Rule; 6] = [
         property: 4,
         object: 2,
     },
+    // rdfs11: c subclass d, d subclass e give c subclass e
     Rule {
         first: 1,
         second: 1,
@@ -99,6 +106,22 @@ pub enum Refusal {
     Query,
     Full,
     Form,
+}
+
+// A refusal's number.
+pub fn refusal_number(refusal: Refusal) -> u32
+    ensures { λ r. ⌜ r ≡ number refusal ⌝ }
+{
+    match refusal {
+        Refusal::Length => 1,
+        Refusal::Roster => 2,
+        Refusal::Code => 3,
+        Refusal::Cover => 4,
+        Refusal::Slots => 5,
+        Refusal::Query => 6,
+        Refusal::Full => 7,
+        Refusal::Form => 8,
+    }
 }
 
 // The answers of the calls; specs/Outcomes.antt gives the outcome that each case stands for.

@@ -12,8 +12,11 @@ ghost use Rattle.site_writer.specs.Calls.{Room, Put};
 ghost use Rattle.printer.specs.Lines.{refusedLine, pairLine, answersIn};
 ghost use Rattle.printer.specs.Outcomes.{askedOf, asksOutcome, summaryOutcome, saturationOutcome, siteOutcome, Whole, Valid};
 use lists::Code;
+use lists::narrow;
+use lists::wide;
 use model::Counted;
 use model::Refusal;
+use model::refusal_number;
 use query::Asked;
 use query::Query;
 use query::ask;
@@ -25,27 +28,9 @@ use site_writer::put_after;
 use site_writer::put_bytes;
 use site_writer::put_triples;
 use summarise::summarise;
-use union_find::narrow;
-use union_find::wide;
-
-// A refusal's number.
-fn refusal_number(refusal: Refusal) -> u32
-    ensures { λ r. ⌜ r ≡ number refusal ⌝ }
-{
-    match refusal {
-        Refusal::Length => 1,
-        Refusal::Roster => 2,
-        Refusal::Code => 3,
-        Refusal::Cover => 4,
-        Refusal::Slots => 5,
-        Refusal::Query => 6,
-        Refusal::Full => 7,
-        Refusal::Form => 8,
-    }
-}
 
 // Stores the line `(refused R)`.
-fn put_number(out: &mut [u8], at: usize, n: u32) -> usize
+fn put_refused(out: &mut [u8], at: usize, n: u32) -> usize
     requires { ⌜ Room at (refusedLine n) ⌝ }
     ensures { λ r. ⌜ Put (now (out .entry)) at (refusedLine n) (now (out .exit)) r ⌝ }
 {
@@ -129,7 +114,7 @@ fn put_answers(out: &mut [u8], at: usize, answers: [Asked; 16], count: usize) ->
 fn refuse(out: &mut [u8], refusal: Refusal) -> usize
     ensures { λ r. ⌜ Put (now (out .entry)) 0 (shown (refused (number refusal))) (now (out .exit)) r ⌝ }
 {
-    put_number(out, 0, refusal_number(refusal))
+    put_refused(out, 0, refusal_number(refusal))
 }
 
 fn is_refused(answer: Asked) -> bool

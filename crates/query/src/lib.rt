@@ -76,7 +76,7 @@ fn pattern_wrong(p: Pattern, n: usize) -> bool
 }
 
 // Refusal 6, for a site of size n.
-pub fn query_wrong(q: Query, n: usize) -> bool
+fn query_wrong(q: Query, n: usize) -> bool
     ensures { λ r. ⌜ r ≡ wrongQuery n q ⌝ }
 {
     let count = q.count as usize;
@@ -105,7 +105,7 @@ fn fit_end(map: &[u32], e: End, x: u32, bindings: [u32; 8]) -> Fit
     match e {
         End::Var(v) => {
             let node = bindings[v as usize];
-            if node == Code::ABSENT {
+            if Code(node).is_absent() {
                 let mut more = bindings;
                 more[v as usize] = x;
                 return Fit {
@@ -151,7 +151,7 @@ fn node_wanted(map: &[u32], e: End, bindings: [u32; 8]) -> Wanted
     match e {
         End::Var(v) => {
             let node = bindings[v as usize];
-            if node == Code::ABSENT {
+            if Code(node).is_absent() {
                 return Wanted::Any;
             }
             Wanted::Node(node)

@@ -16,15 +16,10 @@ use checks::length_wrong;
 use checks::size_wrong;
 use lists::Code;
 use lists::triple_at;
+use lists::wide;
 use model::Done;
 use model::Refusal;
 use model::Triple;
-
-pub fn wide(x: u32) -> usize
-    ensures { λ r. ⌜ r ≡ x ⌝ }
-{
-    x as usize
-}
 
 // Whether a mark says class.
 pub fn is_class(mark: u8) -> bool

@@ -4,7 +4,7 @@
 ghost use Prim.Native.Nat.{_<_, _≤_};
 ghost use lib.ListN.{length};
 use libc::STDOUT_FILENO;
-use model::Refusal;
+use model::refusal_number;
 use printer::print_site;
 use query::End;
 use query::Pattern;
@@ -15,19 +15,6 @@ use site_reader::read;
 
 // The most triples that are shown of a text.
 const SHOWN: usize = 4;
-
-fn number(r: Refusal) -> u64 {
-    match r {
-        Refusal::Length => 1,
-        Refusal::Roster => 2,
-        Refusal::Code => 3,
-        Refusal::Cover => 4,
-        Refusal::Slots => 5,
-        Refusal::Query => 6,
-        Refusal::Full => 7,
-        Refusal::Form => 8,
-    }
-}
 
 fn long(x: u32) -> u64
     ensures { λ r. ⌜ r < 4294967296 ⌝ }
@@ -44,7 +31,8 @@ fn close() {
     io::write_all(STDOUT_FILENO, b")\n");
 }
 
-// The list as one number, place after place: another order, a lost repeat or a number past the triples gives another one.
+// The list as one number, place after place: another order, a lost repeat or a number past the triples
+// gives, but for chance, another one.
 fn digest(list: &[u32]) -> u64 {
     let mut sum: u64 = 0;
     for i in 0..list.len() {
@@ -123,7 +111,7 @@ fn show_read(text: &[u8], list: &mut [u32]) {
     let form = answer.form;
     let refused = match form {
         Form::Read => 0,
-        Form::Refused(r) => number(r),
+        Form::Refused(r) => long(refusal_number(r)),
     };
     show(b"(read ", refused);
     show(b" ", long(site.size));

@@ -79,7 +79,7 @@ pub fn put_after(out: &mut [u8], at: usize, w: &[u8], v: u32) -> usize
 }
 
 // Stores the line `(site N)`.
-pub fn put_site(out: &mut [u8], at: usize, n: u32) -> usize
+fn put_site(out: &mut [u8], at: usize, n: u32) -> usize
     requires { ⌜ Room at (siteLine n) ⌝ }
     ensures { λ r. ⌜ Put (now (out .entry)) at (siteLine n) (now (out .exit)) r ⌝ }
 {

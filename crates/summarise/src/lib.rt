@@ -20,12 +20,12 @@ use builder::offer;
 use checks::work_wrong;
 use lists::clear;
 use lists::triple_at;
+use lists::wide;
 use model::Counted;
 use model::Refusal;
 use model::Triple;
 use table_checks::Verdict;
 use table_checks::table_refusal;
-use union_find::wide;
 use weak_map::weak_map;
 
 // A triple with its ends replaced by their entries of the map.

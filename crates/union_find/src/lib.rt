@@ -3,19 +3,8 @@
 ghost use mathlib.Core.Path.{_≡_};
 ghost use Prim.Native.Nat.{_<_};
 ghost use Rattle.union_find.specs.Calls.{Active, Found, ActivePair, United, Flattened};
-
-pub fn wide(x: u32) -> usize
-    ensures { λ r. ⌜ r ≡ x ⌝ }
-{
-    x as usize
-}
-
-pub fn narrow(x: usize) -> u32
-    requires { ⌜ x < 4294967296 ⌝ }
-    ensures { λ r. ⌜ r ≡ x ⌝ }
-{
-    x as u32
-}
+use lists::narrow;
+use lists::wide;
 
 // The root of a code. On the way each second code gets the parent of its parent (path halving).
 pub fn find(parent: &mut [u32], from: usize) -> usize

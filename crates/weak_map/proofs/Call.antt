@@ -14,7 +14,7 @@ use Rattle.theory.proofs.Accepted.{Right, below}
 use Rattle.lists.specs.Flat.{at, Cleared}
 use Rattle.lists.proofs.Search.{cleared-all}
 use Rattle.union_find.specs.Calls.{Flattened}
-use Rattle.cliques.specs.Grouping.{Emptied}
+use Rattle.lists.specs.Flat.{Emptied}
 use Rattle.weak_map.specs.Linking.{Openable, Opened, Started, AllSeen}
 use Rattle.weak_map.specs.Calls.{Complete}
 use Rattle.weak_map.proofs.Nodes.{sound-start}

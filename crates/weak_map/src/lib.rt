@@ -15,17 +15,17 @@ ghost use Rattle.lists.specs.Flat.{at};
 ghost use Rattle.cliques.specs.Calls.{sideOf};
 ghost use Rattle.weak_map.specs.Linking.{slotOf, Openable, Opened, Started, AllSeen};
 ghost use Rattle.weak_map.specs.Calls.{bare, NodeLinkable, NodeLinked, EndLinkable, EndLinked, BareJoinable, BareJoined, Ready, Complete};
-use cliques::empty;
 use cliques::links_at;
 use cliques::side_end;
 use lists::Code;
 use lists::clear;
+use lists::empty;
+use lists::narrow;
 use lists::triple_at;
+use lists::wide;
 use model::Triple;
 use union_find::flatten;
-use union_find::narrow;
 use union_find::union;
-use union_find::wide;
 
 // The entry of a node becomes the node itself.
 fn own_entry(list: &mut [u32], node: u32)

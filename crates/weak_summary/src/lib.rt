@@ -25,6 +25,7 @@ use model::Done;
 use model::Found;
 use model::Refusal;
 use model::Triple;
+use model::refusal_number;
 use query::Asked;
 use query::End;
 use query::Pattern;
@@ -43,28 +44,12 @@ pub const QUERY_NUMBERS: usize = 41;
 // The numbers of the sixteen flat queries of a text.
 pub const QUERIES_NUMBERS: usize = 656;
 
-// The number of a refusal.
-pub fn status(r: Refusal) -> u32
-    ensures { λ s. ⌜ s ≡ number r ⌝ }
-{
-    match r {
-        Refusal::Length => 1,
-        Refusal::Roster => 2,
-        Refusal::Code => 3,
-        Refusal::Cover => 4,
-        Refusal::Slots => 5,
-        Refusal::Query => 6,
-        Refusal::Full => 7,
-        Refusal::Form => 8,
-    }
-}
-
 fn done_status(d: Done) -> u32
     ensures { λ s. ⌜ s ≡ statusOf (done d) ⌝ }
 {
     match d {
         Done::Accepted => 0,
-        Done::Refused(r) => status(r),
+        Done::Refused(r) => refusal_number(r),
     }
 }
 
@@ -77,7 +62,7 @@ fn counted_status(c: Counted, count: &mut usize) -> u32
             *count = k;
             0
         },
-        Counted::Refused(r) => status(r),
+        Counted::Refused(r) => refusal_number(r),
     }
 }
 
@@ -94,7 +79,7 @@ fn found_status(f: Found, value: &mut u32) -> u32
             *value = 0;
             0
         },
-        Found::Refused(r) => status(r),
+        Found::Refused(r) => refusal_number(r),
     }
 }
 
@@ -111,7 +96,7 @@ fn asked_status(a: Asked, maybe: &mut u32) -> u32
             *maybe = 0;
             0
         },
-        Asked::Refused(r) => status(r),
+        Asked::Refused(r) => refusal_number(r),
     }
 }
 
@@ -226,7 +211,7 @@ pub extern "C" fn ws_ask(table: &[u32], map: &[u32], query: &[u32], maybe: &mut 
     ensures { λ s. ⌜ Stores (bits (flatAskOutcome (now (table .entry)) (now (map .entry)) (now (query .entry)))) (now (maybe .entry)) s (now (maybe .exit)) ⌝ }
 {
     if query.len() != QUERY_NUMBERS {
-        return status(Refusal::Length);
+        return refusal_number(Refusal::Length);
     }
     asked_status(ask(table, map, query_of(query)), maybe)
 }
@@ -352,7 +337,7 @@ fn form_status(f: Form) -> u32
 {
     match f {
         Form::Read => 0,
-        Form::Refused(r) => status(r),
+        Form::Refused(r) => refusal_number(r),
     }
 }
 
@@ -371,7 +356,7 @@ pub extern "C" fn ws_read(
     ensures { λ s. ⌜ ReadStatus (now (text .entry)) (lent (now (list .entry)) (now (queries .entry)) (now (n .entry)) (now (count .entry)) (now (asks .entry))) s (lent (now (list .exit)) (now (queries .exit)) (now (n .exit)) (now (count .exit)) (now (asks .exit))) ⌝ }
 {
     if queries.len() != QUERIES_NUMBERS {
-        return status(Refusal::Length);
+        return refusal_number(Refusal::Length);
     }
     let answer = read(text, list);
     let site = answer.site;

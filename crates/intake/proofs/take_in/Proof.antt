@@ -1,14 +1,17 @@
 -- `intake::take_in` meets its contract.
 -- Assumes nothing.
-use Rattle.intake.proofs.Taking.{taken-over, taken-same, taken-full, taken-new}
+use Rattle.intake.proofs.Taking.{taken-refused, taken-over, taken-same, taken-full, taken-new}
 use borrow.Author.Needs.{needs}
 use Rattle.intake.proofs.take_in.Statement.{statement}
 use Rattle.intake.proofs.take_in.Tie as tie
 
+refuse-requires : tie.Need-refuse-requires
+refuse-requires c κs = search needs
+
 returns : tie.Need-returns
 returns c =
-    let a = c .before .before .before .before .before .before .args in
-    taken-over (a .roster .now) (a .triples .now) (a .summary .now) (a .map .now) (a .work .now) (a .held) (a .summarised) (a .t) (c .if1 .taken)
+    let a = c .before .before .before .before .before .before .before .args in
+    taken-refused (a .roster .now) (a .triples .now) (a .summary .now) (a .map .now) (a .work .now) (a .held) (a .summarised) (a .t) _ (c .refuse .ensures) (taken-over (a .roster .now) (a .triples .now) (a .summary .now) (a .map .now) (a .work .now) (a .held) (a .summarised) (a .t) (c .before .if1 .taken))
 
 find-place-requires : tie.Need-find-place-requires
 find-place-requires c κs = search needs
@@ -50,18 +53,23 @@ returns-3 c =
     let a = c .before .before .before .before .before .before .before .before .before .before .before .before .before .before .before .before .before .before .before .before .before .before .before .before .before .args in
     taken-new (a .roster .now) (a .triples .now) (a .summary .now) (a .map .now) (a .work .now) (a .held) (a .summarised) (a .t) _ (c .before .before .before .before .before .before .before .before .before .before .before .before .before .before .before .before .before .find-place .ensures) _ (c .before .before .before .before .before .before .before .before .before .before .before .before .before .before .before .stands-at .ensures) (c .before .before .before .before .before .before .before .before .before .before .before .before .before .before .if2 .left) (c .before .before .before .before .before .before .before .before .before .before .before .before .before .if3 .taken) _ _ _ (c .before .before .before .before .before .before .before .before .add .ensures)
 
+refuse-requires-2 : tie.Need-refuse-requires-2
+refuse-requires-2 c κs = search needs
+
 same-length-7 : tie.Need-same-length-7
 same-length-7 c = search needs
 
 returns-4 : tie.Need-returns-4
 returns-4 c =
-    let a = c .before .before .before .before .before .before .before .before .before .before .before .before .args in
-    taken-full (a .roster .now) (a .triples .now) (a .summary .now) (a .map .now) (a .work .now) (a .held) (a .summarised) (a .t) _ (c .before .before .before .before .find-place .ensures) _ (c .before .before .stands-at .ensures) (c .before .if2 .left) (c .if3 .left)
+    let a = c .before .before .before .before .before .before .before .before .before .before .before .before .before .args in
+    taken-refused (a .roster .now) (a .triples .now) (a .summary .now) (a .map .now) (a .work .now) (a .held) (a .summarised) (a .t) _ (c .refuse2 .ensures)
+    (taken-full (a .roster .now) (a .triples .now) (a .summary .now) (a .map .now) (a .work .now) (a .held) (a .summarised) (a .t) _ (c .before .before .before .before .before .find-place .ensures) _ (c .before .before .before .stands-at .ensures) (c .before .before .if2 .left) (c .before .if3 .left))
 
 pub take-in-spec : {M : Type 1} → statement M
 take-in-spec =
     tie.close
     (tie.spec
+    refuse-requires
     returns
     find-place-requires
     stands-at-requires
@@ -75,5 +83,6 @@ take-in-spec =
     same-length-5
     same-length-6
     returns-3
+    refuse-requires-2
     same-length-7
     returns-4)

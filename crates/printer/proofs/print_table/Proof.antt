@@ -10,7 +10,7 @@ use Rattle.checks.proofs.codes_wrong.Reads as codes-wrong-reads
 use Rattle.checks.proofs.size_wrong.Reads as size-wrong-reads
 use Rattle.printer.proofs.print_valid.Reads as print-valid-reads
 use Rattle.printer.proofs.refuse.Reads as refuse-reads
-use Rattle.union_find.proofs.wide.Reads as wide-reads
+use Rattle.lists.proofs.wide.Reads as wide-reads
 
 wide-requires : tie.Need-wide-requires
 wide-requires c κs = search needs

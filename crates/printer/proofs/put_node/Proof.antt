@@ -7,7 +7,7 @@ use Rattle.printer.proofs.put_node.Reads as reads
 use Rattle.printer.proofs.put_node.Lts as lts
 use Rattle.lists.proofs.Code.is_absent.Reads as is-absent-reads
 use Rattle.printer.proofs.put_pair.Reads as put-pair-reads
-use Rattle.union_find.proofs.narrow.Reads as narrow-reads
+use Rattle.lists.proofs.narrow.Reads as narrow-reads
 
 mul-representative : tie.Need-mul-representative
 mul-representative c = search needs

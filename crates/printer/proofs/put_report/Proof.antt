@@ -9,7 +9,7 @@ use Rattle.printer.proofs.put_answers.Reads as put-answers-reads
 use Rattle.printer.proofs.put_nodes.Reads as put-nodes-reads
 use Rattle.printer.proofs.put_summary.Reads as put-summary-reads
 use Rattle.site_writer.proofs.put_triples.Reads as put-triples-reads
-use Rattle.union_find.proofs.narrow.Reads as narrow-reads
+use Rattle.lists.proofs.narrow.Reads as narrow-reads
 
 narrow-requires : tie.Need-narrow-requires
 narrow-requires c κs = search needs

@@ -4,20 +4,20 @@ use Rattle.printer.proofs.refuse.Statement.{statement}
 use Rattle.printer.proofs.refuse.Tie as tie
 use Rattle.printer.proofs.refuse.Reads as reads
 use Rattle.printer.proofs.refuse.Lts as lts
-use Rattle.printer.proofs.put_number.Reads as put-number-reads
-use Rattle.printer.proofs.refusal_number.Reads as refusal-number-reads
+use Rattle.printer.proofs.put_refused.Reads as put-refused-reads
+use Rattle.model.proofs.refusal_number.Reads as refusal-number-reads
 
 refusal-number-requires : tie.Need-refusal-number-requires
 refusal-number-requires c κs = search needs
 
-put-number-requires : tie.Need-put-number-requires
-put-number-requires c κs = room-refusal _ _ (c .refusal-number .ensures)
+put-refused-requires : tie.Need-put-refused-requires
+put-refused-requires c κs = room-refusal _ _ (c .refusal-number .ensures)
 
 same-length : tie.Need-same-length
 same-length c = search needs
 
 returns : tie.Need-returns
-returns c = refusal-put _ _ _ (c .before .before .before .refusal-number .ensures) _ _ (c .before .before .put-number .ensures)
+returns c = refusal-put _ _ _ (c .before .before .before .refusal-number .ensures) _ _ (c .before .before .put-refused .ensures)
 
 pub refuse-spec : {M : Type 1} → statement M
-refuse-spec = tie.close (tie.spec refusal-number-requires put-number-requires same-length returns)
+refuse-spec = tie.close (tie.spec refusal-number-requires put-refused-requires same-length returns)

@@ -8,7 +8,7 @@ use Rattle.roster.proofs.class_at.Tie as tie
 use Rattle.roster.proofs.class_at.Reads as reads
 use Rattle.roster.proofs.class_at.Lts as lts
 use Rattle.roster.proofs.is_class.Reads as is-class-reads
-use Rattle.roster.proofs.wide.Reads as wide-reads
+use Rattle.lists.proofs.wide.Reads as wide-reads
 
 wide-requires : tie.Need-wide-requires
 wide-requires c κs = search needs

@@ -4,7 +4,7 @@ use Rattle.roster.proofs.mark_class.Statement.{statement}
 use Rattle.roster.proofs.mark_class.Tie as tie
 use Rattle.roster.proofs.mark_class.Reads as reads
 use Rattle.roster.proofs.mark_class.Lts as lts
-use Rattle.roster.proofs.wide.Reads as wide-reads
+use Rattle.lists.proofs.wide.Reads as wide-reads
 use Rattle.roster.proofs.with_class.Reads as with-class-reads
 
 wide-requires : tie.Need-wide-requires

@@ -4,7 +4,7 @@ use Rattle.roster.proofs.mark_property.Statement.{statement}
 use Rattle.roster.proofs.mark_property.Tie as tie
 use Rattle.roster.proofs.mark_property.Reads as reads
 use Rattle.roster.proofs.mark_property.Lts as lts
-use Rattle.roster.proofs.wide.Reads as wide-reads
+use Rattle.lists.proofs.wide.Reads as wide-reads
 use Rattle.roster.proofs.with_property.Reads as with-property-reads
 
 wide-requires : tie.Need-wide-requires

@@ -4,7 +4,7 @@ use Rattle.summarise.proofs.image.Statement.{statement}
 use Rattle.summarise.proofs.image.Tie as tie
 use Rattle.summarise.proofs.image.Reads as reads
 use Rattle.summarise.proofs.image.Lts as lts
-use Rattle.union_find.proofs.wide.Reads as wide-reads
+use Rattle.lists.proofs.wide.Reads as wide-reads
 
 wide-requires : tie.Need-wide-requires
 wide-requires c κs = search needs

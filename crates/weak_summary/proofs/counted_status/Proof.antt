@@ -11,15 +11,15 @@ enum-known-c c = search needs
 enum-known-c-2 : tie.Need-enum-known-c-2
 enum-known-c-2 c = search needs
 
-status-requires : tie.Need-status-requires
-status-requires c κs = search needs
+refusal-number-requires : tie.Need-refusal-number-requires
+refusal-number-requires c κs = search needs
 
 returns : tie.Need-returns
 returns c = counted-stores _ _ _ (c .before .c .given .1)
 
 returns-2 : tie.Need-returns-2
-returns-2 c = counted-refuses _ _ _ _ (c .before .before .c2 .given .1) (c .status .ensures)
+returns-2 c = counted-refuses _ _ _ _ (c .before .before .c2 .given .1) (c .refusal-number .ensures)
 
 pub counted-status-spec : {M : Type 1} → statement M
 counted-status-spec =
-    tie.close (tie.spec enum-known-c enum-known-c-2 status-requires returns returns-2)
+    tie.close (tie.spec enum-known-c enum-known-c-2 refusal-number-requires returns returns-2)

@@ -11,14 +11,14 @@ enum-told c = search needs
 enum-known-d : tie.Need-enum-known-d
 enum-known-d c = search needs
 
-status-requires : tie.Need-status-requires
-status-requires c κs = search needs
+refusal-number-requires : tie.Need-refusal-number-requires
+refusal-number-requires c κs = search needs
 
 returns : tie.Need-returns
 returns c = done-zero _ (c .enum-told .given .1)
 
 returns-2 : tie.Need-returns-2
-returns-2 c = done-number _ _ _ (c .before .before .d .given .1) (c .status .ensures)
+returns-2 c = done-number _ _ _ (c .before .before .d .given .1) (c .refusal-number .ensures)
 
 pub done-status-spec : {M : Type 1} → statement M
-done-status-spec = tie.close (tie.spec enum-told enum-known-d status-requires returns returns-2)
+done-status-spec = tie.close (tie.spec enum-told enum-known-d refusal-number-requires returns returns-2)

@@ -12,8 +12,8 @@ enum-told c = search needs
 enum-known-f : tie.Need-enum-known-f
 enum-known-f c = search needs
 
-status-requires : tie.Need-status-requires
-status-requires c κs = search needs
+refusal-number-requires : tie.Need-refusal-number-requires
+refusal-number-requires c κs = search needs
 
 returns : tie.Need-returns
 unfolding formStatus
@@ -21,7 +21,7 @@ returns c = rw (c .enum-told .given .1)
 
 returns-2 : tie.Need-returns-2
 unfolding formStatus
-returns-2 c = c .status .ensures ∙ sym (ap formStatus (c .before .before .f .given .1))
+returns-2 c = c .refusal-number .ensures ∙ sym (ap formStatus (c .before .before .f .given .1))
 
 pub form-status-spec : {M : Type 1} → statement M
-form-status-spec = tie.close (tie.spec enum-told enum-known-f status-requires returns returns-2)
+form-status-spec = tie.close (tie.spec enum-told enum-known-f refusal-number-requires returns returns-2)

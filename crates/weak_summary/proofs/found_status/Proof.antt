@@ -14,8 +14,8 @@ enum-told-2 c = search needs
 enum-known-f : tie.Need-enum-known-f
 enum-known-f c = search needs
 
-status-requires : tie.Need-status-requires
-status-requires c κs = search needs
+refusal-number-requires : tie.Need-refusal-number-requires
+refusal-number-requires c κs = search needs
 
 returns : tie.Need-returns
 returns c = found-yes _ _ (c .enum-told .given .1)
@@ -24,9 +24,9 @@ returns-2 : tie.Need-returns-2
 returns-2 c = found-no _ _ (c .enum-told2 .given .1)
 
 returns-3 : tie.Need-returns-3
-returns-3 c = found-refuses _ _ _ _ (c .before .before .f .given .1) (c .status .ensures)
+returns-3 c = found-refuses _ _ _ _ (c .before .before .f .given .1) (c .refusal-number .ensures)
 
 pub found-status-spec : {M : Type 1} → statement M
 found-status-spec =
     tie.close
-    (tie.spec enum-told enum-told-2 enum-known-f status-requires returns returns-2 returns-3)
+    (tie.spec enum-told enum-told-2 enum-known-f refusal-number-requires returns returns-2 returns-3)

@@ -10,11 +10,11 @@ use Rattle.weak_summary.proofs.Calls.{ask-length, ask-passed}
 use Rattle.weak_summary.proofs.ws_ask.Statement.{statement}
 use Rattle.weak_summary.proofs.ws_ask.Tie as tie
 
-status-requires : tie.Need-status-requires
-status-requires c κs = search needs
+refusal-number-requires : tie.Need-refusal-number-requires
+refusal-number-requires c κs = search needs
 
 returns : tie.Need-returns
-returns c = ask-length _ _ _ _ _ (c .before .if1 .taken) (c .status .ensures)
+returns c = ask-length _ _ _ _ _ (c .before .if1 .taken) (c .refusal-number .ensures)
 
 query-of-requires : tie.Need-query-of-requires
 query-of-requires c κs = search needs
@@ -32,7 +32,7 @@ pub ws-ask-spec : {M : Type 1} → statement M
 ws-ask-spec =
     tie.close
     (tie.spec
-    status-requires
+    refusal-number-requires
     returns
     query-of-requires
     ask-requires

@@ -6,11 +6,11 @@ use Rattle.weak_summary.proofs.Calls.{read-length, read-status}
 use Rattle.weak_summary.proofs.ws_read.Statement.{statement}
 use Rattle.weak_summary.proofs.ws_read.Tie as tie
 
-status-requires : tie.Need-status-requires
-status-requires c κs = search needs
+refusal-number-requires : tie.Need-refusal-number-requires
+refusal-number-requires c κs = search needs
 
 returns : tie.Need-returns
-returns c = let a = c .before .before .before .before .before .args in read-length (a .text .now) (lent (a .list .now) (a .queries .now) (a .n .now) (a .count .now) (a .asks .now)) _ (c .before .if1 .taken) (c .status .ensures)
+returns c = let a = c .before .before .before .before .before .args in read-length (a .text .now) (lent (a .list .now) (a .queries .now) (a .n .now) (a .count .now) (a .asks .now)) _ (c .before .if1 .taken) (c .refusal-number .ensures)
 
 read-requires : tie.Need-read-requires
 read-requires c κs = search needs
@@ -36,7 +36,7 @@ pub ws-read-spec : {M : Type 1} → statement M
 ws-read-spec =
     tie.close
     (tie.spec
-    status-requires
+    refusal-number-requires
     returns
     read-requires
     put-queries-requires

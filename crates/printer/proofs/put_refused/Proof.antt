@@ -1,9 +1,9 @@
 use Rattle.printer.proofs.Lines.{room-refused, room-refused-end, refused-put}
 use borrow.Author.Needs.{needs}
-use Rattle.printer.proofs.put_number.Statement.{statement}
-use Rattle.printer.proofs.put_number.Tie as tie
-use Rattle.printer.proofs.put_number.Reads as reads
-use Rattle.printer.proofs.put_number.Lts as lts
+use Rattle.printer.proofs.put_refused.Statement.{statement}
+use Rattle.printer.proofs.put_refused.Tie as tie
+use Rattle.printer.proofs.put_refused.Reads as reads
+use Rattle.printer.proofs.put_refused.Lts as lts
 use Rattle.site_writer.proofs.put_after.Reads as put-after-reads
 use Rattle.site_writer.proofs.put_bytes.Reads as put-bytes-reads
 
@@ -25,8 +25,8 @@ same-length c = search needs
 returns : tie.Need-returns
 returns c = refused-put _ _ _ _ _ (c .before .before .before .before .before .before .before .put-after .ensures) _ _ (c .before .before .put-bytes .ensures)
 
-pub put-number-spec : {M : Type 1} → statement M
-put-number-spec =
+pub put-refused-spec : {M : Type 1} → statement M
+put-refused-spec =
     tie.close
     (tie.spec
     slice-aggregate-put-after

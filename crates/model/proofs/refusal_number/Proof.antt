@@ -1,9 +1,9 @@
--- `weak_summary::status` meets its contract.
--- Assumes nothing.
+use Rattle.model.specs.Outcomes.{number}
 use borrow.Author.Needs.{needs}
-use Rattle.model.specs.Outcomes.{number}
-use Rattle.weak_summary.proofs.status.Statement.{statement}
-use Rattle.weak_summary.proofs.status.Tie as tie
+use Rattle.model.proofs.refusal_number.Statement.{statement}
+use Rattle.model.proofs.refusal_number.Tie as tie
+use Rattle.model.proofs.refusal_number.Reads as reads
+use Rattle.model.proofs.refusal_number.Lts as lts
 
 enum-told : tie.Need-enum-told
 enum-told c = search needs
@@ -61,8 +61,8 @@ returns-8 : tie.Need-returns-8
 unfolding number
 returns-8 c = rw (c .enum-told8 .given .1)
 
-pub status-spec : {M : Type 1} → statement M
-status-spec =
+pub refusal-number-spec : {M : Type 1} → statement M
+refusal-number-spec =
     tie.close
     (tie.spec
     enum-told
