@@ -76,7 +76,7 @@ pub fn check(tally: &mut [u64; 90], call: usize, seed: u64, what: &[u8], ok: boo
     print(b")\n");
 }
 
-// A small case of the paper: what it says and what the engine answered.
+// A small case of the paper: the number that it expects and the one that the engine answered; 9 stands for yes and maybe.
 pub fn small(call: usize, name: &[u8], expected: u32, got: u32) {
     print(b"(small ");
     print_call(call);

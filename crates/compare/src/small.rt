@@ -114,68 +114,74 @@ fn three(tally: &mut [u64; 90], name: &[u8], expected: u32, table: &[u32], roste
     summarise(tally, name, expected, table, roster, 40, 14, 28);
 }
 
-// Refusals 1 to 4 of these calls.
-fn tables(tally: &mut [u64; 90]) {
+// Refusals 1 and 2 of these calls.
+fn lists_and_rosters(tally: &mut [u64; 90], six: &[u32], roster: &[u8]) {
     let over = [0u8, 0, 0, 0, 0, 2, 2, 2, 1, 1, 0, 0, 0, 4];
     let reserved = [0u8, 0, 1, 0, 0, 2, 2, 2, 1, 1, 0, 0, 0, 0];
-    let none = [0u8; 14];
-    three(tally, b"six", 0, &SIX, &SIX_ROSTER);
-    three(tally, b"length-17", 1, &SIX[0..17], &SIX_ROSTER);
-    three(tally, b"value-4", 2, &SIX, &over);
-    three(tally, b"reserved-marked", 2, &SIX, &reserved);
-    three(tally, b"10-5-14", 3, &[10, 5, 14], &SIX_ROSTER);
-    three(tally, b"10-5-0", 3, &[10, 5, 0], &SIX_ROSTER);
+    three(tally, b"six", 0, six, roster);
+    three(tally, b"length-4", 1, &[5, 2, 7, 6], roster);
+    three(tally, b"value-4", 2, six, &over);
+    three(tally, b"reserved-marked", 2, six, &reserved);
+}
+
+// Refusal 3, also beside an uncovered triple.
+fn codes(tally: &mut [u64; 90], roster: &[u8]) {
+    three(tally, b"10-5-14", 3, &[10, 5, 14], roster);
+    three(tally, b"10-5-0", 3, &[10, 5, 0], roster);
     three(
         tally,
         b"10-5-0-uncovered",
         3,
         &[10, 5, 0, 10, 10, 11],
-        &SIX_ROSTER,
+        roster,
     );
     three(
         tally,
         b"uncovered-10-5-0",
         3,
         &[10, 10, 11, 10, 5, 0],
-        &SIX_ROSTER,
+        roster,
     );
-    three(
-        tally,
-        b"uncovered",
-        4,
-        &[10, 5, 11, 10, 10, 11],
-        &SIX_ROSTER,
-    );
-    three(tally, b"no-marks", 4, &SIX, &none);
 }
 
-// Lists of wrong lengths, and results with too few slots.
-fn lengths(tally: &mut [u64; 90]) {
-    saturate(tally, b"36-numbers", 0, &SIX, &SIX_ROSTER, 36);
-    saturate(tally, b"35-numbers", 5, &SIX, &SIX_ROSTER, 35);
-    saturate(tally, b"0-numbers", 5, &SIX, &SIX_ROSTER, 0);
-    cliques(tally, b"13-sources", 1, &SIX, &SIX_ROSTER, 13, 14);
-    cliques(tally, b"15-targets", 1, &SIX, &SIX_ROSTER, 14, 15);
-    summarise(tally, b"18-numbers", 0, &SIX, &SIX_ROSTER, 18, 14, 28);
-    summarise(tally, b"17-numbers", 5, &SIX, &SIX_ROSTER, 17, 14, 28);
-    summarise(tally, b"13-map", 1, &SIX, &SIX_ROSTER, 18, 13, 28);
-    summarise(tally, b"29-work", 1, &SIX, &SIX_ROSTER, 18, 14, 29);
+// Refusal 4.
+fn covers(tally: &mut [u64; 90], six: &[u32], roster: &[u8]) {
+    let none = [0u8; 14];
+    three(tally, b"uncovered", 4, &[10, 5, 11, 10, 10, 11], roster);
+    three(tally, b"no-marks", 4, six, &none);
 }
 
-fn rosters(tally: &mut [u64; 90]) {
-    own_roster(tally, b"six", 0, &SIX);
-    own_roster(tally, b"length-17", 1, &SIX[0..17]);
+// Results with enough slots and with too few.
+fn slots(tally: &mut [u64; 90], six: &[u32], roster: &[u8]) {
+    saturate(tally, b"36-numbers", 0, six, roster, 36);
+    saturate(tally, b"35-numbers", 5, six, roster, 35);
+    saturate(tally, b"0-numbers", 5, six, roster, 0);
+    summarise(tally, b"18-numbers", 0, six, roster, 18, 14, 28);
+    summarise(tally, b"17-numbers", 5, six, roster, 17, 14, 28);
+}
+
+// Lists of wrong lengths.
+fn lengths(tally: &mut [u64; 90], six: &[u32], roster: &[u8]) {
+    cliques(tally, b"13-sources", 1, six, roster, 13, 14);
+    cliques(tally, b"15-targets", 1, six, roster, 14, 15);
+    summarise(tally, b"13-map", 1, six, roster, 18, 13, 28);
+    summarise(tally, b"29-work", 1, six, roster, 18, 14, 29);
+}
+
+fn rosters(tally: &mut [u64; 90], six: &[u32]) {
+    own_roster(tally, b"six", 0, six);
+    own_roster(tally, b"length-4", 1, &[5, 2, 7, 6]);
     own_roster(tally, b"10-5-14", 3, &[10, 5, 14]);
     own_roster(tally, b"10-5-0", 3, &[10, 5, 0]);
     own_roster(tally, b"10-5-0-uncovered", 3, &[10, 5, 0, 10, 10, 11]);
 }
 
-fn look_ups(tally: &mut [u64; 90]) {
-    let refused = calls::look_up(tally, 0, &SIX[0..17], 5, 2, 7);
-    small(LOOK_UP, b"length-17", 1, refused);
-    let held = calls::look_up(tally, 0, &SIX, 11, 6, 13);
+fn look_ups(tally: &mut [u64; 90], six: &[u32]) {
+    let refused = calls::look_up(tally, 0, &[5, 2, 7, 6], 5, 2, 7);
+    small(LOOK_UP, b"length-4", 1, refused);
+    let held = calls::look_up(tally, 0, six, 11, 6, 13);
     small(LOOK_UP, b"held", 9, held);
-    let other = calls::look_up(tally, 0, &SIX, 11, 6, 12);
+    let other = calls::look_up(tally, 0, six, 11, 6, 12);
     small(LOOK_UP, b"other", 0, other);
 }
 
@@ -204,21 +210,52 @@ fn ask(
     );
 }
 
-fn asks(tally: &mut [u64; 90]) {
+fn answers(tally: &mut [u64; 90], six: &[u32], map: &[u32]) {
+    ask(tally, b"maybe", 9, six, map, 1, &[0, 0, 5, 0, 1]);
+    ask(tally, b"variable-7", 9, six, map, 1, &[0, 7, 5, 0, 1]);
+    ask(tally, b"none", 0, six, map, 1, &[0, 0, 5, 0, 0]);
+    ask(tally, b"no-triples", 0, &[], map, 1, &[0, 0, 5, 0, 1]);
+}
+
+fn tables_refused(tally: &mut [u64; 90], map: &[u32]) {
+    ask(
+        tally,
+        b"length-4",
+        1,
+        &[5, 2, 7, 6],
+        map,
+        1,
+        &[0, 0, 5, 0, 1],
+    );
+    ask(tally, b"10-5-0", 3, &[10, 5, 0], map, 1, &[0, 0, 5, 0, 1]);
+    ask(
+        tally,
+        b"10-5-0-no-patterns",
+        3,
+        &[10, 5, 0],
+        map,
+        0,
+        &[0, 0, 5, 0, 1],
+    );
+}
+
+fn counts_refused(tally: &mut [u64; 90], six: &[u32], map: &[u32]) {
+    ask(tally, b"no-patterns", 6, six, map, 0, &[0, 0, 5, 0, 1]);
+    ask(tally, b"9-patterns", 6, six, map, 9, &[0, 0, 5, 0, 1]);
+}
+
+fn patterns_refused(tally: &mut [u64; 90], six: &[u32], map: &[u32]) {
+    ask(tally, b"variable-8", 6, six, map, 1, &[0, 8, 5, 0, 0]);
+    ask(tally, b"code-14", 6, six, map, 1, &[0, 0, 5, 1, 14]);
+    ask(tally, b"property-14", 6, six, map, 1, &[0, 0, 14, 0, 1]);
+}
+
+fn asks(tally: &mut [u64; 90], six: &[u32]) {
     let map = [0u32, 1, 2, 3, 4, 5, 6, 7, 8, 9, 10, 11, 12, 13];
-    let open = [0u32, 0, 5, 0, 1];
-    ask(tally, b"maybe", 9, &SIX, &map, 1, &open);
-    ask(tally, b"none", 0, &SIX, &map, 1, &[0, 0, 5, 0, 0]);
-    ask(tally, b"no-triples", 0, &[], &map, 1, &open);
-    ask(tally, b"length-17", 1, &SIX[0..17], &map, 1, &open);
-    ask(tally, b"10-5-0", 3, &[10, 5, 0], &map, 1, &open);
-    ask(tally, b"10-5-0-no-patterns", 3, &[10, 5, 0], &map, 0, &open);
-    ask(tally, b"no-patterns", 6, &SIX, &map, 0, &open);
-    ask(tally, b"9-patterns", 6, &SIX, &map, 9, &open);
-    ask(tally, b"variable-8", 6, &SIX, &map, 1, &[0, 8, 5, 0, 0]);
-    ask(tally, b"variable-7", 9, &SIX, &map, 1, &[0, 7, 5, 0, 1]);
-    ask(tally, b"code-14", 6, &SIX, &map, 1, &[0, 0, 5, 1, 14]);
-    ask(tally, b"property-14", 6, &SIX, &map, 1, &[0, 0, 14, 0, 1]);
+    answers(tally, six, &map);
+    tables_refused(tally, &map);
+    counts_refused(tally, six, &map);
+    patterns_refused(tally, six, &map);
 }
 
 // Opens with lists of those lengths.
@@ -254,12 +291,12 @@ fn open(
     small(OPEN, name, expected, got);
 }
 
-fn opens(tally: &mut [u64; 90]) {
+fn opens(tally: &mut [u64; 90], roster: &[u8]) {
     let over = [0u8, 0, 0, 0, 0, 2, 2, 2, 1, 1, 0, 0, 0, 4];
     let reserved = [2u8, 0, 0, 0, 0, 2, 2, 2, 1, 1, 0, 0, 0, 0];
-    open(tally, b"equal-slots", 0, &SIX_ROSTER, 7, 8, 14);
-    open(tally, b"unequal-slots", 1, &SIX_ROSTER, 8, 9, 14);
-    open(tally, b"13-map", 1, &SIX_ROSTER, 6, 6, 13);
+    open(tally, b"equal-slots", 0, roster, 7, 8, 14);
+    open(tally, b"unequal-slots", 1, roster, 8, 9, 14);
+    open(tally, b"13-map", 1, roster, 6, 6, 13);
     open(tally, b"value-4", 2, &over, 6, 6, 14);
     open(tally, b"reserved-marked", 2, &reserved, 6, 6, 14);
 }
@@ -346,21 +383,23 @@ fn feed(
     tally: &mut [u64; 90],
     i: usize,
     state: State,
+    list: &[u32],
+    roster: &[u8],
     triples: &mut [u32],
     summary: &mut [u32],
     map: &mut [u32],
     h: &mut [u32],
 ) -> State {
     let k = 5 * at_most(i, 9);
-    let w = get(&FEEDS, k + 1) as usize;
-    let s = get(&FEEDS, k + 2);
-    let p = get(&FEEDS, k + 3);
-    let o = get(&FEEDS, k + 4);
+    let w = get(list, k + 1) as usize;
+    let s = get(list, k + 2);
+    let p = get(list, k + 3);
+    let o = get(list, k + 4);
     let next = feeds::feed(
         tally,
         0,
         state,
-        &SIX_ROSTER,
+        roster,
         triples,
         summary,
         map,
@@ -370,12 +409,14 @@ fn feed(
         p,
         o,
     );
-    small_feed(i, get(&FEEDS, k), next.answer);
+    small_feed(i, get(list, k), next.answer);
     next
 }
 
 fn feed_two_slots(
     tally: &mut [u64; 90],
+    list: &[u32],
+    roster: &[u8],
     triples: &mut [u32],
     summary: &mut [u32],
     map: &mut [u32],
@@ -384,12 +425,12 @@ fn feed_two_slots(
     let mut state = feeds::opened();
     let mut i = 0;
     while i < 10 {
-        state = feed(tally, i, state, triples, summary, map, h);
+        state = feed(tally, i, state, list, roster, triples, summary, map, h);
         i += 1;
     }
 }
 
-fn feed_opened(tally: &mut [u64; 90]) {
+fn feed_opened(tally: &mut [u64; 90], roster: &[u8]) {
     let mut a = [0u32; 8];
     let mut b = [0u32; 7];
     let mut c = [0u32; 14];
@@ -399,7 +440,7 @@ fn feed_opened(tally: &mut [u64; 90]) {
     let got = calls::open(
         tally,
         0,
-        &SIX_ROSTER,
+        roster,
         &mut a,
         &mut b,
         &mut c,
@@ -408,7 +449,7 @@ fn feed_opened(tally: &mut [u64; 90]) {
         &mut f,
     );
     small(OPEN, b"two-slots", 0, got);
-    feed_two_slots(tally, &mut a, &mut b, &mut c, &mut d);
+    feed_two_slots(tally, &FEEDS, roster, &mut a, &mut b, &mut c, &mut d);
 }
 
 // A feed of 10 5 12 that is refused, with lists of those lengths.
@@ -448,22 +489,33 @@ fn feed_refused(
     small(FEED, name, expected, got);
 }
 
-fn feeds_refused(tally: &mut [u64; 90]) {
+fn feeds_refused(tally: &mut [u64; 90], roster: &[u8]) {
     let over = [0u8, 0, 0, 0, 0, 2, 2, 2, 1, 1, 0, 0, 0, 4];
     let reserved = [2u8, 0, 0, 0, 0, 2, 2, 2, 1, 1, 0, 0, 0, 0];
-    feed_refused(tally, b"unequal-slots", 1, &SIX_ROSTER, 9, 6, 14);
-    feed_refused(tally, b"13-map", 1, &SIX_ROSTER, 6, 6, 13);
+    feed_refused(tally, b"unequal-slots", 1, roster, 9, 6, 14);
+    feed_refused(tally, b"13-map", 1, roster, 6, 6, 13);
     feed_refused(tally, b"value-4", 2, &over, 6, 6, 14);
     feed_refused(tally, b"reserved-marked", 2, &reserved, 6, 6, 14);
 }
 
+fn table_cases(tally: &mut [u64; 90], six: &[u32], roster: &[u8]) {
+    lists_and_rosters(tally, six, roster);
+    codes(tally, roster);
+    covers(tally, six, roster);
+    slots(tally, six, roster);
+    lengths(tally, six, roster);
+    rosters(tally, six);
+    look_ups(tally, six);
+    asks(tally, six);
+}
+
+fn intake_cases(tally: &mut [u64; 90], roster: &[u8]) {
+    opens(tally, roster);
+    feed_opened(tally, roster);
+    feeds_refused(tally, roster);
+}
+
 pub fn all(tally: &mut [u64; 90]) {
-    tables(tally);
-    lengths(tally);
-    rosters(tally);
-    look_ups(tally);
-    asks(tally);
-    opens(tally);
-    feed_opened(tally);
-    feeds_refused(tally);
+    table_cases(tally, &SIX, &SIX_ROSTER);
+    intake_cases(tally, &SIX_ROSTER);
 }

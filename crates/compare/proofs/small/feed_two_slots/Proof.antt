@@ -10,10 +10,10 @@ use Rattle.compare.proofs.feeds.opened.Reads as opened-reads
 use Rattle.compare.proofs.small.feed.Reads as feed-reads
 
 abbrev Inv-loop : tie.InvT-loop
-Inv-loop tally₀ triples₀ summary₀ map₀ h₀ state₀ i₀ tally triples summary map h state i = (length triples ≡ length triples₀) × (length summary ≡ length summary₀) × (length map ≡ length map₀) × (length h ≡ length h₀)
+Inv-loop tally₀ list roster triples₀ summary₀ map₀ h₀ state₀ i₀ tally triples summary map h state i = (length triples ≡ length triples₀) × (length summary ≡ length summary₀) × (length map ≡ length map₀) × (length h ≡ length h₀)
 
 abbrev μ-loop : tie.MeasureT-loop
-μ-loop tally₀ triples₀ summary₀ map₀ h₀ state₀ i₀ tally triples summary map h state i = 10 - i
+μ-loop tally₀ list roster triples₀ summary₀ map₀ h₀ state₀ i₀ tally triples summary map h state i = 10 - i
 
 opened-requires : tie.Need-opened-requires Inv-loop μ-loop
 opened-requires c κs = search needs
