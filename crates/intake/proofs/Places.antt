@@ -12,7 +12,7 @@ use borrow.Author.Tests.{eqb-false}
 use Rattle.model.specs.declared.Triple.{Triple}
 use Rattle.model.specs.Codes.{rdfs, absent}
 use Rattle.model.specs.Lists.{any, tabulate}
-use Rattle.model.specs.Triples.{triple, before, same, holds}
+use Rattle.model.specs.Triples.{triple, same, holds}
 use Rattle.model.specs.Roster.{coversTriple, wrongTriple}
 use Rattle.model.specs.Partition.{label}
 use Rattle.model.specs.Summary.{moved}
@@ -20,33 +20,14 @@ use Rattle.theory.proofs.Tests.{or-left, or-right, or-neither}
 use Rattle.theory.proofs.Lists.{mem-tabulate}
 use Rattle.theory.proofs.Order.{same-eq}
 use Rattle.theory.proofs.Covered.{Below, codes-right}
-use Rattle.lists.specs.Flat.{at, RisingPart}
+use Rattle.lists.specs.Flat.{at}
 use Rattle.lists.proofs.Places.{any-at, any-nowhere, same-default}
 use Rattle.lists.proofs.Compare.{Cmp, lt, eq, gt, cmp}
-use Rattle.lists.proofs.Search.{Bracket, bracket-start, bracket-up, bracket-down, bracket-end, bound-here, bound-past}
+use Rattle.lists.proofs.Search.{bound-here, bound-past}
 use Rattle.builder.specs.Builder.{first}
-use Rattle.intake.specs.Feeding.{Place, StandsAt, Known, bad}
+use Rattle.intake.specs.Feeding.{StandsAt, Known, bad}
 
--- ── the search ──
-pub record Searching (l : List ℕ) (n : ℕ) (t : Triple) (low high : ℕ) : Type 0 where
-  pub within : low ≤ high
-  pub to : high ≤ n
-  pub bracket : RisingPart (at l) 0 n → Bracket (at l) 0 n t low high
-
-pub searching-start : (l : List ℕ) (n : ℕ) (t : Triple) → Searching l n t 0 n
-searching-start l n t = record { within = omega arith; to = omega arith; bracket = λ r. bracket-start (at l) 0 n t (omega arith) }
-
-module _ (l : List ℕ) (n : ℕ) (t : Triple) (low high m : ℕ) (s : Searching l n t low high) (x : low ≤ m) (y : m < high) where
-  pub searching-up : before (at l m) t ≡ true → Searching l n t (m + 1) high
-  searching-up h = record { within = omega arith; to = s .to; bracket = λ r. bracket-up (at l) 0 n t low high r (s .bracket r) m x y h }
-
-  pub searching-down : before (at l m) t ≡ false → Searching l n t low m
-  searching-down h = record { within = x; to = omega (arith, s .to); bracket = λ r. bracket-down (at l) 0 n t low high r (s .bracket r) m x y h }
-
-pub searching-end : (l : List ℕ) (n : ℕ) (t : Triple) (low high : ℕ) → Searching l n t low high → high ≤ low → Place l n t low
-searching-end l n t low high s h =
-    record { within = omega (arith, s .within, s .to); bound = λ r. bracket-end (at l) 0 n t low high (s .bracket r) h }
-
+-- ── a triple at a place ──
 module _ (l : List ℕ) (n i : ℕ) (t : Triple) where
   all : tabulate (at l) 0 (n - 0) ≡ first l n
   all = ap (λ (k : ℕ). tabulate (at l) 0 k) (sub-zero n)

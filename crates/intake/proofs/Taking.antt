@@ -21,11 +21,11 @@ use Rattle.model.specs.Outcomes.{Outcome, refused, accepted, number, found, Che
 use Rattle.model.specs.Intake.{State, Feed, judged, joins, stateOf, wrongLists, feedChecks, Valid, Fed}
 use Rattle.theory.proofs.Tests.{or-left, or-right, or-false, or-neither}
 use Rattle.theory.proofs.Checks.{decided-passes}
-use Rattle.lists.specs.Flat.{Cleared}
+use Rattle.lists.specs.Flat.{at, Cleared, Place}
 use Rattle.lists.proofs.Search.{cleared-all}
 use Rattle.intake.specs.declared.FedCounts.{FedCounts}
 use Rattle.intake.specs.Opening.{wrongLengths, stateWith}
-use Rattle.intake.specs.Feeding.{Place, StandsAt, Ready, Kept, AddCall, Taken, refusal}
+use Rattle.intake.specs.Feeding.{StandsAt, Ready, Kept, AddCall, Taken, refusal}
 use Rattle.intake.proofs.Adding.{held-is, first-is, rising}
 
 module _ (roster triples sums map₀ work : List ℕ) (held summarised : ℕ) (t : Triple) where
@@ -64,7 +64,7 @@ module _ (roster triples sums map₀ work : List ℕ) (held summarised : ℕ) (t
         kept = same-lengths;
       }
 
-  module _ (i : ℕ) (P : Place triples held t i) (r : Bool) (S : StandsAt triples held i t r) where
+  module _ (i : ℕ) (P : Place (at triples) 0 held t i) (r : Bool) (S : StandsAt triples held i t r) where
     holds-is : (b : Bool) → r ≡ b → (H : List Triple) → Valid rdfs roster s H → holds t H ≡ b
     holds-is b e H W =
         let up = rising roster triples sums map₀ work held summarised t H W in

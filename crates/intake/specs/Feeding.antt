@@ -21,11 +21,6 @@ use Rattle.lists.specs.Flat.{at, RisingPart, Bound}
 use Rattle.builder.specs.Builder.{first}
 use Rattle.intake.specs.declared.FedCounts.{FedCounts}
 
--- the place of t among the first n triples, where they are in rising order
-pub record Place (l : List ℕ) (n : ℕ) (t : Triple) (r : ℕ) : Type 0 where
-  pub within : r ≤ n
-  pub bound : RisingPart (at l) 0 n → Bound (at l) 0 n t r
-
 pub record StandsAt (l : List ℕ) (n i : ℕ) (t : Triple) (r : Bool) : Type 0 where
   pub held : r ≡ true → Mem t (first l n)
   pub exact : RisingPart (at l) 0 n → Bound (at l) 0 n t i → r ≡ holds t (first l n)

@@ -14,14 +14,14 @@ ghost use Rattle.theory.proofs.Covered.{Below};
 ghost use Rattle.builder.specs.Builder.{first};
 ghost use Rattle.intake.specs.Insertion.{Inserted};
 ghost use Rattle.intake.specs.Opening.{wrongLengths, stateWith, OpenCall, Opens};
-ghost use Rattle.intake.specs.Feeding.{Place, StandsAt, Known, bad, Ready, AddCall, Taken, refusal};
+ghost use Rattle.intake.specs.Feeding.{StandsAt, Known, bad, Ready, AddCall, Taken, refusal};
 use checks::size_wrong;
 use checks::triple_wrong;
 use checks::work_wrong;
 use lists::Code;
-use lists::before_at;
 use lists::clear;
 use lists::empty;
+use lists::lower_bound;
 use lists::put;
 use lists::same;
 use lists::triple_at;
@@ -104,24 +104,6 @@ pub struct OpenedCounts {
     pub summarised: usize,
 }
 
-// Of the first `count` places, the first whose triple does not come before t, where they are in rising order.
-fn find_place(list: &[u32], count: usize, t: Triple) -> usize
-    requires { ⌜ 3 * count ≤ length (now list) ⌝ }
-    ensures { λ r. ⌜ Place (now (list .entry)) count t r ⌝ }
-{
-    let mut low = 0;
-    let mut high = count;
-    while low < high {
-        let middle = low + (high - low) / 2;
-        if before_at(list, middle, t) {
-            low = middle + 1;
-        } else {
-            high = middle;
-        }
-    }
-    low
-}
-
 // Whether t stands at place i, below `count`.
 fn stands_at(list: &[u32], count: usize, i: usize, t: Triple) -> bool
     requires { ⌜ 3 * count ≤ length (now list) ⌝ }
@@ -154,7 +136,7 @@ fn image_known(summary: &[u32], summarised: usize, map: &[u32], t: Triple) -> bo
         property: t.property,
         object: object,
     };
-    let i = find_place(summary, summarised, image);
+    let i = lower_bound(summary, 0, summarised, image);
     stands_at(summary, summarised, i, image)
 }
 
@@ -246,7 +228,7 @@ fn take_in(
     if slots < held {
         return refuse(Refusal::Full, held, summarised);
     }
-    let i = find_place(triples, held, t);
+    let i = lower_bound(triples, 0, held, t);
     if stands_at(triples, held, i, t) {
         clear(work, 0, work.len());
         return FedCounts {

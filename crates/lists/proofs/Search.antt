@@ -16,7 +16,7 @@ use Rattle.model.specs.Order.{Lt}
 use Rattle.theory.proofs.Tests.{bool-cases, not-true-false}
 use Rattle.theory.proofs.Lists.{tabulate-mem, mem-tabulate}
 use Rattle.theory.proofs.Order.{lt-trans, lt-irrefl, before-lt, lt-before, same-eq, same-refl, mem-holds, holds-mem}
-use Rattle.lists.specs.Flat.{RisingPart, Bound, Cleared, Emptied}
+use Rattle.lists.specs.Flat.{RisingPart, Bound, Place, Cleared, Emptied}
 use Rattle.lists.proofs.Compare.{Cmp, lt, eq, gt, cmp}
 
 -- all before `low` comes before t, all from `high` on does not
@@ -52,6 +52,27 @@ module _ (f : ℕ → Triple) (a b : ℕ) (t : Triple) (low high : ℕ) (r : Ris
 pub bracket-end : (f : ℕ → Triple) (a b : ℕ) (t : Triple) (low high : ℕ) → Bracket f a b t low high → high ≤ low → Bound f a b t low
 bracket-end f a b t low high w e =
     record { low = w .from; high = omega (arith, w .to, w .within); below = w .below; above = λ i p q. w .above i (omega (arith, w .within)) q }
+
+-- a place between low and high, where the places are in rising order
+pub record Searching (f : ℕ → Triple) (a b : ℕ) (t : Triple) (low high : ℕ) : Type 0 where
+  pub from : a ≤ low
+  pub within : low ≤ high
+  pub to : high ≤ b
+  pub bracket : RisingPart f a b → Bracket f a b t low high
+
+pub searching-start : (f : ℕ → Triple) (a b : ℕ) (t : Triple) → a ≤ b → Searching f a b t a b
+searching-start f a b t h = record { from = omega arith; within = h; to = omega arith; bracket = λ r. bracket-start f a b t h }
+
+module _ (f : ℕ → Triple) (a b : ℕ) (t : Triple) (low high m : ℕ) (s : Searching f a b t low high) (x : low ≤ m) (y : m < high) where
+  pub searching-up : before (f m) t ≡ true → Searching f a b t (m + 1) high
+  searching-up h = record { from = omega (arith, s .from); within = omega arith; to = s .to; bracket = λ r. bracket-up f a b t low high r (s .bracket r) m x y h }
+
+  pub searching-down : before (f m) t ≡ false → Searching f a b t low m
+  searching-down h = record { from = s .from; within = x; to = omega (arith, s .to); bracket = λ r. bracket-down f a b t low high r (s .bracket r) m x y h }
+
+pub searching-end : (f : ℕ → Triple) (a b : ℕ) (t : Triple) (low high : ℕ) → Searching f a b t low high → high ≤ low → Place f a b t low
+searching-end f a b t low high s h =
+    record { low = s .from; high = omega (arith, s .within, s .to); bound = λ r. bracket-end f a b t low high (s .bracket r) h }
 
 -- ── what the bound says of membership ──
 module _ (f : ℕ → Triple) (a b : ℕ) (t : Triple) (i : ℕ) (r : RisingPart f a b) (w : Bound f a b t i) where

@@ -33,6 +33,12 @@ pub record Bound (f : ℕ → Triple) (a b : ℕ) (t : Triple) (r : ℕ) : Type 
   pub below : (i : ℕ) → a ≤ i → i < r → Lt (f i) t
   pub above : (i : ℕ) → r ≤ i → i < b → before (f i) t ≡ false
 
+-- a place from a to b; where the places are in rising order it parts them
+pub record Place (f : ℕ → Triple) (a b : ℕ) (t : Triple) (r : ℕ) : Type 0 where
+  pub low : a ≤ r
+  pub high : r ≤ b
+  pub bound : RisingPart f a b → Bound f a b t r
+
 -- zeros from index a to before index b, the rest as it was
 pub record Cleared (l l′ : List ℕ) (a b : ℕ) : Type 0 where
   pub size : length l′ ≡ length l

@@ -39,8 +39,8 @@ is-absent-requires-2 c κs = search needs
 returns-3 : tie.Need-returns-3
 returns-3 c = λ e. known-false e
 
-find-place-requires : tie.Need-find-place-requires
-find-place-requires c κs = search needs
+lower-bound-requires : tie.Need-lower-bound-requires
+lower-bound-requires c κs = search needs
 
 stands-at-requires : tie.Need-stands-at-requires
 stands-at-requires c κs = search needs
@@ -63,6 +63,6 @@ image-known-spec =
     shared-slice-read-object
     is-absent-requires-2
     returns-3
-    find-place-requires
+    lower-bound-requires
     stands-at-requires
     returns-4)

@@ -13,8 +13,8 @@ returns c =
     let a = c .before .before .before .before .before .before .before .args in
     taken-refused (a .roster .now) (a .triples .now) (a .summary .now) (a .map .now) (a .work .now) (a .held) (a .summarised) (a .t) _ (c .refuse .ensures) (taken-over (a .roster .now) (a .triples .now) (a .summary .now) (a .map .now) (a .work .now) (a .held) (a .summarised) (a .t) (c .before .if1 .taken))
 
-find-place-requires : tie.Need-find-place-requires
-find-place-requires c κs = search needs
+lower-bound-requires : tie.Need-lower-bound-requires
+lower-bound-requires c κs = search needs
 
 stands-at-requires : tie.Need-stands-at-requires
 stands-at-requires c κs = search needs
@@ -31,7 +31,7 @@ same-length-2 c = search needs
 returns-2 : tie.Need-returns-2
 returns-2 c =
     let a = c .before .before .before .before .before .before .before .before .before .before .before .before .before .before .before .args in
-    taken-same (a .roster .now) (a .triples .now) (a .summary .now) (a .map .now) (a .work .now) (a .held) (a .summarised) (a .t) _ (c .before .before .before .before .before .before .before .find-place .ensures) _ (c .before .before .before .before .before .stands-at .ensures) (c .before .before .before .before .if2 .taken) _ (c .before .before .clear .ensures)
+    taken-same (a .roster .now) (a .triples .now) (a .summary .now) (a .map .now) (a .work .now) (a .held) (a .summarised) (a .t) _ (c .before .before .before .before .before .before .before .lower-bound .ensures) _ (c .before .before .before .before .before .stands-at .ensures) (c .before .before .before .before .if2 .taken) _ (c .before .before .clear .ensures)
 
 add-requires : tie.Need-add-requires
 add-requires c κs = search needs
@@ -51,7 +51,7 @@ same-length-6 c = search needs
 returns-3 : tie.Need-returns-3
 returns-3 c =
     let a = c .before .before .before .before .before .before .before .before .before .before .before .before .before .before .before .before .before .before .before .before .before .before .before .before .before .args in
-    taken-new (a .roster .now) (a .triples .now) (a .summary .now) (a .map .now) (a .work .now) (a .held) (a .summarised) (a .t) _ (c .before .before .before .before .before .before .before .before .before .before .before .before .before .before .before .before .before .find-place .ensures) _ (c .before .before .before .before .before .before .before .before .before .before .before .before .before .before .before .stands-at .ensures) (c .before .before .before .before .before .before .before .before .before .before .before .before .before .before .if2 .left) (c .before .before .before .before .before .before .before .before .before .before .before .before .before .if3 .taken) _ _ _ (c .before .before .before .before .before .before .before .before .add .ensures)
+    taken-new (a .roster .now) (a .triples .now) (a .summary .now) (a .map .now) (a .work .now) (a .held) (a .summarised) (a .t) _ (c .before .before .before .before .before .before .before .before .before .before .before .before .before .before .before .before .before .lower-bound .ensures) _ (c .before .before .before .before .before .before .before .before .before .before .before .before .before .before .before .stands-at .ensures) (c .before .before .before .before .before .before .before .before .before .before .before .before .before .before .if2 .left) (c .before .before .before .before .before .before .before .before .before .before .before .before .before .if3 .taken) _ _ _ (c .before .before .before .before .before .before .before .before .add .ensures)
 
 refuse-requires-2 : tie.Need-refuse-requires-2
 refuse-requires-2 c κs = search needs
@@ -63,7 +63,7 @@ returns-4 : tie.Need-returns-4
 returns-4 c =
     let a = c .before .before .before .before .before .before .before .before .before .before .before .before .before .args in
     taken-refused (a .roster .now) (a .triples .now) (a .summary .now) (a .map .now) (a .work .now) (a .held) (a .summarised) (a .t) _ (c .refuse2 .ensures)
-    (taken-full (a .roster .now) (a .triples .now) (a .summary .now) (a .map .now) (a .work .now) (a .held) (a .summarised) (a .t) _ (c .before .before .before .before .before .find-place .ensures) _ (c .before .before .before .stands-at .ensures) (c .before .before .if2 .left) (c .before .if3 .left))
+    (taken-full (a .roster .now) (a .triples .now) (a .summary .now) (a .map .now) (a .work .now) (a .held) (a .summarised) (a .t) _ (c .before .before .before .before .before .lower-bound .ensures) _ (c .before .before .before .stands-at .ensures) (c .before .before .if2 .left) (c .before .if3 .left))
 
 pub take-in-spec : {M : Type 1} → statement M
 take-in-spec =
@@ -71,7 +71,7 @@ take-in-spec =
     (tie.spec
     refuse-requires
     returns
-    find-place-requires
+    lower-bound-requires
     stands-at-requires
     clear-requires
     same-length
