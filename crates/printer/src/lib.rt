@@ -23,6 +23,8 @@ use query::ask;
 use roster::own_roster;
 use saturate::saturate;
 use site_form::Form;
+use site_form::LARGEST_PRINTED;
+use site_form::MOST_BYTES;
 use site_reader::read;
 use site_writer::put_after;
 use site_writer::put_bytes;
@@ -282,7 +284,7 @@ fn print_table(
     if checks::size_wrong(n) {
         return refuse(out, Refusal::Length);
     }
-    if 512 < n {
+    if LARGEST_PRINTED < n {
         return refuse(out, Refusal::Length);
     }
     if checks::codes_wrong(table, n) {
@@ -296,7 +298,7 @@ fn print_table(
 pub fn print_site(text: &[u8], out: &mut [u8]) -> usize
     ensures { λ r. ⌜ Put (now (out .entry)) 0 (printed (now (text .entry))) (now (out .exit)) r ⌝ }
 {
-    if 32768 < text.len() {
+    if MOST_BYTES < text.len() {
         return refuse(out, Refusal::Form);
     }
     let mut list: [u32; 3000] = [0; 3000];

@@ -2,6 +2,16 @@
 use model::Refusal;
 use query::Query;
 
+// The most triples of a text, and the most queries.
+pub const MOST_TRIPLES: usize = 1000;
+
+pub const MOST_ASKS: usize = 16;
+
+// The most bytes of a text that is printed, and the largest site size.
+pub const MOST_BYTES: usize = 32768;
+
+pub const LARGEST_PRINTED: usize = 512;
+
 // A site that was read: its size, how many triples and queries the text has, and the queries.
 // The triples go to a lent list.
 pub struct Site {

@@ -13,6 +13,8 @@ use query::End;
 use query::Pattern;
 use query::Query;
 use site_form::Form;
+use site_form::MOST_ASKS;
+use site_form::MOST_TRIPLES;
 use site_form::ReadAnswer;
 use site_form::Site;
 use site_parts::NumberForm;
@@ -124,7 +126,7 @@ fn ask_lines(text: &[u8], at: usize) -> AsksRead
     let mut queries = [blank_query(); 16];
     let mut count = 0;
     let mut i = at;
-    while count < 16 {
+    while count < MOST_ASKS {
         let line = ask_line(text, i);
         let form = line.form;
         let query = line.query;
@@ -162,7 +164,7 @@ fn triple_lines(text: &[u8], at: usize, list: &mut [u32]) -> LinesRead
 {
     let mut count = 0;
     let mut i = at;
-    while count < 1000 {
+    while count < MOST_TRIPLES {
         let TripleForm::Got { triple, next } = triple_line(text, i) else {
             return LinesRead { count, next: i };
         };

@@ -13,6 +13,7 @@ ghost use Rattle.site_writer.specs.Calls.{Room, Put, WriteCall};
 use model::Counted;
 use model::Refusal;
 use model::Triple;
+use site_form::MOST_TRIPLES;
 
 // Stores a byte at a place, if the list has that place.
 fn put_byte(out: &mut [u8], at: usize, b: u8)
@@ -137,7 +138,7 @@ pub fn write(n: u32, table: &[u32], out: &mut [u8]) -> Counted
     if checks::length_wrong(table.len()) {
         return Counted::Refused(Refusal::Length);
     }
-    if 1000 < table.len() / 3 {
+    if MOST_TRIPLES < table.len() / 3 {
         return Counted::Refused(Refusal::Length);
     }
     if checks::codes_wrong(table, size) {
