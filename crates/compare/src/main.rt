@@ -1,13 +1,12 @@
-// Compares the engine with the naive one: every refusal and small graph of the scope paper, then many random sites. After every
-// call both answers and the contents of every lent list are compared. Prints the small cases, each difference, and the counts.
-mod calls;
-mod feeds;
+// Compares the engine with the naive one, all calls but opening and feeding: every refusal and small graph of the scope paper, then
+// many random sites. After every call both answers and the contents of every lent list are compared. Prints the small cases, each
+// difference, and the counts.
 mod queries;
-mod random;
-mod report;
-mod sites;
 mod sizes;
 mod small;
+
+use comparison::report;
+use comparison::sites;
 
 fn main() {
     let mut tally = [0u64; 90];
@@ -15,6 +14,5 @@ fn main() {
     sizes::all(&mut tally);
     sites::all(&mut tally);
     queries::all(&mut tally);
-    feeds::all(&mut tally);
     report::counts(&tally);
 }

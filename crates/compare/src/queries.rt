@@ -1,15 +1,15 @@
 // Random queries: on a table, on its saturation and on a summary with its map.
 ghost use Prim.Native.Nat.{_≤_};
 ghost use lib.ListN.{length};
-use super::calls;
-use super::random::at_most;
-use super::random::chance;
-use super::random::get;
-use super::random::mix;
-use super::random::pick;
-use super::random::set;
-use super::random::triples_end;
-use super::sites;
+use comparison::calls;
+use comparison::random::at_most;
+use comparison::random::chance;
+use comparison::random::get;
+use comparison::random::mix;
+use comparison::random::pick;
+use comparison::random::set;
+use comparison::random::triples_end;
+use comparison::sites;
 
 // How many patterns: mostly 1 to 3.
 fn count_of(seed: u64) -> u32 {

@@ -1,0 +1,44 @@
+use borrow.Author.Needs.{needs}
+use Prim.Native.Nat.{_-_}
+use Rattle.compare_feeds.proofs.feeds.all.Statement.{statement}
+use Rattle.compare_feeds.proofs.feeds.all.Tie as tie
+use Rattle.compare_feeds.proofs.feeds.all.Reads as reads
+use Rattle.compare_feeds.proofs.feeds.all.Lts as lts
+use Rattle.compare_feeds.proofs.feeds.intake_case.Reads as intake-case-reads
+
+abbrev Inv-loop : tie.InvT-loop
+Inv-loop tally₀ seed₀ tally seed = Unit {0}
+
+abbrev μ-loop : tie.MeasureT-loop
+μ-loop tally₀ seed₀ tally seed = 2030000 - seed
+
+loop-holds : tie.Need-loop-holds Inv-loop μ-loop
+loop-holds c = search needs
+
+intake-case-requires : tie.Need-intake-case-requires Inv-loop μ-loop
+intake-case-requires c κs = search needs
+
+add-seed : tie.Need-add-seed Inv-loop μ-loop
+add-seed c = search needs
+
+loop-less : tie.Need-loop-less Inv-loop μ-loop
+loop-less c = search needs
+
+loop-again : tie.Need-loop-again Inv-loop μ-loop
+loop-again c = search needs
+
+returns : tie.Need-returns Inv-loop μ-loop
+returns c = search needs
+
+pub all-spec : {M : Type 1} → statement M
+all-spec =
+    tie.close
+    (tie.spec
+    Inv-loop
+    μ-loop
+    loop-holds
+    intake-case-requires
+    add-seed
+    loop-less
+    loop-again
+    returns)

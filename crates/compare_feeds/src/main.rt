@@ -1,0 +1,15 @@
+// Compares opening and feeding with the plain intake: every refusal, and many lists of feeds to random sites. After every call the
+// answers, the contents of every lent list and both counts are compared. Prints the small cases, each difference, and the counts.
+mod feeds;
+mod sizes;
+mod small;
+
+use comparison::report;
+
+fn main() {
+    let mut tally = [0u64; 90];
+    small::all(&mut tally);
+    sizes::all(&mut tally);
+    feeds::all(&mut tally);
+    report::counts(&tally);
+}
