@@ -42,6 +42,7 @@ unfoldable pub counted : Counted → Outcome ℕ
 counted (Count n) = accepted n
 counted (counted-refused r) = refused (number r)
 
+-- for look up whether the triple is in the list, for a feed whether it was new
 unfoldable pub found : Found → Outcome Bool
 found Yes = accepted true
 found No = accepted false

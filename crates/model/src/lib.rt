@@ -135,6 +135,7 @@ pub enum Counted {
     Refused(Refusal),
 }
 
+// Look up: whether the triple is in the list. Feed: whether the triple was new.
 pub enum Found {
     Yes,
     No,
