@@ -65,7 +65,7 @@ fn print_introduction(quick: bool) {
     println!("{INTRODUCTION}");
     println!("- Processor: {}.", processor());
     if let Ok(tools) = std::env::var("BENCH_TOOLS") {
-        println!("- Tools: {tools}.");
+        println!("- Date and tools: {tools}.");
     }
     if quick {
         println!("- This is a quick trial: small sizes, few runs.");
