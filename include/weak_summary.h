@@ -88,7 +88,9 @@ extern "C" {
 uint32_t ws_own_roster(const uint32_t *table, size_t table_length, uint8_t *roster, size_t roster_length);
 
 /*
- * Saturate: the least set of triples that contains the table and is closed under the six rules (rdfs2, 3, 5, 7, 9, 11).
+ * Saturate: the least set of triples that contains the table and is closed under the ten rules: rdfs2, 3, 5, 7, 9, 11, and
+ *   a subproperty b, b domain c  give  a domain c        a domain c, c subclass d  give  a domain d
+ *   a subproperty b, b range c   give  a range c         a range c, c subclass d   give  a range d
  *   result  any length; takes the triples, the rest is zero.
  *   *count  the number of triples.
  * Refusals, in order

@@ -149,9 +149,9 @@ pub fn look_ups(settings: &Settings) {
 
 pub fn saturations(settings: &Settings) {
     let sizes = &sizes(settings);
-    let note = "Size: triples of the table; for the chain of classes alone, about the triples of its closure. Result: \
-                triples of the saturation. The result list has just the slots that it takes; in the lines \"one slot \
-                short\" it has one less, and the call is refused with 5.";
+    let note = "Size: triples of the table; where there are schema triples alone, about the triples of their closure. \
+                Result: triples of the saturation. The result list has just the slots that it takes; in the lines \"one \
+                slot short\" it has one less, and the call is refused with 5.";
     heading("Saturate", note);
     series(settings, "data-heavy, no schema", sizes, |t| saturate(settings, &inputs::data_heavy(t), 0));
     series(settings, "type-heavy, no schema", sizes, |t| saturate(settings, &inputs::type_heavy(t), 0));
@@ -162,6 +162,9 @@ pub fn saturations(settings: &Settings) {
         saturate(settings, &inputs::property_tree(t), 0)
     });
     series(settings, "chain of classes alone", sizes, |t| saturate(settings, &inputs::class_chain(t), 0));
+    series(settings, "domains and ranges under a tree and a chain, alone", sizes, |t| {
+        saturate(settings, &inputs::constraints(t), 0)
+    });
     series(settings, "data under a tree, one slot short", sizes, |t| saturate(settings, &inputs::property_tree(t), 1));
 }
 

@@ -1,6 +1,6 @@
 #!/usr/bin/env python3
-# Writes the texts that the program is run on (stdin) and what it must write of them (stdout). Everything here follows the scope
-# paper alone: the site form as one pattern, the rules by sets of triples, classes by joining pairs until nothing changes.
+# Writes the texts that the program is run on (stdin) and what it must write of them (stdout). Everything here follows the
+# papers alone: the site form as one pattern, the rules by sets of triples, classes by joining pairs until nothing changes.
 import itertools
 import pathlib
 import re
@@ -69,7 +69,7 @@ def marks(triples):
 
 
 def conclusions(x, y):
-    """What the six rules give with x as first premise and y as second."""
+    """What the ten rules give with x as first premise and y as second."""
     (a, p, c), (s, q, o) = x, y
     if p == 3 and q == a:
         yield (s, 0, c)
@@ -83,6 +83,10 @@ def conclusions(x, y):
         yield (s, 0, c)
     if p == 1 and q == 1 and c == s:
         yield (a, 1, o)
+    if p == 2 and q in (3, 4) and c == s:
+        yield (a, q, o)
+    if p in (3, 4) and q == 1 and c == s:
+        yield (a, p, o)
 
 
 def saturated(triples):

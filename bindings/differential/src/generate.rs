@@ -26,26 +26,16 @@ impl Pool {
     }
 }
 
-/// Of 100 triples, how many are type, subclass, subproperty, domain and range; the rest are data.
-const MIXES: [[usize; 5]; 7] = [
-    [0, 0, 0, 0, 0],
-    [10, 5, 5, 5, 5],
-    [60, 0, 0, 0, 0],
-    [30, 40, 0, 5, 5],
-    [0, 0, 40, 10, 10],
-    [20, 20, 20, 10, 10],
-    [5, 45, 45, 0, 0],
-];
+/// Of 100 triples, how many are type and how many each of subclass, subproperty, domain and range; the rest are data.
+const MIXES: [[usize; 2]; 7] = [[0, 0], [10, 5], [60, 0], [30, 10], [0, 15], [20, 15], [4, 24]];
 
-fn kind(random: &mut Random, mix: &[usize; 5]) -> Option<u32> {
-    let mut roll = random.below(100);
-    for (property, &share) in mix.iter().enumerate() {
-        if roll < share {
-            return Some(property as u32);
-        }
-        roll -= share;
+/// A reserved property, or none for data.
+fn kind(random: &mut Random, [types, each]: [usize; 2]) -> Option<u32> {
+    let roll = random.below(100);
+    if roll < types {
+        return Some(0);
     }
-    None
+    (roll < types + 4 * each).then(|| 1 + ((roll - types) / each) as u32)
 }
 
 /// A site size: mostly small, now and then large.
@@ -85,7 +75,7 @@ pub fn table(random: &mut Random, n: usize, amount: usize) -> Vec<u32> {
         let node = nodes.draw(random);
         let class = classes.draw(random);
         let property = properties.draw(random);
-        table.extend(match kind(random, &mix) {
+        table.extend(match kind(random, mix) {
             Some(0) => [node, 0, class],
             Some(1) => [class, 1, classes.draw(random)],
             Some(2) => [property, 2, properties.draw(random)],

@@ -1,4 +1,4 @@
-//! That right engines agree, and that each course mistake of the scope paper is noticed.
+//! That right engines agree, and that each mistake is noticed.
 
 use weak_summary_differential::{run, Call, Mistake, Options};
 

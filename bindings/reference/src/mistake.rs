@@ -1,4 +1,5 @@
-//! The five course mistakes of the scope paper, to show that a comparison with a wrong engine is noticed.
+//! The five course mistakes of the scope paper, and one that the rules for domains and ranges invite, to show that a comparison
+//! with a wrong engine is noticed.
 
 #[derive(Clone, Copy, PartialEq, Eq, Debug)]
 pub enum Mistake {
@@ -14,11 +15,19 @@ pub enum Mistake {
     NoSourceEqual,
     /// The representative is the code seen first.
     FirstSeen,
+    /// Domains and ranges go to the properties above and to the classes below.
+    WrongWay,
 }
 
 impl Mistake {
-    pub const ALL: [Mistake; 5] =
-        [Mistake::OneRound, Mistake::TypedOnlyStays, Mistake::ClassLinks, Mistake::NoSourceEqual, Mistake::FirstSeen];
+    pub const ALL: [Mistake; 6] = [
+        Mistake::OneRound,
+        Mistake::TypedOnlyStays,
+        Mistake::ClassLinks,
+        Mistake::NoSourceEqual,
+        Mistake::FirstSeen,
+        Mistake::WrongWay,
+    ];
 
     pub fn name(self) -> &'static str {
         match self {
@@ -28,6 +37,7 @@ impl Mistake {
             Mistake::ClassLinks => "class-links",
             Mistake::NoSourceEqual => "no-source-equal",
             Mistake::FirstSeen => "first-seen",
+            Mistake::WrongWay => "wrong-way",
         }
     }
 

@@ -1,4 +1,4 @@
-//! The small graphs of the scope paper, with the own roster.
+//! The small graphs of the scope paper and of the change requests, with the own roster.
 
 mod common;
 
@@ -14,7 +14,12 @@ fn no_triples() {
 
 #[test]
 fn six_triples() {
-    assert_eq!(saturation_of(&SIX, 14, 2048).unwrap().len(), 3 * 12);
+    let saturation = [
+        5, 2, 7, 5, 3, 8, 5, 3, 9, 6, 2, 7, 6, 3, 8, 6, 3, 9, 7, 3, 8, 7, 3, 9, 8, 1, 9, 10, 0, 8, 10, 0, 9, 10, 5, 12,
+        10, 7, 12, 11, 0, 8, 11, 0, 9, 11, 6, 13, 11, 7, 13,
+    ];
+    assert_eq!(saturation.len(), 3 * 17);
+    assert_eq!(saturation_of(&SIX, 14, 2048).unwrap(), saturation);
     assert_eq!(summary_of(&SIX, 14).0.len(), 3 * 6);
 }
 
@@ -22,7 +27,7 @@ fn six_triples() {
 fn six_triples_saturated_and_summarised() {
     let roster = roster_of(&SIX, 14);
     let saturation = saturation_of(&SIX, 14, 2048).unwrap();
-    let (mut result, mut map, mut work) = (vec![1; 36], vec![1; 14], vec![1; 28]);
+    let (mut result, mut map, mut work) = (vec![1; 51], vec![1; 14], vec![1; 28]);
     let count = summarise(&saturation, &roster, &mut result, &mut map, &mut work).unwrap();
     assert_eq!(result[..3 * count], SIX_SUMMARY);
     let nodes = [(5, 5), (6, 6), (7, 7), (8, 8), (9, 9), (10, 10), (11, 10), (12, 12), (13, 12)];
@@ -85,13 +90,53 @@ fn subclass_cycle() {
     assert_eq!(saturation_of(&[8, 1, 9, 9, 1, 8], 10, 4).unwrap(), expected);
 }
 
+/// A table, its size and its saturation.
+type Closure<'a> = (&'a [u32], usize, &'a [u32]);
+
+fn closes(graphs: &[Closure]) {
+    for &(table, n, saturation) in graphs {
+        assert_eq!(saturation_of(table, n, saturation.len() / 3).unwrap(), saturation, "{table:?}");
+        assert_eq!(saturation_of(table, n, saturation.len() / 3 - 1), Err(Refusal::Slots), "{table:?}");
+    }
+}
+
+#[test]
+fn constraints_follow_from_constraints() {
+    closes(&[
+        (&[5, 2, 6, 6, 3, 8], 9, &[5, 2, 6, 5, 3, 8, 6, 3, 8]),
+        (&[5, 2, 6, 6, 4, 8], 9, &[5, 2, 6, 5, 4, 8, 6, 4, 8]),
+        (&[5, 3, 8, 8, 1, 9], 10, &[5, 3, 8, 5, 3, 9, 8, 1, 9]),
+        (&[5, 4, 8, 8, 1, 9], 10, &[5, 4, 8, 5, 4, 9, 8, 1, 9]),
+    ]);
+}
+
+#[test]
+fn constraints_do_not_go_the_other_way() {
+    closes(&[
+        (&[6, 2, 5, 6, 3, 8], 9, &[6, 2, 5, 6, 3, 8]),
+        (&[6, 2, 5, 6, 4, 8], 9, &[6, 2, 5, 6, 4, 8]),
+        (&[5, 3, 8, 9, 1, 8], 10, &[5, 3, 8, 9, 1, 8]),
+        (&[5, 4, 8, 9, 1, 8], 10, &[5, 4, 8, 9, 1, 8]),
+    ]);
+}
+
+#[test]
+fn constraints_along_chains_and_cycles() {
+    let chain = [5, 2, 6, 5, 2, 7, 5, 3, 8, 5, 3, 9, 6, 2, 7, 6, 3, 8, 6, 3, 9, 7, 3, 8, 7, 3, 9, 8, 1, 9];
+    closes(&[
+        (&[5, 2, 6, 6, 2, 7, 7, 3, 8, 8, 1, 9], 10, &chain),
+        (&[5, 2, 6, 6, 2, 5, 5, 3, 8], 9, &[5, 2, 5, 5, 2, 6, 5, 3, 8, 6, 2, 5, 6, 2, 6, 6, 3, 8]),
+        (&[5, 3, 8, 8, 1, 9, 9, 1, 8], 10, &[5, 3, 8, 5, 3, 9, 8, 1, 8, 8, 1, 9, 9, 1, 8, 9, 1, 9]),
+    ]);
+}
+
 #[test]
 fn slots_of_the_six() {
     let roster = roster_of(&SIX, 14);
-    assert_eq!(weak_summary::saturate(&SIX, &roster, &mut [0; 36]), Ok(12));
-    let mut short = [1; 35];
+    assert_eq!(weak_summary::saturate(&SIX, &roster, &mut [0; 51]), Ok(17));
+    let mut short = [1; 50];
     assert_eq!(weak_summary::saturate(&SIX, &roster, &mut short), Err(Refusal::Slots));
-    assert_eq!(short, [0; 35]);
+    assert_eq!(short, [0; 50]);
 }
 
 #[test]

@@ -1,4 +1,5 @@
-// The small graphs of the scope paper that are not proved as theorems, and every refusal of every call.
+// The small cases of the papers that are not proved as theorems, small schemas, and every refusal of every call.
+ghost use Prim.Native.Nat.{_<_};
 use comparison::calls;
 use comparison::random::at_most;
 use comparison::random::set;
@@ -148,11 +149,45 @@ fn covers(tally: &mut [u64; 90], six: &[u32], roster: &[u8]) {
 
 // Results with enough slots and with too few.
 fn slots(tally: &mut [u64; 90], six: &[u32], roster: &[u8]) {
-    saturate(tally, b"36-numbers", 0, six, roster, 36);
-    saturate(tally, b"35-numbers", 5, six, roster, 35);
+    saturate(tally, b"51-numbers", 0, six, roster, 51);
+    saturate(tally, b"50-numbers", 5, six, roster, 50);
     saturate(tally, b"0-numbers", 5, six, roster, 0);
     summarise(tally, b"18-numbers", 0, six, roster, 18, 14, 28);
     summarise(tally, b"17-numbers", 5, six, roster, 17, 14, 28);
+}
+
+// A table whose saturation has that many numbers: one number less is too few.
+fn closes(tally: &mut [u64; 90], name: &[u8], table: &[u32], roster: &[u8], numbers: usize)
+    requires { ⌜ 0 < numbers ⌝ }
+{
+    saturate(tally, name, 0, table, roster, numbers);
+    saturate(tally, name, 5, table, roster, numbers - 1);
+}
+
+// Each of the rules 7 to 10 alone.
+fn constraints(tally: &mut [u64; 90], roster: &[u8]) {
+    closes(tally, b"rule-7", &[5, 2, 6, 6, 3, 8], roster, 9);
+    closes(tally, b"rule-8", &[5, 2, 6, 6, 4, 8], roster, 9);
+    closes(tally, b"rule-9", &[5, 3, 8, 8, 1, 9], roster, 9);
+    closes(tally, b"rule-10", &[5, 4, 8, 8, 1, 9], roster, 9);
+}
+
+// The other way round nothing follows.
+fn other_ways(tally: &mut [u64; 90], roster: &[u8]) {
+    closes(tally, b"domain-above", &[6, 2, 5, 6, 3, 8], roster, 6);
+    closes(tally, b"range-above", &[6, 2, 5, 6, 4, 8], roster, 6);
+    closes(tally, b"domain-below", &[5, 3, 8, 9, 1, 8], roster, 6);
+    closes(tally, b"range-below", &[5, 4, 8, 9, 1, 8], roster, 6);
+}
+
+// The rules one after the other, and around cycles.
+fn chains(tally: &mut [u64; 90], roster: &[u8]) {
+    let chain = [5u32, 2, 6, 6, 2, 7, 7, 3, 8, 8, 1, 9];
+    closes(tally, b"chain", &chain, roster, 30);
+    let properties = [5u32, 2, 6, 6, 2, 5, 5, 3, 8];
+    closes(tally, b"subproperty-cycle", &properties, roster, 18);
+    let classes = [5u32, 3, 8, 8, 1, 9, 9, 1, 8];
+    closes(tally, b"subclass-cycle", &classes, roster, 18);
 }
 
 // Lists of wrong lengths.
@@ -258,6 +293,9 @@ fn table_cases(tally: &mut [u64; 90], six: &[u32], roster: &[u8]) {
     codes(tally, roster);
     covers(tally, six, roster);
     slots(tally, six, roster);
+    constraints(tally, roster);
+    other_ways(tally, roster);
+    chains(tally, roster);
     lengths(tally, six, roster);
     rosters(tally, six);
     look_ups(tally, six);

@@ -7,7 +7,7 @@ use Rattle.site_form.proofs.Whole.{reads-exactly}
 use Rattle.site_form.proofs.Back.{written-is-read}
 use Rattle.site_form.proofs.Queries.{counts-patterns}
 use Rattle.site_form.proofs.Example.{sign-bytes, prints-example}
-use Rattle.demands.specs.Demands.{GraphsRight, Demand2, Demand3, SiteForms}
+use Rattle.demands.specs.Demands.{GraphsRight, ClosuresRight, Demand2, Demand3, SiteForms}
 use Rattle.demands.proofs.NoneMeansNone.{none-means-none}
 use Rattle.demands.proofs.Feeds.{list-of-calls}
 use Rattle.demands.proofs.Routes.{accepted-calls, shortcut-of-calls, none-of-calls, ask-refuses-six}
@@ -15,10 +15,14 @@ use Rattle.demands.proofs.Routes.{accepted-calls, shortcut-of-calls, no
 pub graphs-right : GraphsRight
 graphs-right = graphs.graphs-right
 
+pub closures-right : ClosuresRight
+closures-right = graphs.closures-right
+
 pub demand-2 : Demand2
 demand-2 =
     record {
       saturation = theorems.saturation-exact;
+      constraints = theorems.constraints-follow;
       cliques = theorems.cliques-exact;
       representatives = theorems.representatives-exact;
       summaries = theorems.summary-exact;

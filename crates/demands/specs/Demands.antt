@@ -1,12 +1,12 @@
 -- The demands in one place.
 -- Assumes nothing.
 use lib.Dec.{T}
-use Rattle.model.specs.Graphs.{graphs, allRight}
+use Rattle.model.specs.Graphs.{graphs, allRight, closures, allClosed}
 use Rattle.query.specs.Match.{AskExact}
 use Rattle.site_form.specs.Reading.{ReadsExactly, CountsPatterns}
 use Rattle.site_form.specs.Writing.{WrittenIsRead}
 use Rattle.site_form.specs.Example.{SignBytes, PrintsExample}
-use Rattle.theory.specs.Theorems.{SaturationExact, CliquesExact, RepresentativesExact, SummaryExact, OwnRosterLeast, ShortcutHolds, RoutesAccepted, AnyOrder, FedInAnyOrder, WholeList}
+use Rattle.theory.specs.Theorems.{SaturationExact, ConstraintsFollow, CliquesExact, RepresentativesExact, SummaryExact, OwnRosterLeast, ShortcutHolds, RoutesAccepted, AnyOrder, FedInAnyOrder, WholeList}
 use Rattle.demands.specs.NoneMeansNone.{NoneMeansNone}
 use Rattle.demands.specs.Feeds.{ListOfCalls}
 use Rattle.demands.specs.Routes.{AcceptedCalls, ShortcutOfCalls, NoneOfCalls, AskRefusesSix}
@@ -15,8 +15,13 @@ use Rattle.demands.specs.Routes.{AcceptedCalls, ShortcutOfCalls, NoneOfC
 abbrev pub GraphsRight : Type 0
 GraphsRight = T (allRight graphs)
 
+-- small schemas, for the rules of 02, computed
+abbrev pub ClosuresRight : Type 0
+ClosuresRight = T (allClosed closures)
+
 pub record Demand2 : Type 0 where
   pub saturation : SaturationExact
+  pub constraints : ConstraintsFollow
   pub cliques : CliquesExact
   pub representatives : RepresentativesExact
   pub summaries : SummaryExact

@@ -1,5 +1,5 @@
 -- The small graphs of 01 that are marked to be proved, as one table: with the own roster, the saturation, the plain summary, the map and
--- both clique lists of each.
+-- both clique lists of each. Behind it, the saturations of small schemas, for the rules of 02.
 -- Assumes nothing.
 use Prim.Native.Nat.{ℕ}
 use mathlib.Core.Bool.{Bool, true, false, not, _&&_}
@@ -58,9 +58,9 @@ graphs =
     (absent ∷ absent ∷ absent ∷ absent ∷ absent ∷ [])
     (absent ∷ absent ∷ absent ∷ absent ∷ absent ∷ [])
     (absent ∷ absent ∷ absent ∷ absent ∷ absent ∷ [])
-    ∷ {- the six triples of the site form -}
+    ∷ {- the six triples of the site form; 02: "the saturation of its six triples has 17" -}
     graph 14 (5 ∷ 2 ∷ 7 ∷ 6 ∷ 2 ∷ 7 ∷ 7 ∷ 3 ∷ 8 ∷ 8 ∷ 1 ∷ 9 ∷ 10 ∷ 5 ∷ 12 ∷ 11 ∷ 6 ∷ 13 ∷ [])
-    (5 ∷ 2 ∷ 7 ∷ 6 ∷ 2 ∷ 7 ∷ 7 ∷ 3 ∷ 8 ∷ 8 ∷ 1 ∷ 9 ∷ 10 ∷ 0 ∷ 8 ∷ 10 ∷ 0 ∷ 9 ∷ 10 ∷ 5 ∷ 12 ∷ 10 ∷ 7 ∷ 12 ∷ 11 ∷ 0 ∷ 8 ∷ 11 ∷ 0 ∷ 9 ∷ 11 ∷ 6 ∷ 13 ∷ 11 ∷ 7 ∷ 13 ∷ [])
+    (5 ∷ 2 ∷ 7 ∷ 5 ∷ 3 ∷ 8 ∷ 5 ∷ 3 ∷ 9 ∷ 6 ∷ 2 ∷ 7 ∷ 6 ∷ 3 ∷ 8 ∷ 6 ∷ 3 ∷ 9 ∷ 7 ∷ 3 ∷ 8 ∷ 7 ∷ 3 ∷ 9 ∷ 8 ∷ 1 ∷ 9 ∷ 10 ∷ 0 ∷ 8 ∷ 10 ∷ 0 ∷ 9 ∷ 10 ∷ 5 ∷ 12 ∷ 10 ∷ 7 ∷ 12 ∷ 11 ∷ 0 ∷ 8 ∷ 11 ∷ 0 ∷ 9 ∷ 11 ∷ 6 ∷ 13 ∷ 11 ∷ 7 ∷ 13 ∷ [])
     (5 ∷ 2 ∷ 7 ∷ 6 ∷ 2 ∷ 7 ∷ 7 ∷ 3 ∷ 8 ∷ 8 ∷ 1 ∷ 9 ∷ 10 ∷ 5 ∷ 12 ∷ 11 ∷ 6 ∷ 13 ∷ [])
     (absent ∷ absent ∷ absent ∷ absent ∷ absent ∷ 5 ∷ 6 ∷ 7 ∷ 8 ∷ 9 ∷ 10 ∷ 11 ∷ 12 ∷ 13 ∷ [])
     (absent ∷ absent ∷ absent ∷ absent ∷ absent ∷ 5 ∷ 6 ∷ absent ∷ absent ∷ absent ∷ absent ∷ absent ∷ absent ∷ absent ∷ [])
@@ -114,4 +114,50 @@ graphs =
     (absent ∷ absent ∷ absent ∷ absent ∷ absent ∷ absent ∷ absent ∷ absent ∷ 8 ∷ 9 ∷ [])
     (absent ∷ absent ∷ absent ∷ absent ∷ absent ∷ absent ∷ absent ∷ absent ∷ absent ∷ absent ∷ [])
     (absent ∷ absent ∷ absent ∷ absent ∷ absent ∷ absent ∷ absent ∷ absent ∷ absent ∷ absent ∷ [])
+    ∷ []
+
+-- a schema: the size, the table, and its saturation
+pub record Closure : Type 0 where
+  pub size : ℕ
+  pub table : List ℕ
+  pub saturated : List ℕ
+
+unfoldable pub closed : Closure → Bool
+closed g = equal (flat (saturation rdfs (g .size) (triples (g .table)))) (g .saturated)
+
+unfoldable pub allClosed : List Closure → Bool
+allClosed gs = all closed gs
+
+abbrev pub closure : ℕ → List ℕ → List ℕ → Closure
+closure n t s = record { size = n; table = t; saturated = s }
+
+abbrev pub closures : List Closure
+closures =
+    {- rule 7 -}
+    closure 9 (5 ∷ 2 ∷ 6 ∷ 6 ∷ 3 ∷ 8 ∷ [])
+    (5 ∷ 2 ∷ 6 ∷ 5 ∷ 3 ∷ 8 ∷ 6 ∷ 3 ∷ 8 ∷ [])
+    ∷ {- rule 8 -}
+    closure 9 (5 ∷ 2 ∷ 6 ∷ 6 ∷ 4 ∷ 8 ∷ [])
+    (5 ∷ 2 ∷ 6 ∷ 5 ∷ 4 ∷ 8 ∷ 6 ∷ 4 ∷ 8 ∷ [])
+    ∷ {- rule 9 -}
+    closure 10 (5 ∷ 3 ∷ 8 ∷ 8 ∷ 1 ∷ 9 ∷ [])
+    (5 ∷ 3 ∷ 8 ∷ 5 ∷ 3 ∷ 9 ∷ 8 ∷ 1 ∷ 9 ∷ [])
+    ∷ {- rule 10 -}
+    closure 10 (5 ∷ 4 ∷ 8 ∷ 8 ∷ 1 ∷ 9 ∷ [])
+    (5 ∷ 4 ∷ 8 ∷ 5 ∷ 4 ∷ 9 ∷ 8 ∷ 1 ∷ 9 ∷ [])
+    ∷ {- a property's domain and range are not those of the property above it -}
+    closure 9 (6 ∷ 2 ∷ 5 ∷ 6 ∷ 3 ∷ 8 ∷ 6 ∷ 4 ∷ 8 ∷ [])
+    (6 ∷ 2 ∷ 5 ∷ 6 ∷ 3 ∷ 8 ∷ 6 ∷ 4 ∷ 8 ∷ [])
+    ∷ {- a class that is domain or range does not make the class below it one -}
+    closure 10 (5 ∷ 3 ∷ 8 ∷ 5 ∷ 4 ∷ 8 ∷ 9 ∷ 1 ∷ 8 ∷ [])
+    (5 ∷ 3 ∷ 8 ∷ 5 ∷ 4 ∷ 8 ∷ 9 ∷ 1 ∷ 8 ∷ [])
+    ∷ {- a chain -}
+    closure 10 (5 ∷ 2 ∷ 6 ∷ 6 ∷ 2 ∷ 7 ∷ 7 ∷ 3 ∷ 8 ∷ 8 ∷ 1 ∷ 9 ∷ [])
+    (5 ∷ 2 ∷ 6 ∷ 5 ∷ 2 ∷ 7 ∷ 5 ∷ 3 ∷ 8 ∷ 5 ∷ 3 ∷ 9 ∷ 6 ∷ 2 ∷ 7 ∷ 6 ∷ 3 ∷ 8 ∷ 6 ∷ 3 ∷ 9 ∷ 7 ∷ 3 ∷ 8 ∷ 7 ∷ 3 ∷ 9 ∷ 8 ∷ 1 ∷ 9 ∷ [])
+    ∷ {- a cycle of subproperties -}
+    closure 9 (5 ∷ 2 ∷ 6 ∷ 6 ∷ 2 ∷ 5 ∷ 5 ∷ 3 ∷ 8 ∷ [])
+    (5 ∷ 2 ∷ 5 ∷ 5 ∷ 2 ∷ 6 ∷ 5 ∷ 3 ∷ 8 ∷ 6 ∷ 2 ∷ 5 ∷ 6 ∷ 2 ∷ 6 ∷ 6 ∷ 3 ∷ 8 ∷ [])
+    ∷ {- a cycle of subclasses -}
+    closure 10 (5 ∷ 3 ∷ 8 ∷ 8 ∷ 1 ∷ 9 ∷ 9 ∷ 1 ∷ 8 ∷ [])
+    (5 ∷ 3 ∷ 8 ∷ 5 ∷ 3 ∷ 9 ∷ 8 ∷ 1 ∷ 8 ∷ 8 ∷ 1 ∷ 9 ∷ 9 ∷ 1 ∷ 8 ∷ 9 ∷ 1 ∷ 9 ∷ [])
     ∷ []

@@ -1,5 +1,7 @@
--- The six rules as one table of small records, and what the rules derive.
+-- The ten rules as one table of small records, and what the rules derive.
 -- 01: "Six rules, each a line of one constant table"
+-- 02: "Four rules join the six. Rule 7: a subproperty b, b domain c give a domain c. Rule 8: the same for range. Rule 9: a domain c,
+-- c subclass d give a domain d. Rule 10: the same for range."
 -- Assumes nothing.
 use Prim.Native.Nat.{ℕ}
 use mathlib.Core.Path.{_≡_}
@@ -24,6 +26,10 @@ rule f g l r s p o = record { first = f; second = g; left = l; right = r; subjec
 -- 4 rdfs7   a subproperty b   s a o             s b o
 -- 5 rdfs9   c subclass d      s type c          s type d
 -- 6 rdfs11  c subclass d      d subclass e      c subclass e
+-- 7         a subproperty b   b domain c        a domain c
+-- 8         a subproperty b   b range c         a range c
+-- 9         a domain c        c subclass d      a domain d
+-- 10        a range c         c subclass d      a range d
 abbrev pub rules : List Rule
 rules =
     rule 3 5 0 4 3 6 2
@@ -32,6 +38,10 @@ rules =
     ∷ rule 2 5 0 4 3 2 5
     ∷ rule 1 0 0 5 3 4 2
     ∷ rule 1 1 2 3 0 1 5
+    ∷ rule 2 3 2 3 0 4 5
+    ∷ rule 2 4 2 3 0 4 5
+    ∷ rule 3 1 2 3 0 1 5
+    ∷ rule 4 1 2 3 0 1 5
     ∷ []
 
 module _ (v : Vocabulary) where
@@ -52,6 +62,7 @@ module _ (v : Vocabulary) where
   gives r a b = triple (place a b (r .subject)) (place a b (r .property)) (place a b (r .object))
 
   -- 01: "Saturation is the least set that contains the table and is closed under them."
+  -- 02: "Saturation means the closure under all ten from here on"
   -- A triple is derived if it is given, or a line of the table gives it from two derived triples.
   pub data Derives (G : Triple → Type 0) : Triple → Type 0 where
     given : {t : Triple} → G t → Derives G t

@@ -25,8 +25,9 @@ pub struct Rule {
     pub object: u32,
 }
 
-// The six rules of RDFS that saturation walks: rdfs2, rdfs3, rdfs5, rdfs7, rdfs9, rdfs11.
-pub const RULES: [Rule; 6] = [
+// The ten rules that saturation walks, each at its number less one: rdfs2, rdfs3, rdfs5, rdfs7, rdfs9, rdfs11, and the four by which
+// domains and ranges follow from others.
+pub const RULES: [Rule; 10] = [
     // rdfs2: a domain c, s a o give s type c
     Rule {
         first: 3,
@@ -87,10 +88,50 @@ pub const RULES: [Rule; 6] = [
         property: 1,
         object: 5,
     },
+    // a subproperty b, b domain c give a domain c
+    Rule {
+        first: 2,
+        second: 3,
+        left: 2,
+        right: 3,
+        subject: 0,
+        property: 4,
+        object: 5,
+    },
+    // a subproperty b, b range c give a range c
+    Rule {
+        first: 2,
+        second: 4,
+        left: 2,
+        right: 3,
+        subject: 0,
+        property: 4,
+        object: 5,
+    },
+    // a domain c, c subclass d give a domain d
+    Rule {
+        first: 3,
+        second: 1,
+        left: 2,
+        right: 3,
+        subject: 0,
+        property: 1,
+        object: 5,
+    },
+    // a range c, c subclass d give a range d
+    Rule {
+        first: 4,
+        second: 1,
+        left: 2,
+        right: 3,
+        subject: 0,
+        property: 1,
+        object: 5,
+    },
 ];
 
 // The table as a value: the constant is the definitions' table.
-pub fn rule_table() -> [Rule; 6]
+pub fn rule_table() -> [Rule; 10]
     ensures { λ r. ⌜ r ≡ rules ⌝ }
 {
     RULES

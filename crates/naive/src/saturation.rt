@@ -1,4 +1,4 @@
-// Saturation: the six rules written out, over all pairs of triples, until nothing is new.
+// Saturation: the ten rules written out, over all pairs of triples, until nothing is new.
 use super::flat::Answer;
 use super::flat::DOMAIN;
 use super::flat::RANGE;
@@ -78,14 +78,71 @@ fn rdfs11(list: &mut [u32], so_far: Answer, first: Triple, second: Triple) -> An
     so_far
 }
 
-// What a first and a second triple give.
-fn apply(list: &mut [u32], so_far: Answer, first: Triple, second: Triple) -> Answer {
+// Rule 7: a subproperty b, b domain c gives a domain c.
+fn subproperty_domain(list: &mut [u32], so_far: Answer, first: Triple, second: Triple) -> Answer {
+    if first.property == SUBPROPERTY
+        && second.property == DOMAIN
+        && second.subject == first.object
+    {
+        return add(
+            list,
+            so_far,
+            triple_of(first.subject, DOMAIN, second.object),
+        );
+    }
+    so_far
+}
+
+// Rule 8: a subproperty b, b range c gives a range c.
+fn subproperty_range(list: &mut [u32], so_far: Answer, first: Triple, second: Triple) -> Answer {
+    if first.property == SUBPROPERTY && second.property == RANGE && second.subject == first.object {
+        return add(list, so_far, triple_of(first.subject, RANGE, second.object));
+    }
+    so_far
+}
+
+// Rule 9: a domain c, c subclass d gives a domain d.
+fn superclass_domain(list: &mut [u32], so_far: Answer, first: Triple, second: Triple) -> Answer {
+    if first.property == DOMAIN && second.property == SUBCLASS && second.subject == first.object {
+        return add(
+            list,
+            so_far,
+            triple_of(first.subject, DOMAIN, second.object),
+        );
+    }
+    so_far
+}
+
+// Rule 10: a range c, c subclass d gives a range d.
+fn superclass_range(list: &mut [u32], so_far: Answer, first: Triple, second: Triple) -> Answer {
+    if first.property == RANGE && second.property == SUBCLASS && second.subject == first.object {
+        return add(list, so_far, triple_of(first.subject, RANGE, second.object));
+    }
+    so_far
+}
+
+// What a first and a second triple give by the rules 1 to 6.
+fn apply_rdfs(list: &mut [u32], so_far: Answer, first: Triple, second: Triple) -> Answer {
     let a = rdfs2(list, so_far, first, second);
     let b = rdfs3(list, a, first, second);
     let c = rdfs5(list, b, first, second);
     let d = rdfs7(list, c, first, second);
     let e = rdfs9(list, d, first, second);
     rdfs11(list, e, first, second)
+}
+
+// What they give by the rules 7 to 10.
+fn apply_constraints(list: &mut [u32], so_far: Answer, first: Triple, second: Triple) -> Answer {
+    let a = subproperty_domain(list, so_far, first, second);
+    let b = subproperty_range(list, a, first, second);
+    let c = superclass_domain(list, b, first, second);
+    superclass_range(list, c, first, second)
+}
+
+// What they give by all rules.
+fn apply(list: &mut [u32], so_far: Answer, first: Triple, second: Triple) -> Answer {
+    let answer = apply_rdfs(list, so_far, first, second);
+    apply_constraints(list, answer, first, second)
 }
 
 // What the triple at place i gives as first, with each of the first `count` triples as second.

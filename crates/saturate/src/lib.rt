@@ -33,7 +33,7 @@ use table_checks::table_refusal;
 
 // A rule of the table by its place.
 fn rule_at(k: usize) -> Rule
-    requires { ⌜ k < 6 ⌝ }
+    requires { ⌜ k < 10 ⌝ }
     ensures { λ r. ⌜ r ≡ getD rules k noRule ⌝ }
 {
     RULES[k]
@@ -214,7 +214,7 @@ fn draw_rule(list: &mut [u32], b: Builder, r: Rule) -> Builder
 
 // One round: all conclusions of the rules at the table's places low..high from the first `count` triples, which are in rising order.
 fn round(list: &mut [u32], count: usize, low: usize, high: usize) -> Builder
-    requires { ⌜ (3 * count ≤ length (now list)) × RisingPart (at (now list)) 0 count × (high ≤ 6) ⌝ }
+    requires { ⌜ (3 * count ≤ length (now list)) × RisingPart (at (now list)) 0 count × (high ≤ 10) ⌝ }
     ensures { λ x. ⌜ Rounded (now (list .entry)) (now (list .exit)) count low high x ⌝ }
 {
     let mut state = Builder {
@@ -304,7 +304,7 @@ fn close(list: &mut [u32], filled: usize) -> Builder
     };
     while state.base < state.filled {
         let count = sort_distinct(list, 0, state.filled);
-        state = round(list, count, 0, 6);
+        state = round(list, count, 0, 10);
         if state.full {
             return state;
         }
@@ -334,7 +334,7 @@ fn add_others(table: &[u32], list: &mut [u32], filled: usize) -> Builder
 
 // One pass with the rules at the table's places low..high over the first `filled` triples.
 fn pass(list: &mut [u32], filled: usize, low: usize, high: usize) -> Builder
-    requires { ⌜ (3 * filled ≤ length (now list)) × (high ≤ 6) ⌝ }
+    requires { ⌜ (3 * filled ≤ length (now list)) × (high ≤ 10) ⌝ }
     ensures { λ x. ⌜ Swept (now (list .entry)) (now (list .exit)) filled low high x ⌝ }
 {
     let count = sort_distinct(list, 0, filled);

@@ -45,12 +45,18 @@ askLines =
     ∷ []
 
 -- 01: "it prints the triple count, the triples, for each node in rising order its code with its representative"
+-- 02: "The printed example now has 14 triples in its summary, the new ones being 5 3 8, 5 3 9, 6 3 8, 6 3 9 and 7 3 9"
 abbrev pub printedLines : List String
 printedLines =
-    "(summary 9)"
+    "(summary 14)"
     ∷ "(t 5 2 7)"
+    ∷ "(t 5 3 8)"
+    ∷ "(t 5 3 9)"
     ∷ "(t 6 2 7)"
+    ∷ "(t 6 3 8)"
+    ∷ "(t 6 3 9)"
     ∷ "(t 7 3 8)"
+    ∷ "(t 7 3 9)"
     ∷ "(t 8 1 9)"
     ∷ "(t 10 0 8)"
     ∷ "(t 10 0 9)"
@@ -75,7 +81,7 @@ answerLines = "(ask maybe)" ∷ "(ask none)" ∷ []
 -- the summary and the map of the example
 abbrev pub exampleSummary : List ℕ
 exampleSummary =
-    5 ∷ 2 ∷ 7 ∷ 6 ∷ 2 ∷ 7 ∷ 7 ∷ 3 ∷ 8 ∷ 8 ∷ 1 ∷ 9 ∷ 10 ∷ 0 ∷ 8 ∷ 10 ∷ 0 ∷ 9 ∷ 10 ∷ 5 ∷ 12 ∷ 10 ∷ 6 ∷ 12 ∷ 10 ∷ 7 ∷ 12 ∷ []
+    5 ∷ 2 ∷ 7 ∷ 5 ∷ 3 ∷ 8 ∷ 5 ∷ 3 ∷ 9 ∷ 6 ∷ 2 ∷ 7 ∷ 6 ∷ 3 ∷ 8 ∷ 6 ∷ 3 ∷ 9 ∷ 7 ∷ 3 ∷ 8 ∷ 7 ∷ 3 ∷ 9 ∷ 8 ∷ 1 ∷ 9 ∷ 10 ∷ 0 ∷ 8 ∷ 10 ∷ 0 ∷ 9 ∷ 10 ∷ 5 ∷ 12 ∷ 10 ∷ 6 ∷ 12 ∷ 10 ∷ 7 ∷ 12 ∷ []
 
 abbrev pub exampleMap : List ℕ
 exampleMap = absent ∷ absent ∷ absent ∷ absent ∷ absent ∷ 5 ∷ 6 ∷ 7 ∷ 8 ∷ 9 ∷ 10 ∷ 10 ∷ 12 ∷ 12 ∷ []

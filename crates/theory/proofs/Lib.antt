@@ -16,5 +16,6 @@ pub mod Summaries
 pub mod OwnRoster
 pub mod Accepted
 pub mod Shortcut
+pub mod Constraints
 pub mod Feeding
 pub mod Theorems

@@ -84,6 +84,12 @@ module _ {A B : Type 0} where
   mem-map f [] x m e = absurd (no-mem m)
   mem-map f (z ∷ xs) x m e = ⊎-elim (λ (q : x ≡ z). here (e ∙ ap f q)) (λ k. there (mem-map f xs x k e)) (mem-cases m)
 
+-- ── the element at a place ──
+pub mem-getD : {A : Type 0} (xs : List A) (d : A) (k : ℕ) → k < length xs → Mem (getD xs k d) xs
+mem-getD [] d k h = absurd (omega arith)
+mem-getD (x ∷ xs) d zero h = here refl
+mem-getD (x ∷ xs) d (suc k) h = there (mem-getD xs d k (omega arith))
+
 -- ── the values of a function at i, i + 1, .. ──
 module _ {A : Type 0} (f : ℕ → A) where
   pub length-tabulate : (i n : ℕ) → length (tabulate f i n) ≡ n

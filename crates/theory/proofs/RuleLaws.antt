@@ -252,6 +252,31 @@ module _ (v : Vocabulary) (roster : List ℕ) where
         properties = λ x p y u q z r c m. two-of (λ e. inl (here e)) (λ e. inr (there (here e))) m;
       }
 
+  -- a kind whose triples lead from a property to a class: domain and range
+  record ToClass (k : ℕ) : Type 0 where
+    classes : (t : Triple) → classRow t k ≡ t .object ∷ []
+    properties : (t : Triple) → propertyRow t k ≡ t .subject ∷ []
+
+  domains : ToClass 3
+  domains = record { classes = λ t. refl; properties = λ t. refl }
+
+  ranges : ToClass 4
+  ranges = record { classes = λ t. refl; properties = λ t. refl }
+
+  inherited : {k : ℕ} → ToClass k → Chains 2 k k
+  inherited w =
+      record {
+        classes = λ x p y u q z r c m. inr (subst (Mem c) (w .classes (triple x r z) ∙ sym (w .classes (triple u q z))) m);
+        properties = λ x p y u q z r c m. inl (one-of (λ e. here e) (subst (Mem c) (w .properties (triple x r z)) m));
+      }
+
+  widened : {k : ℕ} → ToClass k → Chains k 1 k
+  widened w =
+      record {
+        classes = λ x p y u q z r c m. inr (one-of (λ e. there (here e)) (subst (Mem c) (w .classes (triple x r z)) m));
+        properties = λ x p y u q z r c m. inl (subst (Mem c) (w .properties (triple x r z) ∙ sym (w .properties (triple x p y))) m);
+      }
+
   all-laws : All Laws rules
   all-laws =
       more (typed-end 3 3 at-subject (omega arith) (omega arith) (λ t. refl))
@@ -259,7 +284,11 @@ module _ (v : Vocabulary) (roster : List ℕ) where
       (more (chained 2 2 1 2 is-subproperty is-subproperty of-first subproperties)
       (more renamed
       (more retyped
-      (more (chained 1 1 1 1 is-subclass is-subclass of-first subclasses) none)))))
+      (more (chained 1 1 1 1 is-subclass is-subclass of-first subclasses)
+      (more (chained 2 3 4 3 is-subproperty is-domain of-second (inherited domains))
+      (more (chained 2 4 4 4 is-subproperty is-range of-second (inherited ranges))
+      (more (chained 3 1 1 3 is-domain is-subclass of-first (widened domains))
+      (more (chained 4 1 1 4 is-range is-subclass of-first (widened ranges)) none)))))))))
 
   pub laws : (r : Rule) → Mem r rules → Laws r
   laws r m = all-in all-laws r m

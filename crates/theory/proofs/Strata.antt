@@ -18,7 +18,7 @@ use Rattle.model.specs.Rules.{rule, rules, place, fits, gives, Derives, given, 
 use Rattle.model.specs.Cliques.{Graph}
 use Rattle.theory.proofs.Tests.{and-both, bool-cases}
 use Rattle.theory.proofs.Covered.{kind-type}
-use Rattle.theory.proofs.RuleLaws.{EndOf, first-subject, first-object, second-subject, second-object, EndPlace, at-subject, at-object, PropertyPlace, of-first, Schema, is-subclass, is-subproperty, is-domain, is-range, schema-bounds, any-parts, both-parts, chain-fits, chain-kind, All, none, more, all-in, laws}
+use Rattle.theory.proofs.RuleLaws.{EndOf, first-subject, first-object, second-subject, second-object, EndPlace, at-subject, at-object, PropertyPlace, of-first, of-second, Schema, is-subclass, is-subproperty, is-domain, is-range, schema-bounds, any-parts, both-parts, chain-fits, chain-kind, All, none, more, all-in, laws}
 use Rattle.theory.proofs.Saturated.{derives-cut}
 
 -- the rules of each pass
@@ -78,7 +78,11 @@ module _ (v : Vocabulary) where
       (more (chained 2 2 1 2 is-subproperty is-subproperty is-subproperty of-first)
       (more renamed
       (more retyped
-      (more (chained 1 1 1 1 is-subclass is-subclass is-subclass of-first) none)))))
+      (more (chained 1 1 1 1 is-subclass is-subclass is-subclass of-first)
+      (more (chained 2 3 4 3 is-subproperty is-domain is-domain of-second)
+      (more (chained 2 4 4 4 is-subproperty is-range is-range of-second)
+      (more (chained 3 1 1 3 is-domain is-subclass is-domain of-first)
+      (more (chained 4 1 1 4 is-range is-subclass is-range of-first) none)))))))))
 
   level : (r : Rule) → Mem r rules → Levelled r
   level r m = all-in v [] levels r m

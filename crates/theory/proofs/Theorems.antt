@@ -1,23 +1,26 @@
 -- The theorems that specs/Theorems.antt states.
 -- Assumes nothing.
-use Prim.Native.Nat.{ℕ, _≤_}
-use mathlib.Core.Path.{sym, subst, _∙_, ap}
-use mathlib.Core.List.{List, [], map}
+use Prim.Native.Nat.{ℕ, _≤_, _<_}
+use mathlib.Core.Path.{refl, sym, subst, _∙_, ap}
+use mathlib.Core.List.{List, [], map, List·Memᴰ as Mem}
 use native.Mathlib.Omega.{arith}
-use lib.ListN.{length}
+use lib.ListN.{length, getD}
 use Rattle.model.specs.declared.Triple.{Triple}
-use Rattle.model.specs.Codes.{rdfs, mostTriples}
-use Rattle.model.specs.Triples.{triples, slots, listed}
+use Rattle.model.specs.Codes.{rdfs, kind, mostTriples}
+use Rattle.model.specs.Triples.{triple, triples, slots, listed}
+use Rattle.model.specs.Rules.{rule, rules, place, gives}
 use Rattle.model.specs.Intake.{State, heldAfter, stateOf}
 use Rattle.model.specs.Saturation.{saturation}
 use Rattle.model.specs.Cliques.{Clique, linked}
 use Rattle.model.specs.Summary.{summary}
 use Rattle.model.specs.Calls.{Accepted, tableChecks}
 use Rattle.model.specs.Outcomes.{wrongLength, wrongSize}
-use Rattle.theory.specs.Theorems.{TriplesOf, SaturationExact, CliquesExact, RepresentativesExact, SummaryExact, OwnRosterLeast, ShortcutHolds, RoutesAccepted, AnyOrder, WholeList, FedInAnyOrder}
+use Rattle.theory.specs.Theorems.{TriplesOf, SaturationExact, ConstraintsFollow, CliquesExact, RepresentativesExact, SummaryExact, OwnRosterLeast, ShortcutHolds, RoutesAccepted, AnyOrder, WholeList, FedInAnyOrder}
 use Rattle.theory.proofs.Tests.{or-false}
+use Rattle.theory.proofs.Lists.{mem-getD}
 use Rattle.theory.proofs.Checks.{passes-first}
 use Rattle.theory.proofs.Covered.{all-codes}
+use Rattle.theory.proofs.RuleLaws.{is-subclass, is-domain, is-range}
 use Rattle.theory.proofs.Saturated.{In}
 use Rattle.theory.proofs.Weak.{Weak, weakly-weak, weak-weakly, turned, chained, clique-sym, reps-represents}
 use Rattle.theory.proofs.Saturated as saturated
@@ -26,6 +29,7 @@ use Rattle.theory.proofs.Summaries as summaries
 use Rattle.theory.proofs.OwnRoster as own
 use Rattle.theory.proofs.Accepted as accept
 use Rattle.theory.proofs.Shortcut as shortcut
+use Rattle.theory.proofs.Constraints.{follows, schema-kept}
 use Rattle.theory.proofs.Feeding as feeding
 
 pub saturation-exact : SaturationExact
@@ -33,6 +37,21 @@ saturation-exact table roster h =
     let R = accept.rdfs-right table roster h in
     let b = accept.below rdfs roster (triples table) R in
     record { rising = saturated.saturation-rising rdfs (length roster) (R .type-below) (triples table) b; exact = saturated.saturation-exact rdfs (length roster) (R .type-below) (triples table) b }
+
+pub constraints-follow : ConstraintsFollow
+unfolding kind gives place
+constraints-follow table roster h =
+    let S = (saturation-exact table roster h) .exact in
+    record {
+      rule-7 = λ a b c x y. (S (triple a 3 c)) .1 (follows rdfs 2 3 4 is-domain (at 6 (omega arith)) a 2 b 3 c refl refl ((S (triple a 2 b)) .0 x) ((S (triple b 3 c)) .0 y));
+      rule-8 = λ a b c x y. (S (triple a 4 c)) .1 (follows rdfs 2 4 4 is-range (at 7 (omega arith)) a 2 b 4 c refl refl ((S (triple a 2 b)) .0 x) ((S (triple b 4 c)) .0 y));
+      rule-9 = λ a c d x y. (S (triple a 3 d)) .1 (follows rdfs 3 1 1 is-subclass (at 8 (omega arith)) a 3 c 1 d refl refl ((S (triple a 3 c)) .0 x) ((S (triple c 1 d)) .0 y));
+      rule-10 = λ a c d x y. (S (triple a 4 d)) .1 (follows rdfs 4 1 1 is-subclass (at 9 (omega arith)) a 4 c 1 d refl refl ((S (triple a 4 c)) .0 x) ((S (triple c 1 d)) .0 y));
+      printed = schema-kept rdfs roster (saturation rdfs (length roster) (triples table)) (accept.saturation-right rdfs roster (triples table) (accept.rdfs-right table roster h));
+    }
+  where
+    at : (k : ℕ) → k < length rules → Mem (getD rules k (rule 0 0 0 0 0 0 0)) rules
+    at k l = mem-getD rules (rule 0 0 0 0 0 0 0) k l
 
 pub cliques-exact : CliquesExact
 cliques-exact table roster h e =

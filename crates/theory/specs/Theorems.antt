@@ -7,8 +7,8 @@ use mathlib.Core.Bool.{Bool, true, false}
 use mathlib.Core.List.{List, [], map, List·Memᴰ as Mem}
 use lib.ListN.{length}
 use Rattle.model.specs.declared.Triple.{Triple}
-use Rattle.model.specs.Codes.{absent, rdfs, mostTriples}
-use Rattle.model.specs.Triples.{triples, flat, slots, sorted, listed}
+use Rattle.model.specs.Codes.{absent, rdfs, kind, mostTriples}
+use Rattle.model.specs.Triples.{triple, triples, flat, slots, sorted, listed}
 use Rattle.model.specs.Order.{Rising}
 use Rattle.model.specs.Roster.{mark, isClass, isProperty, covers, ownRoster, wrongRoster, wrongCodes}
 use Rattle.model.specs.Rules.{Derives}
@@ -36,13 +36,31 @@ abbrev pub representative : List ℕ → List Triple → ℕ → ℕ
 representative roster ts c = label (mapOf rdfs roster ts) c
 
 -- ── demand 2 ──
--- the demand: Saturation holds a triple exactly if the six RDFS rules give it
+-- the demand: Saturation holds a triple exactly if the rules give it; 02: "Saturation means the closure under all ten from here on"
 pub record Saturation (table roster : List ℕ) : Type 0 where
   pub rising : Rising (saturationOf table roster)
   pub exact : (t : Triple) → Mem t (saturationOf table roster) ↔ Derives rdfs (TriplesOf table) t
 
 abbrev pub SaturationExact : Type 0
 SaturationExact = (table roster : List ℕ) → Accepted rdfs table roster → Saturation table roster
+
+-- 02: "Planners read domain and range lines straight off the printout and miss those that are only implied."
+abbrev pub Implied : List ℕ → List ℕ → ℕ → ℕ → ℕ → Type 0
+Implied table roster s p o = Mem (triple s p o) (saturationOf table roster)
+
+pub record Constraints (table roster : List ℕ) : Type 0 where
+  -- 02: "Rule 7: a subproperty b, b domain c give a domain c. Rule 8: the same for range."
+  pub rule-7 : (a b c : ℕ) → Implied table roster a (rdfs .subproperty) b → Implied table roster b (rdfs .domain) c → Implied table roster a (rdfs .domain) c
+  pub rule-8 : (a b c : ℕ) → Implied table roster a (rdfs .subproperty) b → Implied table roster b (rdfs .range) c → Implied table roster a (rdfs .range) c
+  -- 02: "Rule 9: a domain c, c subclass d give a domain d. Rule 10: the same for range."
+  pub rule-9 : (a c d : ℕ) → Implied table roster a (rdfs .domain) c → Implied table roster c (rdfs .subclass) d → Implied table roster a (rdfs .domain) d
+  pub rule-10 : (a c d : ℕ) → Implied table roster a (rdfs .range) c → Implied table roster c (rdfs .subclass) d → Implied table roster a (rdfs .range) d
+  -- the printout, which is the summary of the saturation, has exactly the saturation's schema triples
+  pub printed : (t : Triple) → 1 ≤ kind rdfs (t .property) → kind rdfs (t .property) ≤ 4
+      → Mem t (summary rdfs roster (saturationOf table roster)) ↔ Mem t (saturationOf table roster)
+
+abbrev pub ConstraintsFollow : Type 0
+ConstraintsFollow = (table roster : List ℕ) → Accepted rdfs table roster → Constraints table roster
 
 -- per property with a clique at a side, the smallest property of that clique; for any other code, absent
 pub record CliqueList (table roster : List ℕ) (e : Side) : Type 0 where

@@ -7,8 +7,10 @@ use weak_summary::{own_roster, saturate, summarise, Refusal, ABSENT};
 pub const SIX: [u32; 18] = [5, 2, 7, 6, 2, 7, 7, 3, 8, 8, 1, 9, 10, 5, 12, 11, 6, 13];
 
 /// The summary of their saturation.
-pub const SIX_SUMMARY: [u32; 27] =
-    [5, 2, 7, 6, 2, 7, 7, 3, 8, 8, 1, 9, 10, 0, 8, 10, 0, 9, 10, 5, 12, 10, 6, 12, 10, 7, 12];
+pub const SIX_SUMMARY: [u32; 42] = [
+    5, 2, 7, 5, 3, 8, 5, 3, 9, 6, 2, 7, 6, 3, 8, 6, 3, 9, 7, 3, 8, 7, 3, 9, 8, 1, 9, 10, 0, 8, 10, 0, 9, 10, 5, 12, 10,
+    6, 12, 10, 7, 12,
+];
 
 pub fn roster_of(table: &[u32], n: usize) -> Vec<u8> {
     let mut roster = vec![7; n];
