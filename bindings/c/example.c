@@ -24,7 +24,7 @@ static uint8_t roster[N];
 static int failures;
 
 static void check(int holds, const char *what) {
-    printf("  %s: %s\n", holds ? "as in the paper" : "NOT AS IN THE PAPER", what);
+    printf("  %s: %s\n", holds ? "as in the papers" : "NOT AS IN THE PAPERS", what);
     if (!holds) {
         failures++;
     }
@@ -90,6 +90,6 @@ int main(void) {
     size_t count = saturate_and_summarise(given);
     ask_both(count);
     feed_all(given);
-    printf("C example: %d results differ from the paper's\n", failures);
+    printf("C example: %d results differ from the papers'\n", failures);
     return failures != 0;
 }

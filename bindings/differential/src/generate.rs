@@ -27,7 +27,7 @@ impl Pool {
 }
 
 /// Of 100 triples, how many are type and how many each of subclass, subproperty, domain and range; the rest are data.
-const MIXES: [[usize; 2]; 7] = [[0, 0], [10, 5], [60, 0], [30, 10], [0, 15], [20, 15], [4, 24]];
+const MIXES: [[usize; 2]; 7] = [[0, 0], [10, 5], [60, 0], [30, 10], [0, 15], [20, 15], [2, 23]];
 
 /// A reserved property, or none for data.
 fn kind(random: &mut Random, [types, each]: [usize; 2]) -> Option<u32> {

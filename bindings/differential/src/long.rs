@@ -91,7 +91,7 @@ pub fn all(random: &mut Random, report: &mut Report, mistake: Mistake) {
         let table = large_table(random, n, amount);
         let lent = lent(random, &table, n, slots);
         // The wrong saturations take all pairs, which is too slow here.
-        if mistake == Mistake::None {
+        if !matches!(mistake, Mistake::OneRound | Mistake::WrongWay) {
             tables::compare_saturate(report, mistake, lent);
         }
     }

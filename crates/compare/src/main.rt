@@ -1,4 +1,4 @@
-// Compares the engine with the naive one, all calls but opening and feeding: every refusal and small graph of the scope paper, then
+// Compares the engine with the naive one, all calls but opening and feeding: every refusal and small graph of the papers, then
 // many random sites. After every call both answers and the contents of every lent list are compared. Prints the small cases, each
 // difference, and the counts.
 mod queries;

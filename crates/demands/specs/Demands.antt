@@ -11,7 +11,7 @@ use Rattle.demands.specs.NoneMeansNone.{NoneMeansNone}
 use Rattle.demands.specs.Feeds.{ListOfCalls}
 use Rattle.demands.specs.Routes.{AcceptedCalls, ShortcutOfCalls, NoneOfCalls, AskRefusesSix}
 
--- the small graphs of 01, computed
+-- the small graphs of 01, computed, with the saturation that 02 gives the six triples
 abbrev pub GraphsRight : Type 0
 GraphsRight = T (allRight graphs)
 
@@ -40,7 +40,7 @@ pub record Demand3 : Type 0 where
   pub whole-list : WholeList
   pub list-of-calls : ListOfCalls
 
--- the site form: read exactly, read back as written, and 01's example printed
+-- the site form: read exactly, read back as written, and the example printed
 pub record SiteForms : Type 0 where
   pub reads : ReadsExactly
   pub written-is-read : WrittenIsRead

@@ -1,4 +1,4 @@
-// Asks the summary and map of the scope paper's example its two queries, shows each refusal of ask, and asks a large table.
+// Asks the summary and map of the papers' example its two queries, shows each refusal of ask, and asks a large table.
 
 ghost use mathlib.Core.Path.{_≡_};
 ghost use Prim.Native.Nat.{_+_};
@@ -9,6 +9,52 @@ use query::Asked;
 use query::End;
 use query::Pattern;
 use query::Query;
+
+// The summary of the saturated example.
+const SUMMARY: [u32; 42] = [
+    5,
+    2,
+    7,
+    5,
+    3,
+    8,
+    5,
+    3,
+    9,
+    6,
+    2,
+    7,
+    6,
+    3,
+    8,
+    6,
+    3,
+    9,
+    7,
+    3,
+    8,
+    7,
+    3,
+    9,
+    8,
+    1,
+    9,
+    10,
+    0,
+    8,
+    10,
+    0,
+    9,
+    10,
+    5,
+    12,
+    10,
+    6,
+    12,
+    10,
+    7,
+    12,
+];
 
 // The refusal's number as a digit.
 fn digit(r: Refusal) -> u8
@@ -61,39 +107,10 @@ fn pair(a: Pattern, b: Pattern, count: u32) -> Query {
 }
 
 fn example() {
-    let table: [u32; 27] = [
-        5,
-        2,
-        7,
-        6,
-        2,
-        7,
-        7,
-        3,
-        8,
-        8,
-        1,
-        9,
-        10,
-        0,
-        8,
-        10,
-        0,
-        9,
-        10,
-        5,
-        12,
-        10,
-        6,
-        12,
-        10,
-        7,
-        12,
-    ];
     let a: u32 = 4294967295;
     let map: [u32; 14] = [a, a, a, a, a, 5, 6, 7, 8, 9, 10, 10, 12, 12];
-    show(query::ask(&table, &map, pair(vars(0, 5, 1), vars(0, 6, 2), 2)));
-    show(query::ask(&table, &map, pair(vars(0, 7, 1), vars(1, 7, 2), 2)));
+    show(query::ask(&SUMMARY, &map, pair(vars(0, 5, 1), vars(0, 6, 2), 2)));
+    show(query::ask(&SUMMARY, &map, pair(vars(0, 7, 1), vars(1, 7, 2), 2)));
 }
 
 // A map that is too short, a reserved code as an object, a query without patterns.

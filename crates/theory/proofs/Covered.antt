@@ -3,30 +3,51 @@
 use Prim.Native.Nat.{ℕ, zero, suc, _≤_, _<_}
 use mathlib.Core.Path.{_≡_, refl, sym, subst}
 use mathlib.Core.Logic.{_⊎_, inl, inr, ⊎-elim}
-use mathlib.Core.Bool.{Bool, true, false}
+use mathlib.Core.Bool.{Bool, true, false, cond}
 use mathlib.Core.List.{List, [], _∷_, List·Memᴰ as Mem, List·Memᴰ·head as here, List·Memᴰ·tail as there, List·Memᴰ·not-nil as no-mem}
 use native.Mathlib.Omega.{arith}
 use lib.Dec.{eqb, leb}
+use lib.ListN.{getD}
 use borrow.Author.Tests.{eqb-true, eq-eqb, ne-eqb, leb-false, lt-leb, ltb-false, le-ltb}
 use Rattle.model.specs.declared.Triple.{Triple}
-use Rattle.model.specs.Codes.{Vocabulary, kind, reserved}
+use Rattle.model.specs.Codes.{Vocabulary, codes, kind, reserved}
 use Rattle.model.specs.Lists.{all}
 use Rattle.model.specs.Roster.{mark, isClass, isProperty, unmarked, classRow, propertyRow, classRoles, propertyRoles, coversTriple, covers, wrongEnd, wrongTriple, wrongCodes}
 use Rattle.theory.proofs.Tests.{or-true, or-false, or-neither, and-true, and-both, bool-cases}
 use Rattle.theory.proofs.Lists.{all-at, at-all, any-none, none-any}
+
+-- the kind by its five tests
+abbrev firstTrue : Bool → Bool → Bool → Bool → Bool → ℕ
+firstTrue a b c d e = cond a 0 (cond b 1 (cond c 2 (cond d 3 (cond e 4 5))))
 
 -- a kind is at most 5
 pub kind-top : (v : Vocabulary) (p : ℕ) → kind v p ≤ 5
 unfolding kind
 kind-top v p = go (eqb p (v .type)) (eqb p (v .subclass)) (eqb p (v .subproperty)) (eqb p (v .domain)) (eqb p (v .range))
   where
-    go : (a b c d e : Bool) → mathlib.Core.Bool.cond a 0 (mathlib.Core.Bool.cond b 1 (mathlib.Core.Bool.cond c 2 (mathlib.Core.Bool.cond d 3 (mathlib.Core.Bool.cond e 4 5)))) ≤ 5
+    go : (a b c d e : Bool) → firstTrue a b c d e ≤ 5
     go true b c d e = omega arith
     go false true c d e = omega arith
     go false false true d e = omega arith
     go false false false true e = omega arith
     go false false false false true = omega arith
     go false false false false false = omega arith
+
+-- a code of a kind below 5 is the vocabulary's of that kind
+pub kind-code : (v : Vocabulary) (p : ℕ) → kind v p < 5 → p ≡ getD (codes v) (kind v p) 0
+unfolding kind
+kind-code v p h =
+    go (eqb p (v .type)) (eqb p (v .subclass)) (eqb p (v .subproperty)) (eqb p (v .domain)) (eqb p (v .range))
+    (eqb-true _ _) (eqb-true _ _) (eqb-true _ _) (eqb-true _ _) (eqb-true _ _) h
+  where
+    go : (a b c d e : Bool) → (a ≡ true → p ≡ v .type) → (b ≡ true → p ≡ v .subclass) → (c ≡ true → p ≡ v .subproperty) → (d ≡ true → p ≡ v .domain) → (e ≡ true → p ≡ v .range)
+        → firstTrue a b c d e < 5 → p ≡ getD (codes v) (firstTrue a b c d e) 0
+    go true b c d e f1 f2 f3 f4 f5 h = f1 refl
+    go false true c d e f1 f2 f3 f4 f5 h = f2 refl
+    go false false true d e f1 f2 f3 f4 f5 h = f3 refl
+    go false false false true e f1 f2 f3 f4 f5 h = f4 refl
+    go false false false false true f1 f2 f3 f4 f5 h = f5 refl
+    go false false false false false f1 f2 f3 f4 f5 h = absurd (omega (arith, h))
 
 pub kind-type : (v : Vocabulary) → kind v (v .type) ≡ 0
 unfolding kind

@@ -88,7 +88,7 @@ module _ (v : Vocabulary) where
   level r m = all-in v [] levels r m
 
   -- the two kinds that chain with themselves
-  data Chain : ℕ → Type 0 where
+  pub data Chain : ℕ → Type 0 where
     subclasses : Chain 1
     subproperties : Chain 2
 
@@ -133,7 +133,7 @@ module _ (v : Vocabulary) where
   SchemaOf G t = G t × IsSchema t
 
   module _ (G : Graph) (free : (t : Triple) → G t → Free t) where
-    abbrev S : Graph
+    abbrev pub S : Graph
     S = Derives v (SchemaOf G)
 
     -- ── no reserved code comes to an end ──
@@ -143,13 +143,13 @@ module _ (v : Vocabulary) where
     end-free x y (second-subject e) = subst (λ (z : ℕ). 5 ≤ kind v z) (sym e) (y .0)
     end-free x y (second-object e) = subst (λ (z : ℕ). 5 ≤ kind v z) (sym e) (y .1)
 
-    derives-free : {t : Triple} → Derives v G t → Free t
+    pub derives-free : {t : Triple} → Derives v G t → Free t
     derives-free (given {t} x) = free t x
     derives-free (by-rule r a b k e g x y) =
         subst Free (sym g) (end-free (derives-free x) (derives-free y) ((laws v [] r k) .subject-end a b), end-free (derives-free x) (derives-free y) ((laws v [] r k) .object-end a b))
 
     -- ── schema triples come from schema triples ──
-    schema-in : {t : Triple} → Derives v G t → IsSchema t → S t
+    pub schema-in : {t : Triple} → Derives v G t → IsSchema t → S t
     schema-in (given x) h = given (x, h)
     schema-in {t} (by-rule r a b k e g x y) h = go (level r k a b e) (λ p. schema-in x p) (λ p. schema-in y p) (derives-free x) (subst IsSchema g h)
       where
@@ -161,11 +161,11 @@ module _ (v : Vocabulary) where
 
     -- ── data triples are given ones, renamed at most once ──
     -- p is q, or a schema triple of the kind k leads from p to q
-    data Up (k p q : ℕ) : Type 0 where
+    pub data Up (k p q : ℕ) : Type 0 where
       stays : p ≡ q → Up k p q
       leads : (a : Triple) → S a → kind v (a .property) ≡ k → a .subject ≡ p → a .object ≡ q → Up k p q
 
-    climb : {k p q : ℕ} → Chain k → Up k p q → (a : Triple) → S a → kind v (a .property) ≡ k → a .subject ≡ q → Up k p (a .object)
+    pub climb : {k p q : ℕ} → Chain k → Up k p q → (a : Triple) → S a → kind v (a .property) ≡ k → a .subject ≡ q → Up k p (a .object)
     climb ch (stays e) a s h f = leads a s h (f ∙ sym e) refl
     climb {k} {p} ch (leads b z i e e′) a s h f = joined (gives v (rule k k 2 3 0 1 5) b a) refl
       where

@@ -1,27 +1,29 @@
 -- The theorems that specs/Theorems.antt states.
 -- Assumes nothing.
 use Prim.Native.Nat.{ℕ, _≤_, _<_}
-use mathlib.Core.Path.{refl, sym, subst, _∙_, ap}
+use mathlib.Core.Path.{_≡_, refl, sym, subst, _∙_, ap}
+use mathlib.Core.Logic.{_↔_, inl, inr, ⊎-elim}
 use mathlib.Core.List.{List, [], map, List·Memᴰ as Mem}
 use native.Mathlib.Omega.{arith}
 use lib.ListN.{length, getD}
 use Rattle.model.specs.declared.Triple.{Triple}
 use Rattle.model.specs.Codes.{rdfs, kind, mostTriples}
 use Rattle.model.specs.Triples.{triple, triples, slots, listed}
-use Rattle.model.specs.Rules.{rule, rules, place, gives}
+use Rattle.model.specs.Rules.{rule, rules, place, gives, Derives, given}
 use Rattle.model.specs.Intake.{State, heldAfter, stateOf}
 use Rattle.model.specs.Saturation.{saturation}
 use Rattle.model.specs.Cliques.{Clique, linked}
 use Rattle.model.specs.Summary.{summary}
 use Rattle.model.specs.Calls.{Accepted, tableChecks}
 use Rattle.model.specs.Outcomes.{wrongLength, wrongSize}
-use Rattle.theory.specs.Theorems.{TriplesOf, SaturationExact, ConstraintsFollow, CliquesExact, RepresentativesExact, SummaryExact, OwnRosterLeast, ShortcutHolds, RoutesAccepted, AnyOrder, WholeList, FedInAnyOrder}
+use Rattle.theory.specs.Theorems.{TriplesOf, Saturated, Source, SaturationExact, ConstraintsFollow, CliquesExact, RepresentativesExact, SummaryExact, OwnRosterLeast, ShortcutHolds, RoutesAccepted, AnyOrder, WholeList, FedInAnyOrder}
 use Rattle.theory.proofs.Tests.{or-false}
 use Rattle.theory.proofs.Lists.{mem-getD}
 use Rattle.theory.proofs.Checks.{passes-first}
 use Rattle.theory.proofs.Covered.{all-codes}
 use Rattle.theory.proofs.RuleLaws.{is-subclass, is-domain, is-range}
 use Rattle.theory.proofs.Saturated.{In}
+use Rattle.theory.proofs.Strata.{Free}
 use Rattle.theory.proofs.Weak.{Weak, weakly-weak, weak-weakly, turned, chained, clique-sym, reps-represents}
 use Rattle.theory.proofs.Saturated as saturated
 use Rattle.theory.proofs.Mapped as mapped
@@ -29,7 +31,7 @@ use Rattle.theory.proofs.Summaries as summaries
 use Rattle.theory.proofs.OwnRoster as own
 use Rattle.theory.proofs.Accepted as accept
 use Rattle.theory.proofs.Shortcut as shortcut
-use Rattle.theory.proofs.Constraints.{follows, schema-kept}
+use Rattle.theory.proofs.Constraints.{follows, IsConstraint, source-of, schema-kept}
 use Rattle.theory.proofs.Feeding as feeding
 
 pub saturation-exact : SaturationExact
@@ -38,20 +40,81 @@ saturation-exact table roster h =
     let b = accept.below rdfs roster (triples table) R in
     record { rising = saturated.saturation-rising rdfs (length roster) (R .type-below) (triples table) b; exact = saturated.saturation-exact rdfs (length roster) (R .type-below) (triples table) b }
 
+module _ (table roster : List ℕ) (h : Accepted rdfs table roster) where
+  abbrev Derived : ℕ → ℕ → ℕ → Type 0
+  Derived s p o = Derives rdfs (TriplesOf table) (triple s p o)
+
+  abbrev Held : ℕ → ℕ → ℕ → Type 0
+  Held s p o = Saturated table roster s p o
+
+  held : (s p o : ℕ) → Derived s p o → Held s p o
+  held s p o d = ((saturation-exact table roster h) .exact (triple s p o)) .1 d
+
+  derived : (s p o : ℕ) → Held s p o → Derived s p o
+  derived s p o m = ((saturation-exact table roster h) .exact (triple s p o)) .0 m
+
+  at : (k : ℕ) → k < length rules → Mem (getD rules k (rule 0 0 0 0 0 0 0)) rules
+  at k l = mem-getD rules (rule 0 0 0 0 0 0 0) k l
+
+  -- a property's constraint p is also that of a property below it
+  abbrev Inherits : ℕ → Type 0
+  Inherits p = (a b c : ℕ) → Held a 2 b → Held b p c → Held a p c
+
+  inherits-domain : Inherits 3
+  unfolding kind gives place
+  inherits-domain a b c x y = held a 3 c (follows rdfs 2 3 4 is-domain (at 6 (omega arith)) a 2 b 3 c refl refl (derived a 2 b x) (derived b 3 c y))
+
+  inherits-range : Inherits 4
+  unfolding kind gives place
+  inherits-range a b c x y = held a 4 c (follows rdfs 2 4 4 is-range (at 7 (omega arith)) a 2 b 4 c refl refl (derived a 2 b x) (derived b 4 c y))
+
+  -- a constraint p holds with each class above its class too
+  abbrev Widens : ℕ → Type 0
+  Widens p = (a c d : ℕ) → Held a p c → Held c 1 d → Held a p d
+
+  widens-domain : Widens 3
+  unfolding kind gives place
+  widens-domain a c d x y = held a 3 d (follows rdfs 3 1 1 is-subclass (at 8 (omega arith)) a 3 c 1 d refl refl (derived a 3 c x) (derived c 1 d y))
+
+  widens-range : Widens 4
+  unfolding kind gives place
+  widens-range a c d x y = held a 4 d (follows rdfs 4 1 1 is-subclass (at 9 (omega arith)) a 4 c 1 d refl refl (derived a 4 c x) (derived c 1 d y))
+
+  free : (t : Triple) → TriplesOf table t → Free rdfs t
+  free t m = let c = accept.covered rdfs roster (triples table) (accept.rdfs-right table roster h) t m in (c .subject-free, c .object-free)
+
+  source-exact : (p : ℕ) → IsConstraint rdfs p → Inherits p → Widens p → (a d : ℕ) → Held a p d ↔ Source table roster p a d
+  source-exact p k i w a d = (to, from)
+    where
+      to : Held a p d → Source table roster p a d
+      to x =
+          let s = source-of rdfs (TriplesOf table) free p a d k (derived a p d x) in
+          record {
+            property = s .property;
+            class = s .class;
+            given = s .held;
+            above = ⊎-elim (λ e. inl e) (λ y. inr (held a 2 (s .property) y)) (s .above);
+            below = ⊎-elim (λ e. inl e) (λ y. inr (held (s .class) 1 d y)) (s .below);
+          }
+
+      from : Source table roster p a d → Held a p d
+      from s =
+          let here : Held (s .property) p (s .class) = held (s .property) p (s .class) (given (s .given)) in
+          let wide : Held (s .property) p d = ⊎-elim (λ e. subst (Held (s .property) p) e here) (λ y. w (s .property) (s .class) d here y) (s .below) in
+          ⊎-elim (λ e. subst (λ (z : ℕ). Held z p d) (sym e) wide) (λ y. i a (s .property) d y wide) (s .above)
+
 pub constraints-follow : ConstraintsFollow
-unfolding kind gives place
+unfolding kind
 constraints-follow table roster h =
-    let S = (saturation-exact table roster h) .exact in
     record {
-      rule-7 = λ a b c x y. (S (triple a 3 c)) .1 (follows rdfs 2 3 4 is-domain (at 6 (omega arith)) a 2 b 3 c refl refl ((S (triple a 2 b)) .0 x) ((S (triple b 3 c)) .0 y));
-      rule-8 = λ a b c x y. (S (triple a 4 c)) .1 (follows rdfs 2 4 4 is-range (at 7 (omega arith)) a 2 b 4 c refl refl ((S (triple a 2 b)) .0 x) ((S (triple b 4 c)) .0 y));
-      rule-9 = λ a c d x y. (S (triple a 3 d)) .1 (follows rdfs 3 1 1 is-subclass (at 8 (omega arith)) a 3 c 1 d refl refl ((S (triple a 3 c)) .0 x) ((S (triple c 1 d)) .0 y));
-      rule-10 = λ a c d x y. (S (triple a 4 d)) .1 (follows rdfs 4 1 1 is-subclass (at 9 (omega arith)) a 4 c 1 d refl refl ((S (triple a 4 c)) .0 x) ((S (triple c 1 d)) .0 y));
+      rule-7 = inherits-domain table roster h;
+      rule-8 = inherits-range table roster h;
+      rule-9 = widens-domain table roster h;
+      rule-10 = widens-range table roster h;
+      domains = source-exact table roster h 3 (omega arith, omega arith) (inherits-domain table roster h) (widens-domain table roster h);
+      ranges = source-exact table roster h 4 (omega arith, omega arith) (inherits-range table roster h) (widens-range table roster h);
       printed = schema-kept rdfs roster (saturation rdfs (length roster) (triples table)) (accept.saturation-right rdfs roster (triples table) (accept.rdfs-right table roster h));
     }
-  where
-    at : (k : ℕ) → k < length rules → Mem (getD rules k (rule 0 0 0 0 0 0 0)) rules
-    at k l = mem-getD rules (rule 0 0 0 0 0 0 0) k l
 
 pub cliques-exact : CliquesExact
 cliques-exact table roster h e =

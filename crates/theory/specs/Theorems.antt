@@ -2,7 +2,7 @@
 -- Assumes nothing.
 use Prim.Native.Nat.{ℕ, _≤_, _<_, _*_}
 use mathlib.Core.Path.{_≡_}
-use mathlib.Core.Logic.{_↔_}
+use mathlib.Core.Logic.{_⊎_, _↔_}
 use mathlib.Core.Bool.{Bool, true, false}
 use mathlib.Core.List.{List, [], map, List·Memᴰ as Mem}
 use lib.ListN.{length}
@@ -44,18 +44,29 @@ pub record Saturation (table roster : List ℕ) : Type 0 where
 abbrev pub SaturationExact : Type 0
 SaturationExact = (table roster : List ℕ) → Accepted rdfs table roster → Saturation table roster
 
--- 02: "Planners read domain and range lines straight off the printout and miss those that are only implied."
-abbrev pub Implied : List ℕ → List ℕ → ℕ → ℕ → ℕ → Type 0
-Implied table roster s p o = Mem (triple s p o) (saturationOf table roster)
+-- a triple of the saturation
+abbrev pub Saturated : List ℕ → List ℕ → ℕ → ℕ → ℕ → Type 0
+Saturated table roster s p o = Mem (triple s p o) (saturationOf table roster)
+
+-- the table's triple from which a p d follows, p being domain or range: at a or at a property above it, with d or with a class below it
+pub record Source (table roster : List ℕ) (p a d : ℕ) : Type 0 where
+  pub property : ℕ
+  pub class : ℕ
+  pub given : Mem (triple property p class) (triples table)
+  pub above : (a ≡ property) ⊎ Saturated table roster a (rdfs .subproperty) property
+  pub below : (class ≡ d) ⊎ Saturated table roster class (rdfs .subclass) d
 
 pub record Constraints (table roster : List ℕ) : Type 0 where
   -- 02: "Rule 7: a subproperty b, b domain c give a domain c. Rule 8: the same for range."
-  pub rule-7 : (a b c : ℕ) → Implied table roster a (rdfs .subproperty) b → Implied table roster b (rdfs .domain) c → Implied table roster a (rdfs .domain) c
-  pub rule-8 : (a b c : ℕ) → Implied table roster a (rdfs .subproperty) b → Implied table roster b (rdfs .range) c → Implied table roster a (rdfs .range) c
+  pub rule-7 : (a b c : ℕ) → Saturated table roster a (rdfs .subproperty) b → Saturated table roster b (rdfs .domain) c → Saturated table roster a (rdfs .domain) c
+  pub rule-8 : (a b c : ℕ) → Saturated table roster a (rdfs .subproperty) b → Saturated table roster b (rdfs .range) c → Saturated table roster a (rdfs .range) c
   -- 02: "Rule 9: a domain c, c subclass d give a domain d. Rule 10: the same for range."
-  pub rule-9 : (a c d : ℕ) → Implied table roster a (rdfs .domain) c → Implied table roster c (rdfs .subclass) d → Implied table roster a (rdfs .domain) d
-  pub rule-10 : (a c d : ℕ) → Implied table roster a (rdfs .range) c → Implied table roster c (rdfs .subclass) d → Implied table roster a (rdfs .range) d
-  -- the printout, which is the summary of the saturation, has exactly the saturation's schema triples
+  pub rule-9 : (a c d : ℕ) → Saturated table roster a (rdfs .domain) c → Saturated table roster c (rdfs .subclass) d → Saturated table roster a (rdfs .domain) d
+  pub rule-10 : (a c d : ℕ) → Saturated table roster a (rdfs .range) c → Saturated table roster c (rdfs .subclass) d → Saturated table roster a (rdfs .range) d
+  -- and no other domain or range follows
+  pub domains : (a d : ℕ) → Saturated table roster a (rdfs .domain) d ↔ Source table roster (rdfs .domain) a d
+  pub ranges : (a d : ℕ) → Saturated table roster a (rdfs .range) d ↔ Source table roster (rdfs .range) a d
+  -- 02: "Planners read domain and range lines straight off the printout": the summary of the saturation has the same schema triples as the saturation
   pub printed : (t : Triple) → 1 ≤ kind rdfs (t .property) → kind rdfs (t .property) ≤ 4
       → Mem t (summary rdfs roster (saturationOf table roster)) ↔ Mem t (saturationOf table roster)
 
