@@ -341,20 +341,21 @@ fn pass(list: &mut [u32], filled: usize, low: usize, high: usize) -> Builder
     round(list, count, low, high)
 }
 
-// The rules that give no schema triple, each once: rule 4, which gives data triples, then 1 and 2, which give type triples of these, then 5.
+// The rules that give no schema triple, each once: rule 5, then 1 and 2, then 4. Closed schema triples give with a triple of the table, in
+// one step, all that they give in several, so a later pass draws nothing anew from what an earlier one gave.
 fn draw_strata(list: &mut [u32], filled: usize) -> Builder
     requires { ⌜ 3 * filled ≤ length (now list) ⌝ }
     ensures { λ x. ⌜ Stratified (now (list .entry)) (now (list .exit)) filled x ⌝ }
 {
-    let renamed = pass(list, filled, 3, 4);
-    if renamed.full {
-        return renamed;
+    let retyped = pass(list, filled, 4, 5);
+    if retyped.full {
+        return retyped;
     }
-    let typed = pass(list, renamed.filled, 0, 2);
+    let typed = pass(list, retyped.filled, 0, 2);
     if typed.full {
         return typed;
     }
-    pass(list, typed.filled, 4, 5)
+    pass(list, typed.filled, 3, 4)
 }
 
 // All that the rules derive from the table, in any order, or the builder is full. The schema triples are closed first: no other triple

@@ -6,9 +6,7 @@ use mathlib.Core.Logic.{_⊎_, inl, inr, _↔_}
 use mathlib.Core.Bool.{true}
 use mathlib.Core.List.{List, [], List·Memᴰ as Mem}
 use native.Mathlib.Omega.{arith}
-use lib.Dec.{eqb}
 use lib.ListN.{getD}
-use borrow.Author.Tests.{eq-eqb}
 use Rattle.model.specs.declared.Rule.{Rule}
 use Rattle.model.specs.declared.Triple.{Triple}
 use Rattle.model.specs.Codes.{Vocabulary, codes, kind}
@@ -18,28 +16,22 @@ use Rattle.model.specs.Partition.{label}
 use Rattle.model.specs.Cliques.{Graph, source, target}
 use Rattle.model.specs.Classes.{mapOf}
 use Rattle.model.specs.Summary.{moved, summary}
-use Rattle.theory.proofs.Tests.{and-both}
 use Rattle.theory.proofs.Covered.{kind-code, kind-type, schema-marked}
-use Rattle.theory.proofs.RuleLaws.{Schema, is-subclass, is-subproperty, is-domain, is-range, both-parts, chain-fits, All, none, more, all-in}
+use Rattle.theory.proofs.RuleLaws.{Schema, is-subclass, is-subproperty, is-domain, is-range, both-parts, chain-parts, All, none, more, all-in}
 use Rattle.theory.proofs.Saturated.{derives-map}
-use Rattle.theory.proofs.Strata.{Free, subclasses, subproperties, S, derives-free, schema-in, Up, stays, leads, climb}
+use Rattle.theory.proofs.Strata.{Types, subjects, objects, Free, subclasses, subproperties, S, derives-free, schema-in, Up, stays, leads, climb}
 use Rattle.theory.proofs.Mapped.{map-reps}
 use Rattle.theory.proofs.Summaries.{summary-exact}
 use Rattle.theory.proofs.Accepted.{Right, room, below, covered}
 
 module _ (v : Vocabulary) where
-  -- what a rule gives that takes x p y and y q z, of the kinds k and l
-  pub follows : {G : Graph} (k l o : ℕ) → Schema v [] l → Mem (rule k l 2 3 0 o 5) rules → (x p y q z : ℕ) → kind v p ≡ k → kind v q ≡ l
-      → Derives v G (triple x p y) → Derives v G (triple y q z) → Derives v G (gives v (rule k l 2 3 0 o 5) (triple x p y) (triple y q z))
-  follows k l o s m x p y q z e f d g =
-      by-rule (rule k l 2 3 0 o 5) (triple x p y) (triple y q z) m
-      (chain-fits v [] k l o s (triple x p y) (triple y q z)
-      ∙ and-both (eqb (kind v p) k) _ (eq-eqb _ _ e) (and-both (eqb (kind v q) l) _ (eq-eqb _ _ f) (eq-eqb y y refl)))
-      refl d g
-
   -- ── the rules that give a domain or range triple ──
-  abbrev pub IsConstraint : ℕ → Type 0
+  abbrev IsConstraint : ℕ → Type 0
   IsConstraint p = (3 ≤ kind v p) × (kind v p ≤ 4)
+
+  constraint : {k : ℕ} → Types k → (p : ℕ) → kind v p ≡ k → IsConstraint p
+  constraint subjects p e = (omega (arith, e), omega (arith, e))
+  constraint objects p e = (omega (arith, e), omega (arith, e))
 
   -- t is b's constraint at the property below, or a's constraint with the class above
   data Joined (a b t : Triple) : Type 0 where
@@ -61,20 +53,17 @@ module _ (v : Vocabulary) where
   unfolding fits gives place
   retypes a b h f c = absurd (omega (arith, (both-parts v [] a b 1 0 (a .subject) (b .object) h) .1, c .0))
 
-  parts : (k l p : ℕ) → Schema v [] l → (a b : Triple) → fits v (rule k l 2 3 0 p 5) a b ≡ true → (kind v (a .property) ≡ k) × (kind v (b .property) ≡ l) × (a .object ≡ b .subject)
-  parts k l p s a b h = both-parts v [] a b k l (a .object) (b .subject) (sym (chain-fits v [] k l p s a b) ∙ h)
-
   chains : (k : ℕ) → k ≤ 2 → Schema v [] k → Joins (rule k k 2 3 0 1 5)
   unfolding gives place
-  chains k u s a b h f c = absurd (omega (arith, (parts k k 1 s a b h) .0, c .0))
+  chains k u s a b h f c = absurd (omega (arith, (chain-parts v [] k k 1 s a b h) .0, c .0))
 
   inherits : (k : ℕ) → Schema v [] k → Joins (rule 2 k 2 3 0 4 5)
   unfolding gives place
-  inherits k s a b h f c = let w = parts 2 k 4 s a b h in inherited (w .0) (w .2) refl
+  inherits k s a b h f c = let w = chain-parts v [] 2 k 4 s a b h in inherited (w .0) (w .2) refl
 
   widens : (k : ℕ) → Joins (rule k 1 2 3 0 1 5)
   unfolding gives place
-  widens k a b h f c = let w = parts k 1 1 is-subclass a b h in widened (w .1) (w .2) refl
+  widens k a b h f c = let w = chain-parts v [] k 1 1 is-subclass a b h in widened (w .1) (w .2) refl
 
   all-join : All v [] Joins rules
   all-join =
@@ -143,9 +132,9 @@ module _ (v : Vocabulary) where
       pub above : (a ≡ property) ⊎ Derives v G (triple a (v .subproperty) property)
       pub below : (class ≡ d) ⊎ Derives v G (triple class (v .subclass) d)
 
-    pub source-of : (p a d : ℕ) → IsConstraint p → Derives v G (triple a p d) → Source p a d
-    source-of p a d c x =
-        let F = traced x c in
+    pub source-of : {k : ℕ} → Types k → (p a d : ℕ) → kind v p ≡ k → Derives v G (triple a p d) → Source p a d
+    source-of w p a d e x =
+        let F = traced x (constraint w p e) in
         record {
           property = F .from .subject;
           class = F .from .object;

@@ -178,6 +178,14 @@ module _ (v : Vocabulary) (roster : List ℕ) where
   chain-fits k l p is-domain a b = refl
   chain-fits k l p is-range a b = refl
 
+  pub chain-parts : (k l p : ℕ) → Schema l → (a b : Triple) → fits v (rule k l 2 3 0 p 5) a b ≡ true → (kind v (a .property) ≡ k) × (kind v (b .property) ≡ l) × (a .object ≡ b .subject)
+  chain-parts k l p s a b h = both-parts a b k l (a .object) (b .subject) (sym (chain-fits k l p s a b) ∙ h)
+
+  pub chain-whole : (k l p : ℕ) → Schema l → (a b : Triple) → kind v (a .property) ≡ k → kind v (b .property) ≡ l → a .object ≡ b .subject → fits v (rule k l 2 3 0 p 5) a b ≡ true
+  chain-whole k l p s a b e g j =
+      chain-fits k l p s a b
+      ∙ and-both (eqb (kind v (a .property)) k) _ (eq-eqb _ _ e) (and-both (eqb (kind v (b .property)) l) _ (eq-eqb _ _ g) (eq-eqb _ _ j))
+
   pub chain-kind : {k l p m : ℕ} → PropertyPlace k l p m → (a b : Triple) → kind v (a .property) ≡ k → kind v (b .property) ≡ l → kind v (place v a b p) ≡ m
   unfolding place
   chain-kind of-first a b e f = e
@@ -196,30 +204,22 @@ module _ (v : Vocabulary) (roster : List ℕ) where
   unfolding gives place
   chained k l p m sk sl pl ch =
       record {
-        schema = λ a b h. let e = (parts a b h) .0 in let u = schema-bounds sk in (omega arith, omega arith);
+        schema = λ a b h. let e = (chain-parts k l p sl a b h) .0 in let u = schema-bounds sk in (omega arith, omega arith);
         subject-end = λ a b. first-subject refl;
         object-end = λ a b. second-object refl;
-        covered = λ a b h x y. cover a b (parts a b h) x y;
-        from-data = λ a b h x y d. let w = parts a b h in absurd (omega (arith, chain-kind pl a b (w .0) (w .1), chain-schema pl sk sl));
+        covered = λ a b h x y. cover a b (chain-parts k l p sl a b h) x y;
+        from-data = λ a b h x y d. let w = chain-parts k l p sl a b h in absurd (omega (arith, chain-kind pl a b (w .0) (w .1), chain-schema pl sk sl));
         along = λ f a b h fs fo.
-            let w = parts a b h in (
-              whole a (moved f b) (w .0) (w .1) (sym fo ∙ ap f (w .2)),
+            let w = chain-parts k l p sl a b h in (
+              chain-whole k l p sl a (moved f b) (w .0) (w .1) (sym fo ∙ ap f (w .2)),
               λ i. triple (sym fs i) (chain-place pl f a b i) (f (b .object)),
             );
         back = λ f a b x y h.
-            let w = parts a (moved f b) h in
+            let w = chain-parts k l p sl a (moved f b) h in
             let u = schema-bounds sl in
-            whole a b (w .0) (w .1) (w .2 ∙ y .subject ((schema-marked roster v b (omega (arith, w .1)) (omega (arith, w .1)) x) .0));
+            chain-whole k l p sl a b (w .0) (w .1) (w .2 ∙ y .subject ((schema-marked roster v b (omega (arith, w .1)) (omega (arith, w .1)) x) .0));
       }
     where
-      parts : (a b : Triple) → fits v (rule k l 2 3 0 p 5) a b ≡ true → (kind v (a .property) ≡ k) × (kind v (b .property) ≡ l) × (a .object ≡ b .subject)
-      parts a b h = both-parts a b k l (a .object) (b .subject) (sym (chain-fits k l p sl a b) ∙ h)
-
-      whole : (a b : Triple) → kind v (a .property) ≡ k → kind v (b .property) ≡ l → a .object ≡ b .subject → fits v (rule k l 2 3 0 p 5) a b ≡ true
-      whole a b e g j =
-          chain-fits k l p sl a b
-          ∙ and-both (eqb (kind v (a .property)) k) _ (eq-eqb _ _ e) (and-both (eqb (kind v (b .property)) l) _ (eq-eqb _ _ g) (eq-eqb _ _ j))
-
       cover : (a b : Triple) → (kind v (a .property) ≡ k) × (kind v (b .property) ≡ l) × (a .object ≡ b .subject) → Covered roster v a → Covered roster v b
           → Covered roster v (triple (a .subject) (place v a b p) (b .object))
       cover a b w x y =

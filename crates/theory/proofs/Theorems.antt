@@ -1,15 +1,15 @@
 -- The theorems that specs/Theorems.antt states.
 -- Assumes nothing.
-use Prim.Native.Nat.{ℕ, _≤_, _<_}
+use Prim.Native.Nat.{ℕ, _≤_}
 use mathlib.Core.Path.{_≡_, refl, sym, subst, _∙_, ap}
 use mathlib.Core.Logic.{_↔_, inl, inr, ⊎-elim}
 use mathlib.Core.List.{List, [], map, List·Memᴰ as Mem}
 use native.Mathlib.Omega.{arith}
-use lib.ListN.{length, getD}
+use lib.ListN.{length}
 use Rattle.model.specs.declared.Triple.{Triple}
 use Rattle.model.specs.Codes.{rdfs, kind, mostTriples}
 use Rattle.model.specs.Triples.{triple, triples, slots, listed}
-use Rattle.model.specs.Rules.{rule, rules, place, gives, Derives, given}
+use Rattle.model.specs.Rules.{Derives, given}
 use Rattle.model.specs.Intake.{State, heldAfter, stateOf}
 use Rattle.model.specs.Saturation.{saturation}
 use Rattle.model.specs.Cliques.{Clique, linked}
@@ -18,12 +18,10 @@ use Rattle.model.specs.Calls.{Accepted, tableChecks}
 use Rattle.model.specs.Outcomes.{wrongLength, wrongSize}
 use Rattle.theory.specs.Theorems.{TriplesOf, Saturated, Source, SaturationExact, ConstraintsFollow, CliquesExact, RepresentativesExact, SummaryExact, OwnRosterLeast, ShortcutHolds, RoutesAccepted, AnyOrder, WholeList, FedInAnyOrder}
 use Rattle.theory.proofs.Tests.{or-false}
-use Rattle.theory.proofs.Lists.{mem-getD}
 use Rattle.theory.proofs.Checks.{passes-first}
 use Rattle.theory.proofs.Covered.{all-codes}
-use Rattle.theory.proofs.RuleLaws.{is-subclass, is-domain, is-range}
 use Rattle.theory.proofs.Saturated.{In}
-use Rattle.theory.proofs.Strata.{Free}
+use Rattle.theory.proofs.Strata.{Types, subjects, objects, Free, inherit, widen}
 use Rattle.theory.proofs.Weak.{Weak, weakly-weak, weak-weakly, turned, chained, clique-sym, reps-represents}
 use Rattle.theory.proofs.Saturated as saturated
 use Rattle.theory.proofs.Mapped as mapped
@@ -31,7 +29,7 @@ use Rattle.theory.proofs.Summaries as summaries
 use Rattle.theory.proofs.OwnRoster as own
 use Rattle.theory.proofs.Accepted as accept
 use Rattle.theory.proofs.Shortcut as shortcut
-use Rattle.theory.proofs.Constraints.{follows, IsConstraint, source-of, schema-kept}
+use Rattle.theory.proofs.Constraints.{source-of, schema-kept}
 use Rattle.theory.proofs.Feeding as feeding
 
 pub saturation-exact : SaturationExact
@@ -53,66 +51,49 @@ module _ (table roster : List ℕ) (h : Accepted rdfs table roster) where
   derived : (s p o : ℕ) → Held s p o → Derived s p o
   derived s p o m = ((saturation-exact table roster h) .exact (triple s p o)) .0 m
 
-  at : (k : ℕ) → k < length rules → Mem (getD rules k (rule 0 0 0 0 0 0 0)) rules
-  at k l = mem-getD rules (rule 0 0 0 0 0 0 0) k l
-
   -- a property's constraint p is also that of a property below it
-  abbrev Inherits : ℕ → Type 0
-  Inherits p = (a b c : ℕ) → Held a 2 b → Held b p c → Held a p c
-
-  inherits-domain : Inherits 3
-  unfolding kind gives place
-  inherits-domain a b c x y = held a 3 c (follows rdfs 2 3 4 is-domain (at 6 (omega arith)) a 2 b 3 c refl refl (derived a 2 b x) (derived b 3 c y))
-
-  inherits-range : Inherits 4
-  unfolding kind gives place
-  inherits-range a b c x y = held a 4 c (follows rdfs 2 4 4 is-range (at 7 (omega arith)) a 2 b 4 c refl refl (derived a 2 b x) (derived b 4 c y))
+  inherits : {k : ℕ} → Types k → (p : ℕ) → kind rdfs p ≡ k → (a b c : ℕ) → Held a 2 b → Held b p c → Held a p c
+  unfolding kind
+  inherits w p e a b c x y = held a p c (inherit rdfs w (triple a 2 b) (triple b p c) refl e refl (derived a 2 b x) (derived b p c y))
 
   -- a constraint p holds with each class above its class too
-  abbrev Widens : ℕ → Type 0
-  Widens p = (a c d : ℕ) → Held a p c → Held c 1 d → Held a p d
-
-  widens-domain : Widens 3
-  unfolding kind gives place
-  widens-domain a c d x y = held a 3 d (follows rdfs 3 1 1 is-subclass (at 8 (omega arith)) a 3 c 1 d refl refl (derived a 3 c x) (derived c 1 d y))
-
-  widens-range : Widens 4
-  unfolding kind gives place
-  widens-range a c d x y = held a 4 d (follows rdfs 4 1 1 is-subclass (at 9 (omega arith)) a 4 c 1 d refl refl (derived a 4 c x) (derived c 1 d y))
+  widens : {k : ℕ} → Types k → (p : ℕ) → kind rdfs p ≡ k → (a c d : ℕ) → Held a p c → Held c 1 d → Held a p d
+  unfolding kind
+  widens w p e a c d x y = held a p d (widen rdfs w (triple a p c) (triple c 1 d) e refl refl (derived a p c x) (derived c 1 d y))
 
   free : (t : Triple) → TriplesOf table t → Free rdfs t
   free t m = let c = accept.covered rdfs roster (triples table) (accept.rdfs-right table roster h) t m in (c .subject-free, c .object-free)
 
-  source-exact : (p : ℕ) → IsConstraint rdfs p → Inherits p → Widens p → (a d : ℕ) → Held a p d ↔ Source table roster p a d
-  source-exact p k i w a d = (to, from)
+  sources : {k : ℕ} → Types k → (p : ℕ) → kind rdfs p ≡ k → (a d : ℕ) → Held a p d ↔ Source table roster p a d
+  sources w p e a d = (to, from)
     where
       to : Held a p d → Source table roster p a d
       to x =
-          let s = source-of rdfs (TriplesOf table) free p a d k (derived a p d x) in
+          let s = source-of rdfs (TriplesOf table) free w p a d e (derived a p d x) in
           record {
             property = s .property;
             class = s .class;
             given = s .held;
-            above = ⊎-elim (λ e. inl e) (λ y. inr (held a 2 (s .property) y)) (s .above);
-            below = ⊎-elim (λ e. inl e) (λ y. inr (held (s .class) 1 d y)) (s .below);
+            above = ⊎-elim (λ q. inl q) (λ y. inr (held a 2 (s .property) y)) (s .above);
+            below = ⊎-elim (λ q. inl q) (λ y. inr (held (s .class) 1 d y)) (s .below);
           }
 
       from : Source table roster p a d → Held a p d
       from s =
           let here : Held (s .property) p (s .class) = held (s .property) p (s .class) (given (s .given)) in
-          let wide : Held (s .property) p d = ⊎-elim (λ e. subst (Held (s .property) p) e here) (λ y. w (s .property) (s .class) d here y) (s .below) in
-          ⊎-elim (λ e. subst (λ (z : ℕ). Held z p d) (sym e) wide) (λ y. i a (s .property) d y wide) (s .above)
+          let wide : Held (s .property) p d = ⊎-elim (λ q. subst (Held (s .property) p) q here) (λ y. widens w p e (s .property) (s .class) d here y) (s .below) in
+          ⊎-elim (λ q. subst (λ (z : ℕ). Held z p d) (sym q) wide) (λ y. inherits w p e a (s .property) d y wide) (s .above)
 
 pub constraints-follow : ConstraintsFollow
 unfolding kind
 constraints-follow table roster h =
     record {
-      rule-7 = inherits-domain table roster h;
-      rule-8 = inherits-range table roster h;
-      rule-9 = widens-domain table roster h;
-      rule-10 = widens-range table roster h;
-      domains = source-exact table roster h 3 (omega arith, omega arith) (inherits-domain table roster h) (widens-domain table roster h);
-      ranges = source-exact table roster h 4 (omega arith, omega arith) (inherits-range table roster h) (widens-range table roster h);
+      rule-7 = inherits table roster h subjects 3 refl;
+      rule-8 = inherits table roster h objects 4 refl;
+      rule-9 = widens table roster h subjects 3 refl;
+      rule-10 = widens table roster h objects 4 refl;
+      domains = sources table roster h subjects 3 refl;
+      ranges = sources table roster h objects 4 refl;
       printed = schema-kept rdfs roster (saturation rdfs (length roster) (triples table)) (accept.saturation-right rdfs roster (triples table) (accept.rdfs-right table roster h));
     }
 
