@@ -342,7 +342,7 @@ fn pass(list: &mut [u32], filled: usize, low: usize, high: usize) -> Builder
 }
 
 // The rules that give no schema triple, each once: rule 5, then 1 and 2, then 4. Closed schema triples give with a triple of the table, in
-// one step, all that they give in several, so a later pass draws nothing anew from what an earlier one gave.
+// one step, all that they give in several; in this order no pass draws from what another gave.
 fn draw_strata(list: &mut [u32], filled: usize) -> Builder
     requires { ⌜ 3 * filled ≤ length (now list) ⌝ }
     ensures { λ x. ⌜ Stratified (now (list .entry)) (now (list .exit)) filled x ⌝ }

@@ -1,4 +1,4 @@
--- 01's example is printed as 01 says, by computation.
+-- The example is printed as the papers say, by computation.
 -- Assumes nothing.
 use Prim.Native.Nat.{ℕ}
 use mathlib.Core.Path.{_≡_, refl, _∙_}
