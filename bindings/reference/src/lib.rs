@@ -1,4 +1,4 @@
-//! An independent engine for every call of the scope paper, in ordinary Rust and unverified: standard sort, hash sets, a textbook
+//! An independent engine for every call of the papers, in ordinary Rust and unverified: standard sort, hash sets, a textbook
 //! union-find, a work-list saturation. Tests compare the proved engine with it and the benchmark times the two side by side.
 //!
 //! The calls have the shape of the C interface: lent lists and numbers, and a status that is 0 or the number of the refusal.

@@ -1,4 +1,4 @@
--- Each graph of the table comes out as the table says, by computation.
+-- Each graph and each schema comes out as its table says, by computation.
 -- Assumes nothing.
 use lib.Dec.{T}
 use Rattle.model.specs.Graphs.{graphs, allRight, right, equal, closures, allClosed, closed}

@@ -1,5 +1,5 @@
-// A second engine for the calls of the scope paper, written to be obvious: plain loops and linear searches, the paper's words
-// followed one by one. It shares nothing with the first engine but the language.
+// A second engine for the papers' calls, written to be obvious: plain loops and linear searches, the papers' words followed one
+// by one. It shares nothing with the first engine but the language.
 // An answer is a number: 0 for an accepted call, else the refusal's number. Reading past a list's end gives zeros.
 mod asking;
 mod clique_lists;

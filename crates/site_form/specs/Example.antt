@@ -1,4 +1,4 @@
--- 01's example of the site printer.
+-- The example of the site printer: 01's text, printed with the triples that 02 adds.
 -- Assumes nothing.
 use Prim.Native.Nat.{ℕ}
 use Prim.Native.String.{String}

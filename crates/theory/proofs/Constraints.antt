@@ -13,13 +13,14 @@ use Rattle.model.specs.Codes.{Vocabulary, codes, kind}
 use Rattle.model.specs.Triples.{triple}
 use Rattle.model.specs.Rules.{rule, rules, place, fits, gives, Derives, given, by-rule}
 use Rattle.model.specs.Partition.{label}
-use Rattle.model.specs.Cliques.{Graph, source, target}
+use Rattle.model.specs.Cliques.{Graph, Node}
 use Rattle.model.specs.Classes.{mapOf}
 use Rattle.model.specs.Summary.{moved, summary}
-use Rattle.theory.proofs.Covered.{kind-code, kind-type, schema-marked}
+use Rattle.theory.proofs.Covered.{code-of-kind, kind-type, Marked}
 use Rattle.theory.proofs.RuleLaws.{Schema, is-subclass, is-subproperty, is-domain, is-range, both-parts, chain-parts, All, none, more, all-in}
-use Rattle.theory.proofs.Saturated.{derives-map}
+use Rattle.theory.proofs.Saturated.{In, derives-map}
 use Rattle.theory.proofs.Strata.{Types, subjects, objects, Free, subclasses, subproperties, S, derives-free, schema-in, Up, stays, leads, climb}
+use Rattle.theory.proofs.Images.{still, unmoved}
 use Rattle.theory.proofs.Mapped.{map-reps}
 use Rattle.theory.proofs.Summaries.{summary-exact}
 use Rattle.theory.proofs.Accepted.{Right, room, below, covered}
@@ -122,18 +123,18 @@ module _ (v : Vocabulary) where
     reached : (k : ℕ) → k < 5 → {p q : ℕ} → Up v G free k p q → (p ≡ q) ⊎ Derives v G (triple p (getD (codes v) k 0) q)
     reached k l (stays e) = inl e
     reached k l (leads a s h e f) =
-        let w : a .property ≡ getD (codes v) k 0 = kind-code v (a .property) (omega (arith, h)) ∙ ap (λ (z : ℕ). getD (codes v) z 0) h in
+        let w : a .property ≡ getD (codes v) k 0 = code-of-kind v (a .property) (omega (arith, h)) ∙ ap (λ (z : ℕ). getD (codes v) z 0) h in
         inr (subst (Derives v G) (λ i. triple (e i) (w i) (f i)) (derives-map v (λ t x. x .0) s))
 
-    pub record Source (p a d : ℕ) : Type 0 where
+    pub record Origin (p a d : ℕ) : Type 0 where
       pub property : ℕ
       pub class : ℕ
       pub held : G (triple property p class)
       pub above : (a ≡ property) ⊎ Derives v G (triple a (v .subproperty) property)
       pub below : (class ≡ d) ⊎ Derives v G (triple class (v .subclass) d)
 
-    pub source-of : {k : ℕ} → Types k → (p a d : ℕ) → kind v p ≡ k → Derives v G (triple a p d) → Source p a d
-    source-of w p a d e x =
+    pub origin-of : {k : ℕ} → Types k → (p a d : ℕ) → kind v p ≡ k → Derives v G (triple a p d) → Origin p a d
+    origin-of w p a d e x =
         let F = traced x (constraint w p e) in
         record {
           property = F .from .subject;
@@ -148,14 +149,11 @@ module _ (v : Vocabulary) where
     abbrev f : ℕ → ℕ
     f = label (mapOf v roster ts)
 
-    -- both ends of a schema triple are marked, and so it is its own image
+    own : (n : ℕ) → Node (In ts) n → Marked roster n → f n ≡ n
+    own n x m = (map-reps v roster ts (below v roster ts R) (room v roster ts R)) .of-marked n x m
+
     own-image : (t : Triple) → Mem t ts → 1 ≤ kind v (t .property) → kind v (t .property) ≤ 4 → moved f t ≡ t
-    own-image t m l h =
-        let w = schema-marked roster v t l h (covered v roster ts R t m) in
-        let F = map-reps v roster ts (below v roster ts R) (room v roster ts R) in
-        let s : f (t .subject) ≡ t .subject = F .of-marked (t .subject) (record { by = t; held = m; side = source; is-end = refl }) (w .0) in
-        let o : f (t .object) ≡ t .object = F .of-marked (t .object) (record { by = t; held = m; side = target; is-end = refl }) (w .1) in
-        λ i. triple (s i) (t .property) (o i)
+    own-image t m l h = unmoved v roster (In ts) (covered v roster ts R) f own (still v roster (In ts) (covered v roster ts R) f own (given m) l h)
 
     pub schema-kept : (t : Triple) → 1 ≤ kind v (t .property) → kind v (t .property) ≤ 4 → Mem t (summary v roster ts) ↔ Mem t ts
     schema-kept t l h = (down, up)

@@ -34,9 +34,9 @@ kind-top v p = go (eqb p (v .type)) (eqb p (v .subclass)) (eqb p (v .subproperty
     go false false false false false = omega arith
 
 -- a code of a kind below 5 is the vocabulary's of that kind
-pub kind-code : (v : Vocabulary) (p : ℕ) → kind v p < 5 → p ≡ getD (codes v) (kind v p) 0
+pub code-of-kind : (v : Vocabulary) (p : ℕ) → kind v p < 5 → p ≡ getD (codes v) (kind v p) 0
 unfolding kind
-kind-code v p h =
+code-of-kind v p h =
     go (eqb p (v .type)) (eqb p (v .subclass)) (eqb p (v .subproperty)) (eqb p (v .domain)) (eqb p (v .range))
     (eqb-true _ _) (eqb-true _ _) (eqb-true _ _) (eqb-true _ _) (eqb-true _ _) h
   where

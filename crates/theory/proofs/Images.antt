@@ -90,16 +90,16 @@ module _ (v : Vocabulary) (roster : List ℕ) where
       fixes x = let n = derives-ends x in record { subject = λ h. own _ (n .subject) h; object = λ h. own _ (n .object) h }
 
       -- it does not move a schema triple
-      record Still (t : Triple) : Type 0 where
-        subject : f (t .subject) ≡ t .subject
-        object : f (t .object) ≡ t .object
+      pub record Still (t : Triple) : Type 0 where
+        pub subject : f (t .subject) ≡ t .subject
+        pub object : f (t .object) ≡ t .object
 
-      still : {t : Triple} → Derives v G t → 1 ≤ kind v (t .property) → kind v (t .property) ≤ 4 → Still t
+      pub still : {t : Triple} → Derives v G t → 1 ≤ kind v (t .property) → kind v (t .property) ≤ 4 → Still t
       still {t} x l u =
           let m = schema-marked roster v t l u (derives-covered x) in
           record { subject = (fixes x) .subject (m .0); object = (fixes x) .object (m .1) }
 
-      unmoved : {t : Triple} → Still t → moved f t ≡ t
+      pub unmoved : {t : Triple} → Still t → moved f t ≡ t
       unmoved {t} s = λ i. triple (s .subject i) (t .property) (s .object i)
 
       -- the image of what is derived is derived from the image

@@ -1,4 +1,5 @@
--- What the theory needs of a rule, shown of each line of the table: a further line is one more entry of `all-laws`.
+-- What the theory needs of a rule, shown of each line of the table: a further line is one more entry of
+-- `all-laws`, of Strata's `levels` and of Constraints' `all-join`.
 -- Assumes nothing.
 use Prim.Native.Nat.{ℕ, _≤_}
 use mathlib.Core.Path.{_≡_, refl, sym, subst, _∙_, ap}
@@ -71,7 +72,7 @@ module _ (v : Vocabulary) (roster : List ℕ) where
       (λ d m. absurd (no-mem m))
 
   -- the place of an end of the second premise
-  pub data EndPlace : ℕ → Type 0 where
+  data EndPlace : ℕ → Type 0 where
     at-subject : EndPlace 3
     at-object : EndPlace 5
 
@@ -168,10 +169,10 @@ module _ (v : Vocabulary) (roster : List ℕ) where
   schema-bounds is-range = (omega arith, omega arith)
 
   -- the test of a rule whose second kind is a schema kind
-  abbrev pub chainFits : ℕ → ℕ → Triple → Triple → Bool
+  abbrev chainFits : ℕ → ℕ → Triple → Triple → Bool
   chainFits k l a b = eqb (kind v (a .property)) k && (eqb (kind v (b .property)) l && eqb (a .object) (b .subject))
 
-  pub chain-fits : (k l p : ℕ) → Schema l → (a b : Triple) → fits v (rule k l 2 3 0 p 5) a b ≡ chainFits k l a b
+  chain-fits : (k l p : ℕ) → Schema l → (a b : Triple) → fits v (rule k l 2 3 0 p 5) a b ≡ chainFits k l a b
   unfolding fits place
   chain-fits k l p is-subclass a b = refl
   chain-fits k l p is-subproperty a b = refl

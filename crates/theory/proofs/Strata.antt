@@ -124,8 +124,8 @@ module _ (v : Vocabulary) where
     subproperties : Chain 2
 
   chain-in : {k : ℕ} → Chain k → Mem (rule k k 2 3 0 1 5) rules
-  chain-in subclasses = there (there (there (there (there (here refl)))))
-  chain-in subproperties = there (there (here refl))
+  chain-in subclasses = mem-getD rules (rule 1 1 2 3 0 1 5) 5 (omega arith)
+  chain-in subproperties = mem-getD rules (rule 2 2 2 3 0 1 5) 2 (omega arith)
 
   chain-schema : {k : ℕ} → Chain k → Schema v [] k
   chain-schema subclasses = is-subclass
@@ -226,13 +226,9 @@ module _ (v : Vocabulary) where
 
     pub climb : {k p q : ℕ} → Chain k → Up k p q → (a : Triple) → S a → kind v (a .property) ≡ k → a .subject ≡ q → Up k p (a .object)
     climb ch (stays e) a s h f = leads a s h (f ∙ sym e) refl
-    climb {k} {p} ch (leads b z i e e′) a s h f = joined (gives v (rule k k 2 3 0 1 5) b a) refl
-      where
-        joined : (c : Triple) → c ≡ gives v (rule k k 2 3 0 1 5) b a → Up k p (a .object)
-        joined c j =
-            let w = j ∙ chain-gives k b a in
-            leads c (by-rule (rule k k 2 3 0 1 5) b a (chain-in ch) (chain-whole v [] k k 1 (chain-schema ch) b a i h (e′ ∙ sym f)) j z s) (ap (λ (t : Triple). kind v (t .property)) w ∙ i)
-            (ap (λ (t : Triple). t .subject) w ∙ e) (ap (λ (t : Triple). t .object) w)
+    climb {k} ch (leads b z i e e′) a s h f =
+        let c : S (triple (b .subject) (b .property) (a .object)) = subst S (chain-gives k b a) (follows k k 1 (chain-schema ch) (chain-in ch) b a i h (e′ ∙ sym f) z s) in
+        leads (triple (b .subject) (b .property) (a .object)) c i e refl
 
     record Renamed (t : Triple) : Type 0 where
       from : Triple
@@ -281,11 +277,11 @@ module _ (v : Vocabulary) where
     typed-below : {k : ℕ} {b t : Triple} (w : Types k) (a : Triple) → S a → kind v (a .property) ≡ k → a .subject ≡ b .property → t ≡ triple (typedEnd w b) (v .type) (a .object) → Renamed b → Typed t
     typed-below {k} {b} {t} w a s e f g R = go (R .up)
       where
-        ends-is : (o : ℕ) → a .object ≡ o → t ≡ triple (typedEnd w (R .from)) (v .type) o
-        ends-is o q = g ∙ (λ i. triple (same-end w b (R .from) (b .property) (R .is) i) (v .type) (q i))
+        is-typed : t ≡ triple (typedEnd w (R .from)) (v .type) (a .object)
+        is-typed = g ∙ (λ i. triple (same-end w b (R .from) (b .property) (R .is) i) (v .type) (a .object))
 
         go : Up 2 (R .from .property) (b .property) → Typed t
-        go (stays q) = record { kind-of = k; types-end = w; first = a; second = R .from; first-in = s; first-kind = e; second-in = R .held; meets = f ∙ sym q; is = ends-is (a .object) refl }
+        go (stays q) = record { kind-of = k; types-end = w; first = a; second = R .from; first-in = s; first-kind = e; second-in = R .held; meets = f ∙ sym q; is = is-typed }
         go (leads c z h q q′) =
             record {
               kind-of = k;
@@ -296,7 +292,7 @@ module _ (v : Vocabulary) where
               first-kind = e;
               second-in = R .held;
               meets = q;
-              is = ends-is (a .object) refl;
+              is = is-typed;
             }
 
     -- and so is one with a class above

@@ -3,7 +3,7 @@
 use Prim.Native.Nat.{ℕ, _≤_}
 use mathlib.Core.Path.{_≡_, refl, sym, subst, _∙_, ap}
 use mathlib.Core.Logic.{_↔_, inl, inr, ⊎-elim}
-use mathlib.Core.List.{List, [], map, List·Memᴰ as Mem}
+use mathlib.Core.List.{List, [], map}
 use native.Mathlib.Omega.{arith}
 use lib.ListN.{length}
 use Rattle.model.specs.declared.Triple.{Triple}
@@ -29,7 +29,7 @@ use Rattle.theory.proofs.Summaries as summaries
 use Rattle.theory.proofs.OwnRoster as own
 use Rattle.theory.proofs.Accepted as accept
 use Rattle.theory.proofs.Shortcut as shortcut
-use Rattle.theory.proofs.Constraints.{source-of, schema-kept}
+use Rattle.theory.proofs.Constraints.{origin-of, schema-kept}
 use Rattle.theory.proofs.Feeding as feeding
 
 pub saturation-exact : SaturationExact
@@ -69,7 +69,7 @@ module _ (table roster : List ℕ) (h : Accepted rdfs table roster) where
     where
       to : Held a p d → Source table roster p a d
       to x =
-          let s = source-of rdfs (TriplesOf table) free w p a d e (derived a p d x) in
+          let s = origin-of rdfs (TriplesOf table) free w p a d e (derived a p d x) in
           record {
             property = s .property;
             class = s .class;

@@ -48,7 +48,8 @@ SaturationExact = (table roster : List ℕ) → Accepted rdfs table roster → S
 abbrev pub Saturated : List ℕ → List ℕ → ℕ → ℕ → ℕ → Type 0
 Saturated table roster s p o = Mem (triple s p o) (saturationOf table roster)
 
--- the table's triple from which a p d follows, p being domain or range: at a or at a property above it, with d or with a class below it
+-- the table's triple from which the triple a p d follows, p being domain or range: at a or at a property above it, with d or with a class
+-- below it
 pub record Source (table roster : List ℕ) (p a d : ℕ) : Type 0 where
   pub property : ℕ
   pub class : ℕ
@@ -63,7 +64,7 @@ pub record Constraints (table roster : List ℕ) : Type 0 where
   -- 02: "Rule 9: a domain c, c subclass d give a domain d. Rule 10: the same for range."
   pub rule-9 : (a c d : ℕ) → Saturated table roster a (rdfs .domain) c → Saturated table roster c (rdfs .subclass) d → Saturated table roster a (rdfs .domain) d
   pub rule-10 : (a c d : ℕ) → Saturated table roster a (rdfs .range) c → Saturated table roster c (rdfs .subclass) d → Saturated table roster a (rdfs .range) d
-  -- and no other domain or range follows
+  -- and no other domain or range is in it: each has its source in the table, by the saturation's own subproperties and subclasses
   pub domains : (a d : ℕ) → Saturated table roster a (rdfs .domain) d ↔ Source table roster (rdfs .domain) a d
   pub ranges : (a d : ℕ) → Saturated table roster a (rdfs .range) d ↔ Source table roster (rdfs .range) a d
   -- 02: "Planners read domain and range lines straight off the printout": the summary of the saturation has the same schema triples as the saturation
