@@ -6,10 +6,13 @@
  * Each name begins with ws, for weak summary.
  *
  * Terms
- *   A code is a uint32_t below N, the site size, 5 to 65,536. Codes 0 to 4 are reserved and stand only as a property.
+ *   A code is a uint32_t below N, the site size, 5 to 65,536.
+ *   The words are five different codes: those for type, subclass, subproperty, domain and range, in this order. They are
+ *   reserved and stand only as a property. Every other code, 0 to 4 too where they are no words, may be subject, object or
+ *   property; a triple whose property is no word is a data triple.
  *   A triple is three codes: subject, property, object. A table is a list of triples, three numbers each, at most
  *   WS_MAX_TRIPLES; repeats count once.
- *   A roster has one byte for each code: 0 unmarked, 1 class, 2 property, 3 both. N is its length.
+ *   A roster has one byte for each code: 0 unmarked, 1 class, 2 property, 3 both; the words are unmarked. N is its length.
  *   Slots are a list's length divided by 3, rounded down.
  *
  * Lists
@@ -19,8 +22,10 @@
  * Answers
  *   Each call returns WS_OK or the number of a refusal. The checks run in the order that stands at the call, each over all
  *   its input before the next.
- *   After 1, 2, 3, 4, 6 and 7 nothing that was lent is altered.
- *   After 5 and 8 the lists are zero, as said at each call.
+ *   After 1, 10, 2, 3, 4, 6 and 7 nothing that was lent is altered.
+ *   Each call that takes words refuses a list of other than WS_WORDS_NUMBERS numbers with 1, before all else, and then wrong
+ *   words with 10, straight after 1.
+ *   After 5 and 8 the lists are zero, as said at each call; the words of ws_read are 0 to 4.
  *   A number that is lent to take an answer (count, found, maybe, is_new) is altered by accepted calls only; ws_read says
  *   what it does with its numbers.
  *   Result triples are in rising order of subject, property, object, without repeats; the rest of the list is zero.
@@ -45,16 +50,20 @@ extern "C" {
 #define WS_MAX_ASKS 16          /* the most queries of a text */
 #define WS_MAX_PATTERNS 8       /* the most patterns of a query */
 
-/* The numbers of a flat query, and of the sixteen flat queries of a text. */
+/* The numbers of a list of words, of a flat query, and of the sixteen flat queries of a text. */
+#define WS_WORDS_NUMBERS 5
 #define WS_QUERY_NUMBERS 41
 #define WS_QUERIES_NUMBERS 656
 
-/* Reserved codes. */
+/* Places in a list of words. */
 #define WS_TYPE 0
 #define WS_SUBCLASS 1
 #define WS_SUBPROPERTY 2
 #define WS_DOMAIN 3
 #define WS_RANGE 4
+
+/* The words 0 to 4, as the initial value of a list. They hold where a text has no line of words. */
+#define WS_RDFS_WORDS {0, 1, 2, 3, 4}
 
 /* Roster marks. */
 #define WS_UNMARKED 0
@@ -69,23 +78,25 @@ extern "C" {
 /* Answers. */
 #define WS_OK 0
 #define WS_REFUSED_LENGTH 1 /* a list has a wrong length, or N is out of range */
-#define WS_REFUSED_ROSTER 2 /* a roster value over 3, or a reserved code marked */
-#define WS_REFUSED_CODE 3   /* a code of a triple not below N, or reserved as subject or object */
+#define WS_REFUSED_ROSTER 2 /* a roster value over 3, or a word marked */
+#define WS_REFUSED_CODE 3   /* a code of a triple not below N, or a word as subject or object */
 #define WS_REFUSED_COVER 4  /* the roster does not mark each role in the table or fed triple */
 #define WS_REFUSED_SLOTS 5  /* more result triples than slots, or more bytes than the list has */
 #define WS_REFUSED_QUERY 6  /* a query with a wrong count, variable, kind or code */
 #define WS_REFUSED_FULL 7   /* intake: the triple is new and every slot holds one */
 #define WS_REFUSED_FORM 8   /* the text is not in the site form */
+#define WS_REFUSED_WORDS 10 /* two words are equal, or one is not below N */
 
 /*
  * Own roster: the smallest roster that covers the table.
  *   roster  N bytes, each written.
  * Refusals, in order
- *   1  N out of range; the table not a multiple of 3, or over WS_MAX_TRIPLES triples
- *   3
+ *   1  the words not five; N out of range; the table not a multiple of 3, or over WS_MAX_TRIPLES triples
+ *   10, 3
  * They alter nothing.
  */
-uint32_t ws_own_roster(const uint32_t *table, size_t table_length, uint8_t *roster, size_t roster_length);
+uint32_t ws_own_roster(const uint32_t *words, size_t words_length, const uint32_t *table, size_t table_length,
+                       uint8_t *roster, size_t roster_length);
 
 /*
  * Saturate: the least set of triples that contains the table and is closed under the ten rules: rdfs2, 3, 5, 7, 9, 11, and
@@ -94,41 +105,45 @@ uint32_t ws_own_roster(const uint32_t *table, size_t table_length, uint8_t *rost
  *   result  any length; takes the triples, the rest is zero.
  *   *count  the number of triples.
  * Refusals, in order
- *   1  N out of range; the table not a multiple of 3, or over WS_MAX_TRIPLES triples
- *   2, 3, 4
+ *   1  the words not five; N out of range; the table not a multiple of 3, or over WS_MAX_TRIPLES triples
+ *   10, 2, 3, 4
  *   5  the saturation has more triples than the result has slots: the result is zero
  * The others alter nothing.
  */
-uint32_t ws_saturate(const uint32_t *table, size_t table_length, const uint8_t *roster, size_t roster_length,
-                     uint32_t *result, size_t result_length, size_t *count);
+uint32_t ws_saturate(const uint32_t *words, size_t words_length, const uint32_t *table, size_t table_length,
+                     const uint8_t *roster, size_t roster_length, uint32_t *result, size_t result_length,
+                     size_t *count);
 
 /*
  * Cliques: for each code taken as a property, the smallest property in its source clique and in its target clique, or
  * WS_ABSENT where it has none.
  *   sources, targets  N numbers each, all written.
  * Refusals, in order
- *   1  N out of range; the table not a multiple of 3, or over WS_MAX_TRIPLES triples; a clique list not of N numbers
- *   2, 3, 4
+ *   1  the words not five; N out of range; the table not a multiple of 3, or over WS_MAX_TRIPLES triples; a clique list not
+ *      of N numbers
+ *   10, 2, 3, 4
  * They alter nothing.
  */
-uint32_t ws_cliques(const uint32_t *table, size_t table_length, const uint8_t *roster, size_t roster_length,
-                    uint32_t *sources, size_t sources_length, uint32_t *targets, size_t targets_length);
+uint32_t ws_cliques(const uint32_t *words, size_t words_length, const uint32_t *table, size_t table_length,
+                    const uint8_t *roster, size_t roster_length, uint32_t *sources, size_t sources_length,
+                    uint32_t *targets, size_t targets_length);
 
 /*
  * Summarise: the table's triples with each subject and object replaced by its representative.
  *   result  any length; takes the summary, the rest is zero.
- *   map     N numbers: each node's representative, WS_ABSENT for a code that is no node.
+ *   map     N numbers: each node's representative, WS_ABSENT for a code that is no node, so for each word.
  *   work    2 * N numbers with any content; zero afterwards.
  *   *count  the number of triples of the summary.
  * Refusals, in order
- *   1  N out of range; the table not a multiple of 3, or over WS_MAX_TRIPLES triples; map or work of another length
- *   2, 3, 4
+ *   1  the words not five; N out of range; the table not a multiple of 3, or over WS_MAX_TRIPLES triples; map or work of
+ *      another length
+ *   10, 2, 3, 4
  *   5  the summary has more triples than the result has slots: result, map and work are zero
  * The others alter nothing.
  */
-uint32_t ws_summarise(const uint32_t *table, size_t table_length, const uint8_t *roster, size_t roster_length,
-                      uint32_t *result, size_t result_length, uint32_t *map, size_t map_length, uint32_t *work,
-                      size_t work_length, size_t *count);
+uint32_t ws_summarise(const uint32_t *words, size_t words_length, const uint32_t *table, size_t table_length,
+                      const uint8_t *roster, size_t roster_length, uint32_t *result, size_t result_length,
+                      uint32_t *map, size_t map_length, uint32_t *work, size_t work_length, size_t *count);
 
 /*
  * Look up: whether a triple is in a list, in any order.
@@ -142,21 +157,21 @@ uint32_t ws_look_up(const uint32_t *list, size_t list_length, uint32_t subject, 
 
 /*
  * Ask: whether some choice of nodes for the variables puts every pattern of the query in the table.
- *   table   any triples below N, in any order; N is the map's length.
+ *   table   any triples below N, in any order; N, for the words too, is the map's length.
  *   map     a code at an end of a pattern stands for its entry here. A property is taken as it is.
  *   query   a flat query of WS_QUERY_NUMBERS numbers: the count of patterns, then five numbers for each of eight patterns:
  *           subject kind (WS_VARIABLE or WS_CODE), subject value, property, object kind, object value.
- *           Patterns past the count are not looked at.
+ *           Patterns past the count are not looked at. A property may be a word.
  *   *maybe  1 for "maybe", 0 for "none". On a table without triples it is 0.
  * Refusals, in order
- *   1  the query not of WS_QUERY_NUMBERS numbers; N out of range; the table not a multiple of 3, or over WS_MAX_TRIPLES
- *      triples
- *   3
+ *   1  the words not five; the query not of WS_QUERY_NUMBERS numbers; N out of range; the table not a multiple of 3, or over
+ *      WS_MAX_TRIPLES triples
+ *   10, 3
  *   6  a count of 0 or over 8; in a counted pattern a kind over 1, a variable over 7, or a code or property not below N
  * They alter nothing.
  */
-uint32_t ws_ask(const uint32_t *table, size_t table_length, const uint32_t *map, size_t map_length,
-                const uint32_t *query, size_t query_length, uint32_t *maybe);
+uint32_t ws_ask(const uint32_t *words, size_t words_length, const uint32_t *table, size_t table_length,
+                const uint32_t *map, size_t map_length, const uint32_t *query, size_t query_length, uint32_t *maybe);
 
 /*
  * Open an intake: it holds no triple.
@@ -164,16 +179,18 @@ uint32_t ws_ask(const uint32_t *table, size_t table_length, const uint32_t *map,
  *   map               N numbers; all WS_ABSENT afterwards.
  *   *held, *summarised  0 afterwards.
  * Refusals, in order
- *   1  N out of range; the map not of N numbers; triples and summary of unequal slots, or over WS_MAX_TRIPLES slots
- *   2
+ *   1  the words not five; N out of range; the map not of N numbers; triples and summary of unequal slots, or over
+ *      WS_MAX_TRIPLES slots
+ *   10, 2
  * They alter nothing.
  */
-uint32_t ws_open(const uint8_t *roster, size_t roster_length, uint32_t *triples, size_t triples_length,
-                 uint32_t *summary, size_t summary_length, uint32_t *map, size_t map_length, size_t *held,
-                 size_t *summarised);
+uint32_t ws_open(const uint32_t *words, size_t words_length, const uint8_t *roster, size_t roster_length,
+                 uint32_t *triples, size_t triples_length, uint32_t *summary, size_t summary_length, uint32_t *map,
+                 size_t map_length, size_t *held, size_t *summarised);
 
 /*
- * Feed an intake one triple. Lend the roster of the opening, and the lists and counts as the call before left them.
+ * Feed an intake one triple. Lend the words and the roster of the opening, and the lists and counts as the call before left
+ * them.
  *   triples      the distinct triples fed so far, in rising order, zero beyond.
  *   summary      their summary, zero beyond.
  *   map          their map.
@@ -182,49 +199,53 @@ uint32_t ws_open(const uint8_t *roster, size_t roster_length, uint32_t *triples,
  *   *summarised  the number of triples of their summary.
  *   *is_new      1 if the triple was new, 0 if it was held already; then the work list is zero and all else stays as it is.
  * Refusals, in order
- *   1  N out of range; map, work, triples or summary of a wrong length
- *   2
+ *   1  the words not five; N out of range; map, work, triples or summary of a wrong length
+ *   10, 2
  *   3  of the fed triple
  *   4  of the fed triple
  *   7  the triple is new and every slot holds one; a triple that is held passes
  * They alter nothing, not even the work list.
- * If lists, counts or roster were altered between calls: the call ends safely, refusals 1 to 4 hold as above, any other answer
- * is acceptance or 7, and the lists keep their lengths; their contents are open.
+ * If lists or counts were altered between calls, the call ends safely, refusals 1, 10, 2, 3 and 4 hold as above, any other
+ * answer is acceptance or 7, and the lists keep their lengths; their contents are open. Another roster or another word table
+ * than at opening counts as altered state of an intake.
  */
-uint32_t ws_feed(const uint8_t *roster, size_t roster_length, uint32_t *triples, size_t triples_length,
-                 uint32_t *summary, size_t summary_length, uint32_t *map, size_t map_length, uint32_t *work,
-                 size_t work_length, uint32_t subject, uint32_t property, uint32_t object, size_t *held,
-                 size_t *summarised, uint32_t *is_new);
+uint32_t ws_feed(const uint32_t *words, size_t words_length, const uint8_t *roster, size_t roster_length,
+                 uint32_t *triples, size_t triples_length, uint32_t *summary, size_t summary_length, uint32_t *map,
+                 size_t map_length, uint32_t *work, size_t work_length, uint32_t subject, uint32_t property,
+                 uint32_t object, size_t *held, size_t *summarised, uint32_t *is_new);
 
 /*
- * Write the site form: the line (site N), then a line (t S P O) for each triple of the table in its order.
- *   n       the site size.
+ * Write the site form: the line (site N), then, unless the words are 0, 1, 2, 3, 4 in this sequence, the line
+ * (words A B C D E), then a line (t S P O) for each triple of the table in its order.
+ *   n       the site size N.
  *   out     any length; takes the bytes, the rest is zero. There is no closing zero byte of its own.
  *   *count  the number of bytes.
  * Refusals, in order
- *   1  n out of range; the table not a multiple of 3, or over WS_MAX_TEXT_TRIPLES triples
- *   3
+ *   1  the words not five; n out of range; the table not a multiple of 3, or over WS_MAX_TEXT_TRIPLES triples
+ *   10, 3
  *   5  more bytes than out has: out is zero
  * The others alter nothing.
  */
-uint32_t ws_write(uint32_t n, const uint32_t *table, size_t table_length, uint8_t *out, size_t out_length,
-                  size_t *count);
+uint32_t ws_write(const uint32_t *words, size_t words_length, uint32_t n, const uint32_t *table, size_t table_length,
+                  uint8_t *out, size_t out_length, size_t *count);
 
 /*
- * Read the site form.
+ * Read the site form: the line (site N), a line (words A B C D E) or none, lines (t S P O), lines (ask PATTERN ...).
  *   list     any length; takes the triples as they stand in the text, repeats too; the rest is zero.
  *   queries  WS_QUERIES_NUMBERS numbers: sixteen flat queries. Those past *asks, and patterns past a count, are zero.
+ *   words    WS_WORDS_NUMBERS numbers: the words as they stand in the text, 0 to 4 where it has no such line.
  *   *n       N as it stands in the text; any number of 32 bits.
  *   *count   the number of triples.
  *   *asks    the number of queries.
- * Reading judges the form only: N, codes and variables may be any numbers of 32 bits.
+ * Reading judges the form only: N, words, codes and variables may be any numbers of 32 bits.
  * Refusals, in order
- *   1  queries not of WS_QUERIES_NUMBERS numbers: nothing is altered
- *   8  the text is not in the site form: list and queries are zero, *n, *count and *asks are 0
+ *   1  queries not of WS_QUERIES_NUMBERS numbers, or words not of WS_WORDS_NUMBERS: nothing is altered
+ *   8  the text is not in the site form: list and queries are zero, words are 0 to 4, *n, *count and *asks are 0
  *   5  more triples than the list has slots: the same
  */
 uint32_t ws_read(const uint8_t *text, size_t text_length, uint32_t *list, size_t list_length, uint32_t *queries,
-                 size_t queries_length, uint32_t *n, size_t *count, size_t *asks);
+                 size_t queries_length, uint32_t *words, size_t words_length, uint32_t *n, size_t *count,
+                 size_t *asks);
 
 #ifdef __cplusplus
 }

@@ -1,6 +1,6 @@
 //! Ask, on a table and on its summary.
 
-use crate::inputs::{self, Input};
+use crate::inputs::{self, Input, WORDS};
 use crate::measure::{heading, measure, series, sizes, Settings, Timing};
 use weak_summary::calls as proved;
 use weak_summary_reference::{self as plain, QUERY_NUMBERS};
@@ -20,7 +20,7 @@ fn as_summary(input: &Input) -> Asked {
     let mut table = vec![0; input.table.len()];
     let (mut map, mut work) = (vec![0; input.n], vec![0; 2 * input.n]);
     let mut count = 0;
-    plain::summarise(&input.table, &input.roster, &mut table, &mut map, &mut work, &mut count);
+    plain::summarise(&WORDS, &input.table, &input.roster, &mut table, &mut map, &mut work, &mut count);
     table.truncate(3 * count);
     Asked { table, map }
 }
@@ -43,8 +43,8 @@ fn ask(settings: &Settings, asked: &Asked, query: &[u32]) -> Timing {
     measure(
         settings,
         (&[9, 9], &[9, 9]),
-        |l| l[0] = proved::ask(table, map, query, &mut l[1]),
-        |l| l[0] = plain::ask(table, map, query, &mut l[1]),
+        |l| l[0] = proved::ask(&WORDS, table, map, query, &mut l[1]),
+        |l| l[0] = plain::ask(&WORDS, table, map, query, &mut l[1]),
         |a, b| {
             let result = if a[1] == 1 { "maybe" } else { "none" };
             if a == b && a[0] == 0 {
@@ -58,7 +58,7 @@ fn ask(settings: &Settings, asked: &Asked, query: &[u32]) -> Timing {
 
 /// Property 5 leads from kind 0 to kind 0 and property 6 from kind 1 to kind 7, so the second query has no match.
 fn queries(asked: &Asked) -> [(&'static str, Vec<u32>); 4] {
-    let data = asked.table.chunks_exact(3).rfind(|t| t[1] >= plain::FIRST_FREE).unwrap();
+    let data = asked.table.chunks_exact(3).rfind(|t| t[1] >= inputs::FIRST_FREE).unwrap();
     let (s, p, o) = (data[0], data[1], data[2]);
     [
         ("one pattern of two codes", query(&[[1, s, p, 1, o]])),

@@ -1,9 +1,9 @@
 //! Feeding an intake that holds a table.
 
-use crate::inputs::{self, Random, FRESH, SITE};
+use crate::inputs::{self, Random, FIRST_FREE, FRESH, SITE, TYPE, WORDS};
 use crate::measure::{heading, measure, series, sizes, Settings, Timing};
 use weak_summary::calls::{self as proved, Lent};
-use weak_summary_reference::{feed_fast, feed_lists_only, FastIntake, Fed, FIRST_FREE, MAX_TRIPLES, TYPE};
+use weak_summary_reference::{feed_fast, feed_lists_only, FastIntake, Fed, Words, MAX_TRIPLES};
 
 /// Feeds per run; times are for one feed.
 const FEEDS: usize = 16;
@@ -30,6 +30,7 @@ struct Plain {
 fn feed(l: &mut Intake, roster: &[u8], t: [u32; 3]) {
     let mut is_new = 9;
     let lent = Lent {
+        words: &WORDS,
         roster,
         triples: &mut l.triples,
         summary: &mut l.summary,
@@ -61,7 +62,7 @@ type PlainFeed = fn(&mut FastIntake, [u32; 3]) -> Fed;
 
 /// Both intakes holding the data-heavy table, as feeding its triples would leave them.
 fn holding(table: &[u32], roster: &[u8]) -> (Intake, Plain) {
-    let intake = FastIntake::holding(roster, table.len() / 3 + FEEDS, table);
+    let intake = FastIntake::holding(Words::new(WORDS), roster, table.len() / 3 + FEEDS, table);
     let ours = Intake {
         triples: intake.triples.clone(),
         summary: intake.summary.clone(),

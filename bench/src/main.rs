@@ -28,9 +28,9 @@ How it is measured:
 - After each line both engines' answers and all lists that they wrote are compared; a difference ends the run.
 - The ratio is proved over plain: below 1 the proved engine is faster. \"Per doubling\" is the time over that of the line
   before, whose size is half: 2 is linear, 4 quadratic.
-- Inputs come from a fixed seed. Data-heavy: fifteen of 16 triples are data, nodes of 32 kinds, 128 properties, 64 classes.
-  Type-heavy: fourteen of 16 are types. One class: one property links all nodes. All nodes marked: the summary is the table,
-  which comes in falling order.";
+- Inputs come from a fixed seed; the words are 0 to 4. Data-heavy: fifteen of 16 triples are data, nodes of 32 kinds, 128
+  properties, 64 classes. Type-heavy: fourteen of 16 are types. One class: one property links all nodes. All nodes marked: the
+  summary is the table, which comes in falling order.";
 
 /// The name by which a section is chosen, and what prints it.
 type Section = (&'static str, fn(&Settings));

@@ -1,6 +1,6 @@
 //! Own roster, saturate, cliques, summarise and look up.
 
-use crate::inputs::{self, Input};
+use crate::inputs::{self, Input, WORDS};
 use crate::measure::{heading, measure, series, sizes, Settings, Timing};
 use weak_summary::calls as proved;
 use weak_summary_reference as plain;
@@ -51,8 +51,8 @@ fn own_roster(settings: &Settings, input: &Input) -> Timing {
     time(
         settings,
         &ones(input.n, [0; 3]),
-        |l| proved::own_roster(table, &mut l.roster),
-        |l| plain::own_roster(table, &mut l.roster),
+        |l| proved::own_roster(&WORDS, table, &mut l.roster),
+        |l| plain::own_roster(&WORDS, table, &mut l.roster),
     )
 }
 
@@ -61,13 +61,13 @@ fn saturate(settings: &Settings, input: &Input, short: usize) -> Timing {
     let (table, roster) = (&input.table, &input.roster);
     let mut count = 0;
     let mut room = vec![0; 3 * (16 << 20)];
-    assert_eq!(plain::saturate(table, roster, &mut room, &mut count), 0);
+    assert_eq!(plain::saturate(&WORDS, table, roster, &mut room, &mut count), 0);
     drop(room);
     time(
         settings,
         &ones(0, [3 * (count - short), 0, 0]),
-        |l| proved::saturate(table, roster, &mut l.lists[0], &mut l.count),
-        |l| plain::saturate(table, roster, &mut l.lists[0], &mut l.count),
+        |l| proved::saturate(&WORDS, table, roster, &mut l.lists[0], &mut l.count),
+        |l| plain::saturate(&WORDS, table, roster, &mut l.lists[0], &mut l.count),
     )
 }
 
@@ -78,11 +78,11 @@ fn cliques(settings: &Settings, input: &Input) -> Timing {
         &ones(0, [input.n, input.n, 0]),
         |l| {
             let [sources, targets, _] = &mut l.lists;
-            proved::cliques(table, roster, sources, targets)
+            proved::cliques(&WORDS, table, roster, sources, targets)
         },
         |l| {
             let [sources, targets, _] = &mut l.lists;
-            plain::cliques(table, roster, sources, targets)
+            plain::cliques(&WORDS, table, roster, sources, targets)
         },
     )
 }
@@ -95,11 +95,11 @@ fn summarise(settings: &Settings, input: &Input, slots: usize) -> Timing {
         &ones(0, [3 * slots, input.n, 2 * input.n]),
         |l| {
             let [result, map, work] = &mut l.lists;
-            proved::summarise(table, roster, result, map, work, &mut l.count)
+            proved::summarise(&WORDS, table, roster, result, map, work, &mut l.count)
         },
         |l| {
             let [result, map, work] = &mut l.lists;
-            plain::summarise(table, roster, result, map, work, &mut l.count)
+            plain::summarise(&WORDS, table, roster, result, map, work, &mut l.count)
         },
     )
 }

@@ -1,5 +1,5 @@
-/* The papers' example through the C interface: read, own roster, saturate, summarise, ask, and an intake. Each result is checked
-   against the papers'. */
+/* The papers' example through the C interface: read, own roster, saturate, summarise, ask, and an intake; then the same with
+   other words than 0 to 4. Each result is checked against the papers'. */
 #include <stdio.h>
 #include <string.h>
 
@@ -18,9 +18,22 @@ static const uint32_t SUMMARY[] = {5,  2, 7, 5,  3, 8, 5,  3, 9,  6,  2, 7,  6, 
 static const uint32_t MAP[N] = {WS_ABSENT, WS_ABSENT, WS_ABSENT, WS_ABSENT, WS_ABSENT, 5,  6,
                                 7,         8,         9,         10,        10,        12, 12};
 
+/* The same with the words 10 to 14: a code p below 5 is written p + 10, any other code c is written c - 5. */
+#define OTHER_N 24
+static const char *const OTHER_TEXT =
+    "(site 24)\n(words 10 11 12 13 14)\n(t 0 12 2)\n(t 1 12 2)\n(t 2 13 3)\n(t 3 11 4)\n(t 5 0 7)\n(t 6 1 8)\n"
+    "(ask ((v 0) 0 (v 1)) ((v 0) 1 (v 2)))\n(ask ((v 0) 2 (v 1)) ((v 1) 2 (v 2)))\n";
+
+static const uint32_t OTHER_WORDS[WS_WORDS_NUMBERS] = {10, 11, 12, 13, 14};
+
+static const uint32_t OTHER_SUMMARY[] = {0, 12, 2, 0, 13, 3, 0, 13, 4, 1, 12, 2, 1, 13, 3, 1, 13, 4, 2, 13, 3,
+                                         2, 13, 4, 3, 11, 4, 5, 0,  7, 5, 1,  7, 5, 2,  7, 5, 10, 3, 5, 10, 4};
+
+static const uint32_t OTHER_MAP[9] = {0, 1, 2, 3, 4, 5, 5, 7, 7};
+
 static uint32_t table[3 * SLOTS], saturated[3 * SLOTS], summary[3 * SLOTS];
-static uint32_t queries[WS_QUERIES_NUMBERS], map[N], work[2 * N];
-static uint8_t roster[N];
+static uint32_t queries[WS_QUERIES_NUMBERS], words[WS_WORDS_NUMBERS], map[OTHER_N], work[2 * OTHER_N];
+static uint8_t roster[OTHER_N];
 static int failures;
 
 static void check(int holds, const char *what) {
@@ -36,43 +49,59 @@ static void print_triples(const uint32_t *list, size_t count) {
     }
 }
 
-/* Saturates the table and summarises the saturation. */
-static size_t saturate_and_summarise(size_t given) {
+/* Reads a text with six triples, two queries and these words, and gives N. */
+static uint32_t read_text(const char *text, const uint32_t *expected) {
+    uint32_t n = 0;
+    size_t given = 0, asks = 0;
+    uint32_t status = ws_read((const uint8_t *)text, strlen(text), table, 3 * SLOTS, queries, WS_QUERIES_NUMBERS, words,
+                              WS_WORDS_NUMBERS, &n, &given, &asks);
+    check(status == WS_OK && given == 6 && asks == 2, "six triples and two queries read");
+    check(memcmp(words, expected, sizeof words) == 0, "words of the text");
+    return n;
+}
+
+/* Saturates the six triples into this many numbers. */
+static uint32_t saturate(uint32_t n, uint32_t *result, size_t result_length, size_t *count) {
+    return ws_saturate(words, WS_WORDS_NUMBERS, table, 18, roster, n, result, result_length, count);
+}
+
+/* Saturates the six triples and summarises the saturation. */
+static size_t saturate_and_summarise(uint32_t n) {
     size_t all = 0, count = 0;
-    check(ws_own_roster(table, 3 * given, roster, N) == WS_OK, "own roster accepted");
-    check(ws_saturate(table, 3 * given, roster, N, saturated, 3 * SLOTS, &all) == WS_OK, "saturation accepted");
+    check(ws_own_roster(words, WS_WORDS_NUMBERS, table, 18, roster, n) == WS_OK, "own roster accepted");
+    check(saturate(n, saturated, 3 * SLOTS, &all) == WS_OK, "saturation accepted");
     check(all == 17, "saturation has 17 triples");
-    check(ws_saturate(table, 3 * given, roster, N, summary, 51, &all) == WS_OK, "saturation fits in 51 numbers");
-    check(ws_saturate(table, 3 * given, roster, N, summary, 50, &all) == WS_REFUSED_SLOTS, "50 numbers are refused with 5");
-    check(ws_summarise(saturated, 3 * all, roster, N, summary, 3 * SLOTS, map, N, work, 2 * N, &count) == WS_OK,
-          "summary accepted");
+    check(saturate(n, summary, 51, &all) == WS_OK, "saturation fits in 51 numbers");
+    check(saturate(n, summary, 50, &all) == WS_REFUSED_SLOTS, "50 numbers are refused with 5");
+    uint32_t status = ws_summarise(words, WS_WORDS_NUMBERS, saturated, 3 * all, roster, n, summary, 3 * SLOTS, map, n, work,
+                                   2 * n, &count);
+    check(status == WS_OK, "summary accepted");
     print_triples(summary, count);
-    check(count == 14 && memcmp(summary, SUMMARY, sizeof SUMMARY) == 0, "summary of 14 triples");
-    check(memcmp(map, MAP, sizeof MAP) == 0, "map");
     return count;
 }
 
-static void ask_both(size_t count) {
+static void ask_both(uint32_t n, size_t count) {
     static const uint32_t expected[2] = {1, 0};
     for (size_t k = 0; k < 2; k++) {
         uint32_t maybe = 2;
         const uint32_t *query = queries + WS_QUERY_NUMBERS * k;
-        uint32_t status = ws_ask(summary, 3 * count, map, N, query, WS_QUERY_NUMBERS, &maybe);
+        uint32_t status = ws_ask(words, WS_WORDS_NUMBERS, summary, 3 * count, map, n, query, WS_QUERY_NUMBERS, &maybe);
         printf("(ask %s)\n", maybe == 1 ? "maybe" : "none");
         check(status == WS_OK && maybe == expected[k], k == 0 ? "first query: maybe" : "second query: none");
     }
 }
 
 /* Feeds the six triples, last first, each twice, to an intake of six slots. */
-static void feed_all(size_t given) {
-    static uint32_t held_triples[18], held_summary[18], held_map[N];
+static void feed_all(uint32_t n) {
+    static uint32_t held_triples[18], held_summary[18], held_map[OTHER_N];
     size_t held = 0, summarised = 0;
-    int right = ws_open(roster, N, held_triples, 18, held_summary, 18, held_map, N, &held, &summarised) == WS_OK;
-    for (size_t i = 0; i < 2 * given; i++) {
-        const uint32_t *t = table + 3 * (given - 1 - i / 2);
+    int right = ws_open(words, WS_WORDS_NUMBERS, roster, n, held_triples, 18, held_summary, 18, held_map, n, &held,
+                        &summarised) == WS_OK;
+    for (size_t i = 0; i < 12; i++) {
+        const uint32_t *t = table + 3 * (5 - i / 2);
         uint32_t is_new = 2;
-        uint32_t status = ws_feed(roster, N, held_triples, 18, held_summary, 18, held_map, N, work, 2 * N, t[0], t[1], t[2],
-                                  &held, &summarised, &is_new);
+        uint32_t status = ws_feed(words, WS_WORDS_NUMBERS, roster, n, held_triples, 18, held_summary, 18, held_map, n, work,
+                                  2 * n, t[0], t[1], t[2], &held, &summarised, &is_new);
         right = right && status == WS_OK && is_new == (i % 2 == 0);
     }
     check(right, "each triple is new once; a repeat fed to a full intake passes");
@@ -81,15 +110,60 @@ static void feed_all(size_t given) {
     print_triples(held_summary, summarised);
 }
 
+static void the_papers_words(void) {
+    static const uint32_t rdfs[WS_WORDS_NUMBERS] = WS_RDFS_WORDS;
+    check(read_text(TEXT, rdfs) == N, "site of 14");
+    size_t count = saturate_and_summarise(N);
+    check(count == 14 && memcmp(summary, SUMMARY, sizeof SUMMARY) == 0, "summary of 14 triples");
+    check(memcmp(map, MAP, sizeof MAP) == 0, "map");
+    ask_both(N, count);
+    feed_all(N);
+}
+
+/* The words stand in the text that is written, too. */
+static void write_back(void) {
+    static uint8_t out[200];
+    size_t count = 0;
+    check(ws_write(words, WS_WORDS_NUMBERS, OTHER_N, table, 18, out, sizeof out, &count) == WS_OK, "text accepted");
+    check(count == (size_t)(strstr(OTHER_TEXT, "(ask") - OTHER_TEXT) && memcmp(out, OTHER_TEXT, count) == 0,
+          "text written with the words");
+}
+
+static void other_words(void) {
+    int absent = 1;
+    check(read_text(OTHER_TEXT, OTHER_WORDS) == OTHER_N, "site of 24");
+    size_t count = saturate_and_summarise(OTHER_N);
+    check(count == 14 && memcmp(summary, OTHER_SUMMARY, sizeof OTHER_SUMMARY) == 0, "summary of 14 triples, other words");
+    for (size_t c = 9; c < OTHER_N; c++) {
+        absent = absent && map[c] == WS_ABSENT;
+    }
+    check(absent && memcmp(map, OTHER_MAP, sizeof OTHER_MAP) == 0, "map, other words");
+    ask_both(OTHER_N, count);
+    feed_all(OTHER_N);
+    write_back();
+}
+
+/* Asks for the own roster with words that are refused. */
+static uint32_t refusal(const uint32_t *wrong, size_t length) {
+    return ws_own_roster(wrong, length, table, 18, roster, OTHER_N);
+}
+
+static void refused_words(void) {
+    static const uint32_t equal[WS_WORDS_NUMBERS] = {10, 11, 12, 13, 13};
+    static const uint32_t too_large[WS_WORDS_NUMBERS] = {10, 11, 12, 13, OTHER_N};
+    uint8_t before[OTHER_N];
+    memset(before, 9, OTHER_N);
+    memcpy(roster, before, OTHER_N);
+    check(refusal(equal, WS_WORDS_NUMBERS) == WS_REFUSED_WORDS, "equal words are refused with 10");
+    check(refusal(too_large, WS_WORDS_NUMBERS) == WS_REFUSED_WORDS, "a word not below N is refused with 10");
+    check(refusal(OTHER_WORDS, 4) == WS_REFUSED_LENGTH, "four words are refused with 1");
+    check(memcmp(roster, before, OTHER_N) == 0, "refused calls alter nothing");
+}
+
 int main(void) {
-    uint32_t n = 0;
-    size_t given = 0, asks = 0;
-    uint32_t status = ws_read((const uint8_t *)TEXT, strlen(TEXT), table, 3 * SLOTS, queries, WS_QUERIES_NUMBERS, &n, &given,
-                              &asks);
-    check(status == WS_OK && n == N && given == 6 && asks == 2, "site of 14, six triples, two queries read");
-    size_t count = saturate_and_summarise(given);
-    ask_both(count);
-    feed_all(given);
+    the_papers_words();
+    other_words();
+    refused_words();
     printf("C example: %d results differ from the papers'\n", failures);
     return failures != 0;
 }

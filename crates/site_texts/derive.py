@@ -6,13 +6,16 @@ import pathlib
 import re
 
 ABSENT = 4294967295
+# the codes of type, subclass, subproperty, domain and range where a text loads no others
+RDFS = (0, 1, 2, 3, 4)
 NUMBER = rb"(?:0|[1-9][0-9]*)"
 END = rb"\((?:v|c) " + NUMBER + rb"\)"
 PATTERN = rb"\(" + END + rb" " + NUMBER + rb" " + END + rb"\)"
 SITE = rb"\(site " + NUMBER + rb"\)\n"
+WORDS = rb"\(words" + (rb" " + NUMBER) * 5 + rb"\)\n"
 TRIPLE = rb"\(t " + NUMBER + rb" " + NUMBER + rb" " + NUMBER + rb"\)\n"
 ASK = rb"\(ask(?: " + PATTERN + rb"){1,8}\)\n"
-FORM = re.compile(SITE + rb"(?:" + TRIPLE + rb"){0,1000}(?:" + ASK + rb"){0,16}")
+FORM = re.compile(SITE + rb"(?:" + WORDS + rb")?(?:" + TRIPLE + rb"){0,1000}(?:" + ASK + rb"){0,16}")
 
 
 def numbers(line):
@@ -20,7 +23,7 @@ def numbers(line):
 
 
 def read(text):
-    """N, triples and queries of a text of the site form, else None."""
+    """N, the five reserved codes, triples and queries of a text of the site form, else None."""
     if FORM.fullmatch(text) is None or any(x > ABSENT for x in numbers(text)):
         return None
     lines = text.split(b"\n")
@@ -30,7 +33,8 @@ def read(text):
         if line.startswith(b"(ask"):
             parts = re.findall(rb"\(\((v|c) ([0-9]+)\) ([0-9]+) \((v|c) ([0-9]+)\)\)", line)
             queries.append([(a.decode(), int(x), int(p), b.decode(), int(y)) for a, x, p, b, y in parts])
-    return numbers(lines[0])[0], triples, queries
+    words = tuple(numbers(lines[1])) if lines[1].startswith(b"(words") else RDFS
+    return numbers(lines[0])[0], words, triples, queries
 
 
 def digest(numbers):
@@ -47,57 +51,61 @@ def shown_query(query):
 
 
 def shown_read(form, length):
-    """What reading into a list of this length gives: 8, then 5."""
+    """What reading into a list of this length gives: 8, then 5. The reserved codes have a line if they are not 0 to 4."""
     if form is None:
         return ["(read 8 0 0 0 0)"]
-    n, triples, queries = form
+    n, words, triples, queries = form
     if len(triples) > length // 3:
         return ["(read 5 0 0 0 0)"]
     flat = [x for t in triples for x in t]
     flat += [0] * (length - len(flat))
     lines = ["(read 0 %d %d %d %d)" % (n, len(triples), len(queries), digest(flat))]
+    if words != RDFS:
+        lines.append("(words %d %d %d %d %d)" % words)
     lines += ["(t %d %d %d)" % t for t in triples[:4]]
     return lines + [shown_query(q) for q in queries]
 
 
-def marks(triples):
+def marks(words, triples):
+    type_, subclass, subproperty, domain, range_ = words
     classes, properties = set(), set()
     for s, p, o in triples:
-        classes |= {0: {o}, 1: {s, o}, 3: {o}, 4: {o}}.get(p, set())
-        properties |= {2: {s, o}, 3: {s}, 4: {s}}.get(p, {p} if p >= 5 else set())
+        classes |= {type_: {o}, subclass: {s, o}, domain: {o}, range_: {o}}.get(p, set())
+        properties |= {subproperty: {s, o}, domain: {s}, range_: {s}}.get(p, set() if p in words else {p})
     return classes | properties
 
 
-def conclusions(x, y):
+def conclusions(words, x, y):
     """What the ten rules give with x as first premise and y as second."""
+    type_, subclass, subproperty, domain, range_ = words
     (a, p, c), (s, q, o) = x, y
-    if p == 3 and q == a:
-        yield (s, 0, c)
-    if p == 4 and q == a:
-        yield (o, 0, c)
-    if p == 2 and q == 2 and c == s:
-        yield (a, 2, o)
-    if p == 2 and q == a:
+    if p == domain and q == a:
+        yield (s, type_, c)
+    if p == range_ and q == a:
+        yield (o, type_, c)
+    if p == subproperty and q == subproperty and c == s:
+        yield (a, subproperty, o)
+    if p == subproperty and q == a:
         yield (s, c, o)
-    if p == 1 and q == 0 and o == a:
-        yield (s, 0, c)
-    if p == 1 and q == 1 and c == s:
-        yield (a, 1, o)
-    if p == 2 and q in (3, 4) and c == s:
+    if p == subclass and q == type_ and o == a:
+        yield (s, type_, c)
+    if p == subclass and q == subclass and c == s:
+        yield (a, subclass, o)
+    if p == subproperty and q in (domain, range_) and c == s:
         yield (a, q, o)
-    if p in (3, 4) and q == 1 and c == s:
+    if p in (domain, range_) and q == subclass and c == s:
         yield (a, p, o)
 
 
-def saturated(triples):
+def saturated(words, triples):
     """The closure under the rules: every new triple meets every schema triple."""
     known, fresh = set(), set(triples)
     while fresh:
         known |= fresh
-        schema = [x for x in known if 1 <= x[1] <= 4]
-        fresh_schema = [x for x in fresh if 1 <= x[1] <= 4]
+        schema = [x for x in known if x[1] in words[1:]]
+        fresh_schema = [x for x in fresh if x[1] in words[1:]]
         pairs = itertools.chain(itertools.product(schema, fresh), itertools.product(fresh_schema, known))
-        fresh = {z for x, y in pairs for z in conclusions(x, y)} - known
+        fresh = {z for x, y in pairs for z in conclusions(words, x, y)} - known
     return known
 
 
@@ -116,10 +124,10 @@ def joined(groups):
     return classes
 
 
-def representatives(triples):
-    marked = marks(triples)
+def representatives(words, triples):
+    marked = marks(words, triples)
     nodes = {x for s, p, o in triples for x in (s, o)}
-    data = [t for t in triples if t[1] >= 5]
+    data = [t for t in triples if t[1] not in words]
     free = nodes - marked
     groups = [{n} for n in free]
     have = set()
@@ -156,15 +164,17 @@ def wrong_query(query, n):
 
 
 def refusal(text, form):
-    """The printer's checks in the order 8, 1, 3, 5, 6."""
+    """The printer's checks in the order 8, 1, 10, 3, 5, 6."""
     if len(text) > 32768 or form is None:
         return 8
-    n, triples, queries = form
+    n, words, triples, queries = form
     if not 5 <= n <= 512:
         return 1
-    if any(max(t) >= n or t[0] < 5 or t[2] < 5 for t in triples):
+    if len(set(words)) < 5 or max(words) >= n:
+        return 10
+    if any(max(t) >= n or t[0] in words or t[2] in words for t in triples):
         return 3
-    if len(saturated(triples)) > 2048:
+    if len(saturated(words, triples)) > 2048:
         return 5
     if any(wrong_query(q, n) for q in queries):
         return 6
@@ -175,9 +185,9 @@ def printed(text, form):
     r = refusal(text, form)
     if r:
         return ["(refused %d)" % r]
-    n, triples, queries = form
-    table = saturated(triples)
-    map_of = representatives(table)
+    n, words, triples, queries = form
+    table = saturated(words, triples)
+    map_of = representatives(words, table)
     summary = sorted({(map_of[s], p, map_of[o]) for s, p, o in table})
     lines = ["(summary %d)" % len(summary)] + ["(t %d %d %d)" % t for t in summary]
     lines += ["(rep %d %d)" % (x, map_of[x]) for x in sorted(map_of)]
@@ -261,9 +271,56 @@ def repeats():
     yield site(14, "t 13 5 12", "t 9 6 12", "t 13 6 11", "t 10 5 8")
 
 
+def renamed(words, text):
+    """The text with the reserved codes at `words`, and code c from 5 on at the (c - 5)-th code that is none of them."""
+    free = [c for c in range(512) if c not in words]
+    at = lambda c: words[c] if c < 5 else free[c - 5]
+    triple = lambda m: b"(t %d %d %d)" % tuple(at(int(x)) for x in m.groups())
+    text = re.sub(rb"\(t (\d+) (\d+) (\d+)\)", triple, text)
+    text = re.sub(rb"\(c (\d+)\)", lambda m: b"(c %d)" % at(int(m[1])), text)
+    text = re.sub(rb"\) (\d+) \(", lambda m: b") %d (" % at(int(m[1])), text)
+    return re.sub(rb"\(site \d+\)\n", b"(site 320)\n(words %d %d %d %d %d)\n" % words, text)
+
+
+def loaded_forms():
+    """The second line in its form, or only just."""
+    line = "words 5 6 7 8 9"
+    yield from (site(20, line), site(20, line, line), site(20, "t 10 11 12", line), site(20, "ask ((v 0) 5 (v 1))", line))
+    yield from (b"(words 5 6 7 8 9)\n(site 20)\n", b"(words 5 6 7 8 9)\n", b"(site 20)\n(words 5 6 7 8 9)", b"(site 20)\n\n(words 5 6 7 8 9)\n")
+    yield from (site(20, x) for x in ("words", "words ", "words 5", "words 5 6 7 8", "words 5 6 7 8 9 10", "words 5 6 7 8 9 ", "words  5 6 7 8 9"))
+    yield from (site(20, x) for x in ("words 5  6 7 8 9", "words 05 6 7 8 9", "words 5 6 7 8 09", "words 5 6 7 8 a", "word 5 6 7 8 9", "Words 5 6 7 8 9"))
+    yield from (site(20, "words 4294967295 6 7 8 9"), site(20, "words 4294967296 6 7 8 9"), site(20, "words 5 6 7 8 4294967295"), site(20, "words 5 6 7 8 4294967296"))
+    yield from (site(20, "words 0 1 2 3 4", "t 5 6 7"), site(20, "words 0 1 2 4 3", "t 5 6 7"), site(20, line, "t 0 1 2"), site(20, line, "ask ((v 0) 0 (v 1))"))
+    yield from (site(20, line, *["t 0 1 2"] * k) for k in (2, 1000, 1001))
+    yield site(20, line, *["ask ((v 0) 5 (v 1))"] * 17)
+
+
+def loaded_refusals():
+    """10, alone and with each other refusal of the printer."""
+    wrong = "ask ((v 8) 10 (v 1))"
+    yield from (site(9, "words 0 1 2 3 3"), site(9, "words 3 1 2 0 3"), site(9, "words 0 1 2 3 9"), site(10, "words 0 1 2 3 9"), site(9, "words 9 1 2 3 4"))
+    yield from (site(9, "words %d %d %d %d %d" % tuple(2 if k in pair else k + 4 for k in range(5))) for pair in itertools.combinations(range(5), 2))
+    yield from (site(9, "words %d %d %d %d %d" % tuple(9 if k == j else k for k in range(5))) for j in range(5))
+    yield from (site(n, "words 310 5 6 7 8", "t 0 1 2", "t 4 310 3", "ask ((c 0) 1 (v 0))") for n in (310, 311))
+    yield from (site(n, "words 0 1 2 3 3") for n in (4, 512, 513))
+    yield from (site(n, "words 0 1 2 3 4") for n in (4, 5))
+    yield from (site(9, "words 0 1 2 3 3", "t 5 6 99"), site(9, "words 0 1 2 3 3", wrong), site(9, "words 0 1 2 3 3", "t 5 6 99", wrong))
+    chain = ["t %d 310 %d" % (i, i + 1) for i in range(0, 64)]
+    yield from (site(320, "words 309 310 311 312 313", *chain), site(320, "words 309 310 311 312 312", *chain))
+    yield from (site(320, "words 310 5 6 7 8", x) for x in ("t 310 9 11", "t 11 9 310", "t 11 310 12", "t 5 9 11", "t 11 5 12", "t 0 1 2", "t 0 310 4", "t 3 0 3"))
+    yield from (site(320, "words 310 5 6 7 8", "t 0 1 2", x) for x in ("ask ((c 310) 1 (v 0))", "ask ((c 0) 1 (c 2))", "ask ((v 0) 310 (v 1))", wrong))
+
+
+def loaded_sites():
+    """Sites with reserved codes of their own. Codes 0 to 4 that are none of them are ordinary there."""
+    for words in ((10, 11, 12, 13, 14), (310, 5, 6, 7, 8), (9, 8, 7, 6, 5), (4, 3, 2, 1, 0), (1, 0, 2, 3, 4), (0, 1, 2, 4, 3), (319, 0, 318, 1, 317)):
+        yield from (renamed(words, text) for text in (PAPER, *repeats()))
+
+
 def main():
     small = site(12, "t 10 5 11", "ask ((v 0) 5 (c 11))")
     texts = [PAPER, *forms(), *refusals(), *repeats(), *damaged(small)]
+    texts += [*loaded_forms(), *loaded_refusals(), *loaded_sites(), *damaged(site(9, "words 8 7 6 5 0"))]
     here = pathlib.Path(__file__).parent
     here.joinpath("stdin").write_bytes(b"".join(t + b"%\n" for t in texts))
     lines = []

@@ -4,6 +4,7 @@ use crate::generate;
 use crate::random::Random;
 use crate::report::{Call, Report};
 use crate::tables::run;
+use crate::words::{self, Words};
 use weak_summary::calls as proved;
 use weak_summary_reference as plain;
 use weak_summary_reference::QUERY_NUMBERS;
@@ -11,6 +12,7 @@ use weak_summary_reference::QUERY_NUMBERS;
 /// Everything lent to ask.
 #[derive(Clone, PartialEq, Eq, Debug)]
 pub struct Lent {
+    pub words: Vec<u32>,
     pub table: Vec<u32>,
     pub map: Vec<u32>,
     pub query: Vec<u32>,
@@ -69,15 +71,15 @@ fn damage_query(random: &mut Random, n: usize, query: &mut Vec<u32>) {
 }
 
 /// The map of the table's summary, the same code for each code, or junk.
-fn map_for(random: &mut Random, table: &[u32], n: usize) -> Vec<u32> {
-    let roster = generate::roster(random, n, table);
+fn map_for(random: &mut Random, words: Words, table: &[u32], n: usize) -> Vec<u32> {
+    let roster = generate::roster(random, words, n, table);
     let mut map = vec![0; n];
     match random.below(3) {
         0 => (0..n as u32).collect(),
         1 => (0..n).map(|_| random.pick(&[random_code(n), plain::ABSENT, 5, 6, 7])).collect(),
         _ => {
             let (mut result, mut work) = (vec![0; table.len()], vec![0; 2 * n]);
-            plain::summarise(table, &roster, &mut result, &mut map, &mut work, &mut 0);
+            plain::summarise(&words, table, &roster, &mut result, &mut map, &mut work, &mut 0);
             map
         }
     }
@@ -87,13 +89,13 @@ fn random_code(n: usize) -> u32 {
     (n * 2 / 3) as u32
 }
 
-/// The images of the triples under the map, where it has entries.
-fn image_of(table: &[u32], map: &[u32]) -> Vec<u32> {
+/// The images of the triples under the map, where it has entries that are no words.
+fn image_of(words: Words, table: &[u32], map: &[u32]) -> Vec<u32> {
     let mut image = table.to_vec();
     for t in image.chunks_exact_mut(3) {
         for place in [0, 2] {
             let entry = map[t[place] as usize];
-            if entry as usize > 4 && (entry as usize) < map.len() {
+            if !words.contains(&entry) && (entry as usize) < map.len() {
                 t[place] = entry;
             }
         }
@@ -105,27 +107,29 @@ pub fn ask(random: &mut Random, report: &mut Report) {
     let n = generate::size(random);
     let count = 1 + random.below(8);
     let amount = random.below(MOST[count] + 1);
-    let mut table = generate::table(random, n, amount);
-    let mut map = map_for(random, &table, n);
+    let words = words::right(random, n);
+    let mut table = generate::table(random, words, n, amount);
+    let mut map = map_for(random, words, &table, n);
     if random.chance(50) {
-        table = image_of(&table, &map);
+        table = image_of(words, &table, &map);
     }
     let mut query = query_for(random, &table, &map, count);
     if random.chance(25) {
         damage_query(random, n, &mut query);
     }
     if random.chance(8) {
-        generate::damage_table(random, n, &mut table);
+        generate::damage_table(random, words, n, &mut table);
     }
     if random.chance(4) {
         map.resize(random.pick(&[0, 4, n - 1, n + 1, 65_537]), 5);
     }
-    compare_ask(report, Lent { table, map, query, maybe: random.next() as u32 });
+    let words = words::lent(random, n, words);
+    compare_ask(report, Lent { words, table, map, query, maybe: random.next() as u32 });
 }
 
 pub fn compare_ask(report: &mut Report, before: Lent) {
-    let ours = run(&before, |l| proved::ask(&l.table, &l.map, &l.query, &mut l.maybe));
-    let theirs = run(&before, |l| plain::ask(&l.table, &l.map, &l.query, &mut l.maybe));
+    let ours = run(&before, |l| proved::ask(&l.words, &l.table, &l.map, &l.query, &mut l.maybe));
+    let theirs = run(&before, |l| plain::ask(&l.words, &l.table, &l.map, &l.query, &mut l.maybe));
     let yes = theirs.lent.maybe == 1;
     report.compare(Call::Ask, &before, ours, theirs, yes);
 }

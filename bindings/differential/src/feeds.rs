@@ -4,12 +4,14 @@ use crate::generate::{self, other_length};
 use crate::random::Random;
 use crate::report::{Call, Outcome, Report};
 use crate::tables::run;
+use crate::words::{self, free_code, Words};
 use weak_summary::calls as proved;
 use weak_summary_reference::{self as plain, Mistake, PlainIntake};
 
 /// Everything lent to opening or to a feed.
 #[derive(Clone, PartialEq, Eq, Debug)]
 pub struct Lent {
+    pub words: Vec<u32>,
     pub roster: Vec<u8>,
     pub triples: Vec<u32>,
     pub summary: Vec<u32>,
@@ -22,10 +24,11 @@ pub struct Lent {
 }
 
 /// Lists full of junk.
-fn junk_lists(random: &mut Random, roster: &[u8], slots: usize) -> Lent {
+fn junk_lists(random: &mut Random, words: &[u32], roster: &[u8], slots: usize) -> Lent {
     let n = roster.len();
     let tails = [random.below(3), random.below(3)];
     Lent {
+        words: words.to_vec(),
         roster: roster.to_vec(),
         triples: random.junk(3 * slots + tails[0]),
         summary: random.junk(3 * slots + tails[1]),
@@ -41,10 +44,10 @@ fn junk_lists(random: &mut Random, roster: &[u8], slots: usize) -> Lent {
 /// Opens with both engines and gives what the proved one left.
 pub fn compare_open(report: &mut Report, before: &Lent) -> Outcome<Lent> {
     let ours = run(before, |l| {
-        proved::open(&l.roster, &mut l.triples, &mut l.summary, &mut l.map, &mut l.held, &mut l.summarised)
+        proved::open(&l.words, &l.roster, &mut l.triples, &mut l.summary, &mut l.map, &mut l.held, &mut l.summarised)
     });
     let theirs = run(before, |l| {
-        plain::open(&l.roster, &mut l.triples, &mut l.summary, &mut l.map, &mut l.held, &mut l.summarised)
+        plain::open(&l.words, &l.roster, &mut l.triples, &mut l.summary, &mut l.map, &mut l.held, &mut l.summarised)
     });
     report.compare(Call::Open, before, ours.clone(), theirs, true);
     ours
@@ -53,7 +56,7 @@ pub fn compare_open(report: &mut Report, before: &Lent) -> Outcome<Lent> {
 pub fn open(random: &mut Random, report: &mut Report) {
     let site = generate::site(random);
     let slots = random.below(30);
-    let mut lent = junk_lists(random, &site.roster, slots);
+    let mut lent = junk_lists(random, &site.words, &site.roster, slots);
     if random.chance(40) {
         let list = match random.below(3) {
             0 => &mut lent.triples,
@@ -65,22 +68,24 @@ pub fn open(random: &mut Random, report: &mut Report) {
     compare_open(report, &lent);
 }
 
-/// Opens with a blank roster of n bytes and lists of these slots.
-pub fn open_with(random: &mut Random, report: &mut Report, n: usize, slots: usize) {
-    let lent = junk_lists(random, &vec![0; n], slots);
+/// Opens with these words, a blank roster of n bytes and lists of these slots.
+pub fn open_with(random: &mut Random, report: &mut Report, words: &Words, n: usize, slots: usize) {
+    let lent = junk_lists(random, words, &vec![0; n], slots);
     compare_open(report, &lent);
 }
 
-/// What a feed must answer and leave: refusals 1 and 2 of the lists and the roster, then the plain intake.
+/// What a feed must answer and leave: refusals 1, 10 and 2 of lists, words and a roster that were damaged, then the plain intake.
 fn expected(intake: &mut PlainIntake, lent: &Lent, mistake: Mistake) -> Outcome<Lent> {
     let mut lent = lent.clone();
     let n = intake.roster.len();
     let lists_wrong = lent.triples.len() / 3 != lent.summary.len() / 3 || lent.map.len() != n;
-    if lent.roster.len() != n || lists_wrong {
+    if lent.words.len() != 5 || lent.roster.len() != n || lists_wrong {
         return Outcome { status: plain::LENGTH, lent };
     }
-    if lent.work.len() == 2 * n && lent.roster != intake.roster {
-        return Outcome { status: plain::ROSTER, lent };
+    let as_opened = lent.words == intake.words.codes() && lent.roster == intake.roster;
+    if lent.work.len() == 2 * n && !as_opened {
+        let status = plain::feed_refusal(&lent.words, &lent.roster, lent.fed);
+        return Outcome { status, lent };
     }
     let status = match intake.feed(lent.fed, lent.work.len()) {
         Err(refusal) => refusal,
@@ -98,6 +103,7 @@ fn expected(intake: &mut PlainIntake, lent: &Lent, mistake: Mistake) -> Outcome<
 /// Feeds the proved engine.
 fn feed(l: &mut Lent) -> u32 {
     let lent = proved::Lent {
+        words: &l.words,
         roster: &l.roster,
         triples: &mut l.triples,
         summary: &mut l.summary,
@@ -118,30 +124,36 @@ fn compare_feed(report: &mut Report, intake: &mut PlainIntake, before: &Lent, mi
     left
 }
 
-/// Makes a list's length or the roster wrong for one feed; all other lists stay as the call before left them.
-fn damage(random: &mut Random, lent: &mut Lent) {
+/// Makes a list's length, the roster or the words wrong for one feed; all other lists stay as the call before left them.
+fn damage(random: &mut Random, words: Words, lent: &mut Lent) {
     let n = lent.roster.len();
-    match random.below(6) {
+    match random.below(9) {
         0 => lent.work.resize(other_length(random, 2 * n), 7),
         1 => lent.map.truncate(n - 1),
         2 => lent.triples.extend([0; 3]),
         3 => lent.summary.extend([0; 3]),
         4 => lent.roster[random.below(n)] = 4 + random.below(252) as u8,
-        _ => lent.roster.truncate(n - 1),
+        5 => lent.roster.truncate(n - 1),
+        6 => lent.words.resize(words::other_length(random), 5),
+        _ => {
+            let mut wrong = words;
+            words::spoil(random, n, &mut wrong);
+            lent.words = wrong.to_vec();
+        }
     }
 }
 
 /// A triple to feed: from the table, wrong, or of other codes.
-fn fed(random: &mut Random, table: &[u32], n: usize) -> [u32; 3] {
+fn fed(random: &mut Random, words: Words, table: &[u32], n: usize) -> [u32; 3] {
     let mut t = [0; 3];
     if table.is_empty() || random.chance(4) {
-        let code = |random: &mut Random| 5 + random.below(n.max(6) - 5) as u32;
+        let code = |random: &mut Random| free_code(&words, random.below(n.max(6) - 5));
         return [code(random), random.below(n + 1) as u32, code(random)];
     }
     let i = 3 * random.below(table.len() / 3);
     t.copy_from_slice(&table[i..i + 3]);
     if random.chance(6) {
-        generate::damage_triple(random, n, &mut t);
+        generate::damage_triple(random, words, n, &mut t);
     }
     t
 }
@@ -157,32 +169,49 @@ pub fn feeds(random: &mut Random, report: &mut Report, mistake: Mistake) {
 
 /// A chain of feeds of a random table with n codes.
 pub fn chain(random: &mut Random, report: &mut Report, mistake: Mistake, [n, amount, feeds, slots]: [usize; 4]) {
-    let table = generate::table(random, n, amount);
-    let roster = generate::roster(random, n, &table);
-    let lent = junk_lists(random, &roster, slots);
+    let words = words::right(random, n);
+    let table = generate::table(random, words, n, amount);
+    let roster = generate::roster(random, words, n, &table);
+    let lent = junk_lists(random, &words, &roster, slots);
     let mut state = compare_open(report, &lent).lent;
-    let mut intake = PlainIntake::new(&roster, slots);
+    let mut intake = PlainIntake::new(plain::Words::new(words), &roster, slots);
     for _ in 0..feeds {
         let mut before = state.clone();
         before.work = random.junk(2 * n);
         before.is_new = random.next() as u32;
-        before.fed = fed(random, &table, n);
-        if random.chance(8) {
-            damage(random, &mut before);
-            compare_feed(report, &mut intake, &before, mistake);
-            continue;
+        before.fed = fed(random, words, &table, n);
+        match random.below(100) {
+            0..=7 => {
+                damage(random, words, &mut before);
+                compare_feed(report, &mut intake, &before, mistake);
+            }
+            8 | 9 => {
+                before.words = words::right(random, n).to_vec();
+                compare_altered(report, &before);
+            }
+            _ => state = compare_feed(report, &mut intake, &before, mistake),
         }
-        state = compare_feed(report, &mut intake, &before, mistake);
     }
 }
 
-/// A feed to lists and counts altered by hand. It must end; refusals 1 to 4 hold as ever, any other answer is acceptance or 7, and
-/// what the lists then hold is open.
+/// A feed to an altered state, which another word table than at opening is too. It must end; refusals 1, 10, 2, 3 and 4 hold as
+/// ever, any other answer is acceptance or 7, and what the lists then hold is open.
+fn compare_altered(report: &mut Report, before: &Lent) {
+    let ours = run(before, feed);
+    let mut expected = run(before, |l| plain::feed_refusal(&l.words, &l.roster, l.fed));
+    if expected.status == plain::OK && [plain::OK, plain::FULL].contains(&ours.status) {
+        let lent = Lent { words: before.words.clone(), roster: before.roster.clone(), ..ours.lent.clone() };
+        expected = Outcome { status: ours.status, lent };
+    }
+    report.compare(Call::FeedAltered, before, ours, expected, true);
+}
+
+/// A feed to lists and counts altered by hand.
 pub fn altered(random: &mut Random, report: &mut Report) {
     let site = generate::site(random);
     let n = site.n;
     let slots = random.below(12);
-    let mut before = junk_lists(random, &site.roster, slots);
+    let mut before = junk_lists(random, &site.words, &site.roster, slots);
     before.held = random.pick(&[0, 1, slots, slots + 1, usize::MAX]);
     before.summarised = random.pick(&[0, 1, slots, slots + 1, usize::MAX]);
     if random.chance(60) {
@@ -192,12 +221,6 @@ pub fn altered(random: &mut Random, report: &mut Report) {
         }
     }
     let table = if site.table.len().is_multiple_of(3) { &site.table[..] } else { &[] };
-    before.fed = fed(random, table, n);
-    let ours = run(&before, feed);
-    let mut expected = run(&before, |l| PlainIntake::refusal(&l.roster, l.fed));
-    if expected.status == plain::OK && [plain::OK, plain::FULL].contains(&ours.status) {
-        let lent = Lent { roster: before.roster.clone(), ..ours.lent.clone() };
-        expected = Outcome { status: ours.status, lent };
-    }
-    report.compare(Call::FeedAltered, &before, ours, expected, true);
+    before.fed = fed(random, site.right_words, table, n);
+    compare_altered(report, &before);
 }

@@ -1,41 +1,43 @@
 //! Random sites, valid and damaged.
 
 use crate::random::Random;
+use crate::words::{self, free_code, Words};
 use weak_summary_reference as plain;
 
-/// A range of codes that triples are drawn from.
+/// A range of codes, among those that are no words, that triples are drawn from.
 #[derive(Clone, Copy)]
 struct Pool {
-    start: u32,
+    words: Words,
+    start: usize,
     width: usize,
 }
 
 impl Pool {
-    /// A range of free codes, often narrow, so that triples meet.
-    fn new(random: &mut Random, n: usize) -> Pool {
+    /// Often a narrow range, so that triples meet.
+    fn new(random: &mut Random, words: Words, n: usize) -> Pool {
         let free = n - 5;
         let width = match random.below(4) {
             0 => free,
             _ => 1 + random.below(free.min(8)),
         };
-        Pool { start: 5 + random.below(free - width + 1) as u32, width }
+        Pool { words, start: random.below(free - width + 1), width }
     }
 
     fn draw(self, random: &mut Random) -> u32 {
-        self.start + random.below(self.width) as u32
+        free_code(&self.words, self.start + random.below(self.width))
     }
 }
 
 /// Of 100 triples, how many are type and how many each of subclass, subproperty, domain and range; the rest are data.
 const MIXES: [[usize; 2]; 7] = [[0, 0], [10, 5], [60, 0], [30, 10], [0, 15], [20, 15], [2, 23]];
 
-/// A reserved property, or none for data.
-fn kind(random: &mut Random, [types, each]: [usize; 2]) -> Option<u32> {
+/// The place of the property among the words, or none for data.
+fn kind(random: &mut Random, [types, each]: [usize; 2]) -> Option<usize> {
     let roll = random.below(100);
     if roll < types {
         return Some(0);
     }
-    (roll < types + 4 * each).then(|| 1 + ((roll - types) / each) as u32)
+    (roll < types + 4 * each).then(|| 1 + (roll - types) / each)
 }
 
 /// A site size: mostly small, now and then large.
@@ -59,11 +61,11 @@ pub fn amount(random: &mut Random) -> usize {
 }
 
 /// A table with codes below n, with repeats.
-pub fn table(random: &mut Random, n: usize, amount: usize) -> Vec<u32> {
+pub fn table(random: &mut Random, words: Words, n: usize, amount: usize) -> Vec<u32> {
     if n < 6 {
         return Vec::new();
     }
-    let [nodes, others, classes, properties] = [(); 4].map(|()| Pool::new(random, n));
+    let [nodes, others, classes, properties] = [(); 4].map(|()| Pool::new(random, words, n));
     let mix = random.pick(&MIXES);
     let mut table: Vec<u32> = Vec::with_capacity(3 * amount);
     while table.len() < 3 * amount {
@@ -76,64 +78,65 @@ pub fn table(random: &mut Random, n: usize, amount: usize) -> Vec<u32> {
         let class = classes.draw(random);
         let property = properties.draw(random);
         table.extend(match kind(random, mix) {
-            Some(0) => [node, 0, class],
-            Some(1) => [class, 1, classes.draw(random)],
-            Some(2) => [property, 2, properties.draw(random)],
-            Some(p) => [property, p, class],
+            Some(0) => [node, words[0], class],
+            Some(1) => [class, words[1], classes.draw(random)],
+            Some(2) => [property, words[2], properties.draw(random)],
+            Some(place) => [property, words[place], class],
             None => [node, property, if random.chance(50) { nodes } else { others }.draw(random)],
         });
     }
     table
 }
 
-/// A wrong number where a code should be: not below n, or reserved.
-fn wrong_code(random: &mut Random, n: usize) -> u32 {
-    match random.below(4) {
+/// A wrong number where a code should be: not below n, or reserved. A code below 5 is wrong only where it is a word.
+fn wrong_code(random: &mut Random, words: Words, n: usize) -> u32 {
+    match random.below(5) {
         0 => n as u32,
         1 => u32::MAX,
         2 => n as u32 + random.below(1000) as u32,
-        _ => random.below(5) as u32,
+        3 => random.below(5) as u32,
+        _ => random.pick(&words),
     }
 }
 
 /// Puts a wrong code in a triple.
-pub fn damage_triple(random: &mut Random, n: usize, t: &mut [u32]) {
+pub fn damage_triple(random: &mut Random, words: Words, n: usize, t: &mut [u32]) {
     let place = random.below(3);
     t[place] = match place {
         1 => n as u32 + random.below(3) as u32,
-        _ => wrong_code(random, n),
+        _ => wrong_code(random, words, n),
     };
 }
 
 /// Puts a wrong code in the table, or makes its length wrong.
-pub fn damage_table(random: &mut Random, n: usize, table: &mut Vec<u32>) {
+pub fn damage_table(random: &mut Random, words: Words, n: usize, table: &mut Vec<u32>) {
     if random.chance(30) || table.is_empty() {
         let more = 1 + random.below(2);
         table.extend(&random.junk(more));
         return;
     }
     let i = 3 * random.below(table.len() / 3);
-    damage_triple(random, n, &mut table[i..i + 3]);
+    damage_triple(random, words, n, &mut table[i..i + 3]);
 }
 
 /// The own roster, sometimes with more marks.
-pub fn roster(random: &mut Random, n: usize, table: &[u32]) -> Vec<u8> {
+pub fn roster(random: &mut Random, words: Words, n: usize, table: &[u32]) -> Vec<u8> {
     let mut roster = vec![0; n];
-    plain::own_roster(table, &mut roster);
+    plain::own_roster(&words, table, &mut roster);
     if random.chance(30) && n > 5 {
         for _ in 0..1 + random.below(4) {
-            roster[5 + random.below(n - 5)] |= 1 + random.below(3) as u8;
+            roster[free_code(&words, random.below(n - 5)) as usize] |= 1 + random.below(3) as u8;
         }
     }
     roster
 }
 
 /// Damages a roster: a value over 3, a reserved code marked, a mark taken away, or another length.
-pub fn damage_roster(random: &mut Random, roster: &mut Vec<u8>) {
+pub fn damage_roster(random: &mut Random, words: Words, roster: &mut Vec<u8>) {
     let n = roster.len();
     match random.below(7) {
         0 => roster[random.below(n)] = 4 + random.below(252) as u8,
-        1 => roster[random.below(5)] = 1 + random.below(255) as u8,
+        1 => roster[random.pick(&words) as usize] = 1 + random.below(255) as u8,
         2..=5 => {
             let marked: Vec<usize> = (0..n).filter(|&c| roster[c] != 0).collect();
             if !marked.is_empty() {
@@ -163,9 +166,13 @@ pub fn result_length(random: &mut Random, count: usize) -> usize {
     }
 }
 
-/// A table with its roster. Some are damaged, in one place or in two.
+/// A table with its words and its roster. Some are damaged, in one place or in several.
 pub struct Site {
     pub n: usize,
+    /// The words that the table was made with.
+    pub right_words: Words,
+    /// The words as they are lent.
+    pub words: Vec<u32>,
     pub table: Vec<u32>,
     pub roster: Vec<u8>,
 }
@@ -173,15 +180,17 @@ pub struct Site {
 pub fn site(random: &mut Random) -> Site {
     let n = size(random);
     let amount = amount(random);
-    let mut table = table(random, n, amount);
-    let mut roster = roster(random, n, &table);
+    let right_words = words::right(random, n);
+    let mut table = table(random, right_words, n, amount);
+    let mut roster = roster(random, right_words, n, &table);
     if random.chance(25) {
         if random.chance(60) {
-            damage_table(random, n, &mut table);
+            damage_table(random, right_words, n, &mut table);
         }
         if random.chance(60) {
-            damage_roster(random, &mut roster);
+            damage_roster(random, right_words, &mut roster);
         }
     }
-    Site { n: roster.len(), table, roster }
+    let words = words::lent(random, n, right_words);
+    Site { n: roster.len(), right_words, words, table, roster }
 }

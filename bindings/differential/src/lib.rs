@@ -9,6 +9,7 @@ mod random;
 mod report;
 mod tables;
 mod texts;
+mod words;
 
 pub use report::{Call, Report};
 pub use weak_summary_reference::Mistake;

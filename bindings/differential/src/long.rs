@@ -5,33 +5,35 @@ use crate::feeds;
 use crate::random::Random;
 use crate::report::Report;
 use crate::tables::{self, Lent};
+use crate::words::{self, free_code, Words, RDFS};
 use weak_summary_reference::{self as plain, Mistake, MAX_SIZE, MAX_TRIPLES, QUERY_NUMBERS};
 
 /// A table of data, type and some schema triples over all codes of a site.
-fn large_table(random: &mut Random, n: usize, amount: usize) -> Vec<u32> {
-    let code = |random: &mut Random, from: usize, to: usize| (from + random.below(to - from)) as u32;
-    let (properties, classes) = (5 + n / 100 + 1, 5 + n / 50 + 2);
+fn large_table(random: &mut Random, words: &Words, n: usize, amount: usize) -> Vec<u32> {
+    let code = |random: &mut Random, from: usize, to: usize| free_code(words, from + random.below(to - from));
+    let (properties, classes, nodes) = (n / 100 + 1, n / 50 + 2, n - 5);
     let mut table = Vec::with_capacity(3 * amount);
     for _ in 0..amount {
-        let [property, higher] = [(); 2].map(|()| code(random, 5, properties));
+        let [property, higher] = [(); 2].map(|()| code(random, 0, properties));
         let [class, above] = [(); 2].map(|()| code(random, properties, classes));
-        let node = code(random, classes, n);
+        let node = code(random, classes, nodes);
         table.extend(match random.below(400) {
-            0 => [class, 1, above],
-            1 => [property, 2, higher],
-            2 => [property, 3, class],
-            3 => [property, 4, class],
-            4..=83 => [node, 0, class],
-            _ => [node, property, code(random, classes, n)],
+            0 => [class, words[1], above],
+            1 => [property, words[2], higher],
+            2 => [property, words[3], class],
+            3 => [property, words[4], class],
+            4..=83 => [node, words[0], class],
+            _ => [node, property, code(random, classes, nodes)],
         });
     }
     table
 }
 
-fn lent(random: &mut Random, table: &[u32], n: usize, slots: usize) -> Lent {
+fn lent(random: &mut Random, words: &Words, table: &[u32], n: usize, slots: usize) -> Lent {
     let mut roster = vec![0; n];
-    plain::own_roster(table, &mut roster);
+    plain::own_roster(words, table, &mut roster);
     Lent {
+        words: words.to_vec(),
         table: table.to_vec(),
         roster,
         result: random.junk(3 * slots),
@@ -42,14 +44,14 @@ fn lent(random: &mut Random, table: &[u32], n: usize, slots: usize) -> Lent {
 }
 
 /// The calls on one table, with result slots that fit and that do not.
-fn on_table(random: &mut Random, report: &mut Report, mistake: Mistake, n: usize, table: &[u32]) {
-    let amount = table.len() / 3;
-    tables::compare_own_roster(report, (table.to_vec(), random.junk_bytes(n)));
+fn on_table(random: &mut Random, report: &mut Report, mistake: Mistake, words: &Words, [n, amount]: [usize; 2]) {
+    let table = &large_table(random, words, n, amount);
+    tables::compare_own_roster(report, (words.to_vec(), table.to_vec(), random.junk_bytes(n)));
     for slots in [amount, amount / 2, 40] {
-        let lent = lent(random, table, n, slots);
-        tables::compare_summarise(report, mistake, lent.clone());
+        let lent = lent(random, words, table, n, slots);
+        tables::compare_summarise(report, mistake, lent);
     }
-    let mut cliques = lent(random, table, n, 0);
+    let mut cliques = lent(random, words, table, n, 0);
     cliques.result = random.junk(n);
     tables::compare_cliques(report, mistake, cliques);
     let t = [table[table.len() - 3], table[table.len() - 2], table[table.len() - 1]];
@@ -58,7 +60,18 @@ fn on_table(random: &mut Random, report: &mut Report, mistake: Mistake, n: usize
     let mut query = vec![0; QUERY_NUMBERS];
     query[..6].copy_from_slice(&[1, 1, t[0], t[1], 0, 3]);
     let map = (0..n as u32).collect();
-    asks::compare_ask(report, asks::Lent { table: table.to_vec(), map, query, maybe: 9 });
+    asks::compare_ask(report, asks::Lent { words: words.to_vec(), table: table.to_vec(), map, query, maybe: 9 });
+}
+
+/// Long saturations, with result slots that fit and that do not.
+fn saturations(random: &mut Random, report: &mut Report, mistake: Mistake) {
+    for (n, amount, slots) in [(300, 2_000, 60_000), (300, 2_000, 1_000), (2_000, 20_000, 400_000)] {
+        for words in [RDFS, words::others(random, n)] {
+            let table = large_table(random, &words, n, amount);
+            let lent = lent(random, &words, &table, n, slots);
+            tables::compare_saturate(report, mistake, lent);
+        }
+    }
 }
 
 /// Lengths at the limits and just over them.
@@ -66,15 +79,18 @@ fn limits(random: &mut Random, report: &mut Report) {
     for amount in [MAX_TRIPLES, MAX_TRIPLES + 1] {
         let list = vec![5; 3 * amount];
         tables::compare_look_up(report, list.clone(), [5, 5, 5], 9);
-        tables::compare_own_roster(report, (list, random.junk_bytes(6)));
-        feeds::open_with(random, report, 6, amount);
+        tables::compare_own_roster(report, (RDFS.to_vec(), list, random.junk_bytes(6)));
+        feeds::open_with(random, report, &RDFS, 6, amount);
     }
-    for n in [4, 5, MAX_SIZE, MAX_SIZE + 1] {
-        tables::compare_own_roster(report, (Vec::new(), random.junk_bytes(n)));
-        feeds::open_with(random, report, n, 2);
-        let empty = lent(random, &[], n, 2);
-        tables::compare_summarise(report, Mistake::None, empty.clone());
-        tables::compare_saturate(report, Mistake::None, empty);
+    // Words that are right from five codes on, at the largest site only, and nowhere.
+    for words in [RDFS, [4, 3, 2, 1, 0], [65_535, 0, 65_534, 1, 2], [0, 1, 2, 3, 65_536]] {
+        for n in [4, 5, MAX_SIZE - 1, MAX_SIZE, MAX_SIZE + 1] {
+            tables::compare_own_roster(report, (words.to_vec(), Vec::new(), random.junk_bytes(n)));
+            feeds::open_with(random, report, &words, n, 2);
+            let empty = lent(random, &words, &[], n, 2);
+            tables::compare_summarise(report, Mistake::None, empty.clone());
+            tables::compare_saturate(report, Mistake::None, empty);
+        }
     }
 }
 
@@ -83,16 +99,13 @@ pub fn all(random: &mut Random, report: &mut Report, mistake: Mistake) {
     for sizes in [[60, 600, 3_000, 250], [2_000, 1_500, 2_000, 1_500], [65_536, 200, 200, 200]] {
         feeds::chain(random, report, mistake, sizes);
     }
-    for (n, amount) in [(300, 3_000), (4_000, 20_000), (65_536, 100_000), (65_536, MAX_TRIPLES), (2_000, MAX_TRIPLES)] {
-        let table = large_table(random, n, amount);
-        on_table(random, report, mistake, n, &table);
-    }
-    for (n, amount, slots) in [(300, 2_000, 60_000), (300, 2_000, 1_000), (2_000, 20_000, 400_000)] {
-        let table = large_table(random, n, amount);
-        let lent = lent(random, &table, n, slots);
-        // The wrong saturations take all pairs, which is too slow here.
-        if !matches!(mistake, Mistake::OneRound | Mistake::WrongWay) {
-            tables::compare_saturate(report, mistake, lent);
+    for sizes in [[300, 3_000], [4_000, 20_000], [65_536, 100_000], [65_536, MAX_TRIPLES], [2_000, MAX_TRIPLES]] {
+        for words in [RDFS, words::others(random, sizes[0])] {
+            on_table(random, report, mistake, &words, sizes);
         }
+    }
+    // The wrong saturations take all pairs, which is too slow here.
+    if !matches!(mistake, Mistake::OneRound | Mistake::WrongWay) {
+        saturations(random, report, mistake);
     }
 }

@@ -54,11 +54,17 @@ pub struct Outcome<L> {
 }
 
 pub struct Report {
-    counts: BTreeMap<Call, [usize; 10]>,
+    counts: BTreeMap<Call, [usize; NO + 1]>,
     pub cases: usize,
     pub differences: usize,
     shown: usize,
 }
+
+/// The numbers of the refusals; 9 is free.
+const REFUSALS: [usize; 9] = [1, 2, 3, 4, 5, 6, 7, 8, 10];
+
+/// Where accepted calls with the answer 0 are counted; the others are counted at their status.
+const NO: usize = 11;
 
 const CUT: usize = 2_000;
 
@@ -85,7 +91,7 @@ impl Report {
         yes: bool,
     ) {
         self.cases += 1;
-        let column = if plain.status == 0 && !yes { 9 } else { plain.status as usize };
+        let column = if plain.status == 0 && !yes { NO } else { plain.status as usize };
         self.counts.entry(call).or_default()[column] += 1;
         if proved == plain {
             return;
@@ -100,16 +106,16 @@ impl Report {
     }
 
     pub fn print(&self) {
-        println!("| call | cases | accepted | 1 | 2 | 3 | 4 | 5 | 6 | 7 | 8 |");
-        println!("|---|---|---|---|---|---|---|---|---|---|---|");
+        println!("| call | cases | accepted | {} |", REFUSALS.map(|r| r.to_string()).join(" | "));
+        println!("|---|---|---|{}", "---|".repeat(REFUSALS.len()));
         for (call, by) in &self.counts {
             let total: usize = by.iter().sum();
             let accepted = match call.answers() {
-                Some([one, zero]) => format!("{one} {}, {zero} {}", by[0], by[9]),
-                None => format!("{}", by[0] + by[9]),
+                Some([one, zero]) => format!("{one} {}, {zero} {}", by[0], by[NO]),
+                None => format!("{}", by[0] + by[NO]),
             };
-            let refused: Vec<String> = by[1..9].iter().map(|k| k.to_string()).collect();
-            println!("| {} | {total} | {accepted} | {} |", call.name(), refused.join(" | "));
+            let refused = REFUSALS.map(|r| by[r].to_string()).join(" | ");
+            println!("| {} | {total} | {accepted} | {refused} |", call.name());
         }
         println!("{} cases, {} differences", self.cases, self.differences);
     }

@@ -9,6 +9,7 @@ use weak_summary_reference::{self as plain, Mistake};
 /// Everything lent to a call, inputs too.
 #[derive(Clone, PartialEq, Eq, Debug)]
 pub struct Lent {
+    pub words: Vec<u32>,
     pub table: Vec<u32>,
     pub roster: Vec<u8>,
     pub result: Vec<u32>,
@@ -36,12 +37,12 @@ fn near(random: &mut Random, right: usize) -> usize {
 pub fn own_roster(random: &mut Random, report: &mut Report) {
     let site = site(random);
     let roster = random.junk_bytes(site.n);
-    compare_own_roster(report, (site.table, roster));
+    compare_own_roster(report, (site.words, site.table, roster));
 }
 
-pub fn compare_own_roster(report: &mut Report, before: (Vec<u32>, Vec<u8>)) {
-    let ours = run(&before, |l| proved::own_roster(&l.0, &mut l.1));
-    let theirs = run(&before, |l| plain::own_roster(&l.0, &mut l.1));
+pub fn compare_own_roster(report: &mut Report, before: (Vec<u32>, Vec<u32>, Vec<u8>)) {
+    let ours = run(&before, |(words, table, roster)| proved::own_roster(words, table, roster));
+    let theirs = run(&before, |(words, table, roster)| plain::own_roster(words, table, roster));
     report.compare(Call::OwnRoster, &before, ours, theirs, true);
 }
 
@@ -57,9 +58,10 @@ fn triples_of(status: u32, count: usize) -> usize {
 pub fn saturate(random: &mut Random, report: &mut Report, mistake: Mistake) {
     let site = site(random);
     let mut count = 0;
-    let status = plain::saturate(&site.table, &site.roster, &mut vec![0; 3 * 3_000], &mut count);
+    let status = plain::saturate(&site.words, &site.table, &site.roster, &mut vec![0; 3 * 3_000], &mut count);
     let length = result_length(random, triples_of(status, count));
     let before = Lent {
+        words: site.words,
         table: site.table,
         roster: site.roster,
         result: random.junk(length),
@@ -71,8 +73,9 @@ pub fn saturate(random: &mut Random, report: &mut Report, mistake: Mistake) {
 }
 
 pub fn compare_saturate(report: &mut Report, mistake: Mistake, before: Lent) {
-    let ours = run(&before, |l| proved::saturate(&l.table, &l.roster, &mut l.result, &mut l.number));
-    let theirs = run(&before, |l| plain::saturate_with(mistake, &l.table, &l.roster, &mut l.result, &mut l.number));
+    let ours = run(&before, |l| proved::saturate(&l.words, &l.table, &l.roster, &mut l.result, &mut l.number));
+    let theirs =
+        run(&before, |l| plain::saturate_with(mistake, &l.words, &l.table, &l.roster, &mut l.result, &mut l.number));
     report.compare(Call::Saturate, &before, ours, theirs, true);
 }
 
@@ -80,6 +83,7 @@ pub fn cliques(random: &mut Random, report: &mut Report, mistake: Mistake) {
     let site = site(random);
     let lengths = [near(random, site.n), near(random, site.n)];
     let before = Lent {
+        words: site.words,
         table: site.table,
         roster: site.roster,
         result: random.junk(lengths[0]),
@@ -91,8 +95,9 @@ pub fn cliques(random: &mut Random, report: &mut Report, mistake: Mistake) {
 }
 
 pub fn compare_cliques(report: &mut Report, mistake: Mistake, before: Lent) {
-    let ours = run(&before, |l| proved::cliques(&l.table, &l.roster, &mut l.result, &mut l.map));
-    let theirs = run(&before, |l| plain::cliques_with(mistake, &l.table, &l.roster, &mut l.result, &mut l.map));
+    let ours = run(&before, |l| proved::cliques(&l.words, &l.table, &l.roster, &mut l.result, &mut l.map));
+    let theirs =
+        run(&before, |l| plain::cliques_with(mistake, &l.words, &l.table, &l.roster, &mut l.result, &mut l.map));
     report.compare(Call::Cliques, &before, ours, theirs, true);
 }
 
@@ -101,7 +106,7 @@ fn summary_size(site: &generate::Site) -> usize {
     let mut count = 0;
     let mut result = vec![0; site.table.len()];
     let (mut map, mut work) = (vec![0; site.n], vec![0; 2 * site.n]);
-    let status = plain::summarise(&site.table, &site.roster, &mut result, &mut map, &mut work, &mut count);
+    let status = plain::summarise(&site.words, &site.table, &site.roster, &mut result, &mut map, &mut work, &mut count);
     triples_of(status, count)
 }
 
@@ -110,6 +115,7 @@ pub fn summarise(random: &mut Random, report: &mut Report, mistake: Mistake) {
     let length = result_length(random, summary_size(&site));
     let lengths = [near(random, site.n), near(random, 2 * site.n)];
     let before = Lent {
+        words: site.words,
         table: site.table,
         roster: site.roster,
         result: random.junk(length),
@@ -121,11 +127,12 @@ pub fn summarise(random: &mut Random, report: &mut Report, mistake: Mistake) {
 }
 
 pub fn compare_summarise(report: &mut Report, mistake: Mistake, before: Lent) {
-    let ours =
-        run(&before, |l| proved::summarise(&l.table, &l.roster, &mut l.result, &mut l.map, &mut l.work, &mut l.number));
+    let ours = run(&before, |l| {
+        proved::summarise(&l.words, &l.table, &l.roster, &mut l.result, &mut l.map, &mut l.work, &mut l.number)
+    });
     let theirs = run(&before, |l| {
-        let lists = (&mut l.result, &mut l.map, &mut l.work);
-        plain::summarise_with(mistake, &l.table, &l.roster, lists.0, lists.1, lists.2, &mut l.number)
+        let lists: [&mut [u32]; 3] = [&mut l.result, &mut l.map, &mut l.work];
+        plain::summarise_with(mistake, &l.words, &l.table, &l.roster, lists, &mut l.number)
     });
     report.compare(Call::Summarise, &before, ours, theirs, true);
 }

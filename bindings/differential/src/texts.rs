@@ -4,6 +4,7 @@ use crate::generate::{self, result_length};
 use crate::random::Random;
 use crate::report::{Call, Report};
 use crate::tables::run;
+use crate::words;
 use weak_summary::calls as proved;
 use weak_summary_reference as plain;
 use weak_summary_reference::QUERIES_NUMBERS;
@@ -14,6 +15,7 @@ pub struct ReadLent {
     pub text: Vec<u8>,
     pub list: Vec<u32>,
     pub queries: Vec<u32>,
+    pub words: Vec<u32>,
     pub n: u32,
     pub count: usize,
     pub asks: usize,
@@ -23,13 +25,15 @@ impl std::fmt::Debug for ReadLent {
     fn fmt(&self, f: &mut std::fmt::Formatter) -> std::fmt::Result {
         let text = String::from_utf8_lossy(&self.text);
         let numbers = (self.n, self.count, self.asks);
-        write!(f, "{text:?} numbers {numbers:?} list {:?} queries {:?}", self.list, self.queries)
+        let words = &self.words;
+        write!(f, "{text:?} words {words:?} numbers {numbers:?} list {:?} queries {:?}", self.list, self.queries)
     }
 }
 
 /// Everything lent to writing.
 #[derive(Clone, PartialEq, Eq, Debug)]
 pub struct WriteLent {
+    pub words: Vec<u32>,
     pub n: u32,
     pub table: Vec<u32>,
     pub out: Vec<u8>,
@@ -59,6 +63,20 @@ fn ask_line(random: &mut Random, patterns: usize) -> String {
     line + ")\n"
 }
 
+/// A line of words, now and then of four or six.
+fn words_line(random: &mut Random) -> String {
+    let mut numbers = match random.below(3) {
+        0 => words::RDFS.map(|word| word.to_string()).to_vec(),
+        1 => words::right(random, 40).map(|word| word.to_string()).to_vec(),
+        _ => (0..5).map(|_| number(random)).collect(),
+    };
+    if random.chance(6) {
+        numbers.resize(random.pick(&[0, 4, 6]), number(random));
+    }
+    numbers.insert(0, "(words".to_string());
+    numbers.join(" ") + ")\n"
+}
+
 /// The lines of a text in the site form, now and then with too many triples, asks or patterns.
 fn lines(random: &mut Random) -> Vec<String> {
     let triples = match random.below(400) {
@@ -71,6 +89,9 @@ fn lines(random: &mut Random) -> Vec<String> {
         _ => random.below(4),
     };
     let mut lines = vec![format!("(site {})\n", number(random))];
+    if random.chance(40) {
+        lines.push(words_line(random));
+    }
     for _ in 0..triples {
         let codes = (number(random), number(random), number(random));
         lines.push(format!("(t {} {} {})\n", codes.0, codes.1, codes.2));
@@ -83,13 +104,29 @@ fn lines(random: &mut Random) -> Vec<String> {
 }
 
 /// Numbers and parts that are nearly right.
-const PARTS: [&str; 14] =
-    ["4294967296", "42949672950", "00", "01", " ", "  ", "\n", "\r", "(t 1 2 3)\n", "(ask)\n", "(", ")", "-1", "(v 0)"];
+const PARTS: [&str; 16] = [
+    "4294967296",
+    "42949672950",
+    "00",
+    "01",
+    " ",
+    "  ",
+    "\n",
+    "\r",
+    "(t 1 2 3)\n",
+    "(ask)\n",
+    "(",
+    ")",
+    "-1",
+    "(v 0)",
+    "(words 9 8 7 6 5)\n",
+    "(words",
+];
 
 /// One change: a byte altered, taken out or put in, a part put in, or the end cut off.
 fn mutate_bytes(random: &mut Random, text: &mut Vec<u8>) {
     let i = random.below(text.len() + 1);
-    let alike = b"0123456789()tavcsk \n\0\xff";
+    let alike = b"0123456789()tavcskword \n\0\xff";
     let known = random.pick(alike);
     let byte = if random.chance(70) { known } else { random.next() as u8 };
     if i == text.len() || random.chance(25) {
@@ -128,10 +165,12 @@ pub fn read(random: &mut Random, report: &mut Report) {
     }
     let length = result_length(random, triples);
     let queries = if random.chance(2) { random.pick(&[0, 41, 655, 657]) } else { QUERIES_NUMBERS };
+    let words = if random.chance(2) { words::other_length(random) } else { 5 };
     let before = ReadLent {
         text,
         list: random.junk(length),
         queries: random.junk(queries),
+        words: random.junk(words),
         n: random.next() as u32,
         count: random.below(1 << 40),
         asks: random.below(1 << 40),
@@ -140,10 +179,12 @@ pub fn read(random: &mut Random, report: &mut Report) {
 }
 
 pub fn compare_read(report: &mut Report, before: ReadLent) {
-    let ours =
-        run(&before, |l| proved::read(&l.text, &mut l.list, &mut l.queries, &mut l.n, &mut l.count, &mut l.asks));
-    let theirs =
-        run(&before, |l| plain::read(&l.text, &mut l.list, &mut l.queries, &mut l.n, &mut l.count, &mut l.asks));
+    let ours = run(&before, |l| {
+        proved::read(&l.text, &mut l.list, &mut l.queries, &mut l.words, &mut l.n, &mut l.count, &mut l.asks)
+    });
+    let theirs = run(&before, |l| {
+        plain::read(&l.text, &mut l.list, &mut l.queries, &mut l.words, &mut l.n, &mut l.count, &mut l.asks)
+    });
     report.compare(Call::Read, &before, ours, theirs, true);
 }
 
@@ -153,24 +194,26 @@ pub fn write(random: &mut Random, report: &mut Report) {
         0 => 999 + random.below(3),
         _ => generate::amount(random),
     };
-    let mut table = generate::table(random, n, amount);
+    let words = words::right(random, n);
+    let mut table = generate::table(random, words, n, amount);
     if random.chance(15) {
-        generate::damage_table(random, n, &mut table);
+        generate::damage_table(random, words, n, &mut table);
     }
+    let words = words::lent(random, n, words);
     let n = if random.chance(4) { random.pick(&[0, 4, 65_537, u32::MAX]) } else { n as u32 };
     let mut size = 0;
-    plain::write(n, &table, &mut vec![0; 30_000], &mut size);
+    plain::write(&words, n, &table, &mut vec![0; 30_000], &mut size);
     let length = match random.below(6) {
         0 => size.saturating_sub(1),
         1 => random.below(size + 1),
         2 => size + random.below(30),
         _ => size,
     };
-    compare_write(report, WriteLent { n, table, out: random.junk_bytes(length), count: random.below(1 << 40) });
+    compare_write(report, WriteLent { words, n, table, out: random.junk_bytes(length), count: random.below(1 << 40) });
 }
 
 pub fn compare_write(report: &mut Report, before: WriteLent) {
-    let ours = run(&before, |l| proved::write(l.n, &l.table, &mut l.out, &mut l.count));
-    let theirs = run(&before, |l| plain::write(l.n, &l.table, &mut l.out, &mut l.count));
+    let ours = run(&before, |l| proved::write(&l.words, l.n, &l.table, &mut l.out, &mut l.count));
+    let theirs = run(&before, |l| plain::write(&l.words, l.n, &l.table, &mut l.out, &mut l.count));
     report.compare(Call::Write, &before, ours, theirs, true);
 }

@@ -1,7 +1,7 @@
 //! Ask: the triples of each pattern's property, then a backtracking join over sorted candidates.
 
 use crate::triples::PackedMap;
-use crate::{checks, CODE, LENGTH, MAX_PATTERNS, OK, QUERY, QUERY_NUMBERS};
+use crate::{checks, Words, CODE, LENGTH, MAX_PATTERNS, OK, QUERY, QUERY_NUMBERS, WORDS};
 
 #[derive(Clone, Copy)]
 enum End {
@@ -163,12 +163,18 @@ fn matches(steps: &[Step], bindings: Bindings) -> bool {
     })
 }
 
-pub fn ask(table: &[u32], map: &[u32], query: &[u32], maybe: &mut u32) -> u32 {
+pub fn ask(words: &[u32], table: &[u32], map: &[u32], query: &[u32], maybe: &mut u32) -> u32 {
     let n = map.len();
+    let Some(words) = Words::of(words) else {
+        return LENGTH;
+    };
     if query.len() != QUERY_NUMBERS || checks::size_wrong(n) || checks::table_length_wrong(table.len()) {
         return LENGTH;
     }
-    if table.chunks_exact(3).any(|t| checks::codes_wrong(t, n)) {
+    if words.wrong(n) {
+        return WORDS;
+    }
+    if checks::table_wrong(words, table, n) {
         return CODE;
     }
     if query_wrong(query, n) {

@@ -2,13 +2,14 @@
 
 use crate::triples::{pack, unpack, Packed};
 use crate::weak::{images, put_map};
-use crate::{checks, Mistake, ABSENT, CODE, COVER, FIRST_FREE, FULL, LENGTH, MAX_TRIPLES, OK, ROSTER};
+use crate::{checks, Mistake, Words, ABSENT, CODE, COVER, FULL, LENGTH, MAX_TRIPLES, OK};
 use std::collections::BTreeSet;
 
 /// What a feed answers: whether the triple was new, or the number of the refusal.
 pub type Fed = Result<bool, u32>;
 
 pub fn open(
+    words: &[u32],
     roster: &[u8],
     triples: &mut [u32],
     summary: &mut [u32],
@@ -16,13 +17,17 @@ pub fn open(
     held: &mut usize,
     summarised: &mut usize,
 ) -> u32 {
+    let Some(words) = Words::of(words) else {
+        return LENGTH;
+    };
     let slots = triples.len() / 3;
     let lists_wrong = summary.len() / 3 != slots || slots > MAX_TRIPLES || map.len() != roster.len();
     if checks::size_wrong(roster.len()) || lists_wrong {
         return LENGTH;
     }
-    if checks::roster_wrong(roster) {
-        return ROSTER;
+    let refusal = checks::roster_refusal(words, roster);
+    if refusal != OK {
+        return refusal;
     }
     triples.fill(0);
     summary.fill(0);
@@ -32,44 +37,48 @@ pub fn open(
 }
 
 /// The refusals 3 and 4 of a fed triple.
-fn triple_refusal(t: [u32; 3], roster: &[u8]) -> u32 {
-    if checks::codes_wrong(&t, roster.len()) {
+fn triple_refusal(words: Words, t: [u32; 3], roster: &[u8]) -> u32 {
+    if checks::triple_wrong(words, &t, roster.len()) {
         return CODE;
     }
-    if !checks::covered(&t, roster) {
+    if !checks::covered(words, &t, roster) {
         return COVER;
     }
     OK
 }
 
+/// The refusals 1, 10, 2, 3 and 4 of a feed with these words and this roster and with lists of right lengths.
+pub fn feed_refusal(words: &[u32], roster: &[u8], t: [u32; 3]) -> u32 {
+    let Some(words) = Words::of(words) else {
+        return LENGTH;
+    };
+    if checks::size_wrong(roster.len()) {
+        return LENGTH;
+    }
+    match checks::roster_refusal(words, roster) {
+        OK => triple_refusal(words, t, roster),
+        refusal => refusal,
+    }
+}
+
 /// The plain intake of the scope paper: a set of triples, empty at opening.
 pub struct PlainIntake {
+    pub words: Words,
     pub roster: Vec<u8>,
     pub slots: usize,
     pub held: BTreeSet<Packed>,
 }
 
 impl PlainIntake {
-    pub fn new(roster: &[u8], slots: usize) -> PlainIntake {
-        PlainIntake { roster: roster.to_vec(), slots, held: BTreeSet::new() }
-    }
-
-    /// The refusals 1 to 4 of a feed with this roster and lists of right lengths.
-    pub fn refusal(roster: &[u8], t: [u32; 3]) -> u32 {
-        if checks::size_wrong(roster.len()) {
-            return LENGTH;
-        }
-        if checks::roster_wrong(roster) {
-            return ROSTER;
-        }
-        triple_refusal(t, roster)
+    pub fn new(words: Words, roster: &[u8], slots: usize) -> PlainIntake {
+        PlainIntake { words, roster: roster.to_vec(), slots, held: BTreeSet::new() }
     }
 
     pub fn feed(&mut self, t: [u32; 3], work_length: usize) -> Fed {
         if work_length != 2 * self.roster.len() {
             return Err(LENGTH);
         }
-        let refusal = triple_refusal(t, &self.roster);
+        let refusal = triple_refusal(self.words, t, &self.roster);
         if refusal != OK {
             return Err(refusal);
         }
@@ -92,7 +101,7 @@ impl PlainIntake {
     pub fn state(&self, mistake: Mistake, lists: [&mut [u32]; 3]) -> (usize, usize) {
         let [triples, summary, map] = lists;
         let table = self.table();
-        put_map(mistake, &table, &self.roster, map);
+        put_map(mistake, self.words, &table, &self.roster, map);
         let mut found: Vec<Packed> = images(&table, map).into_iter().collect();
         found.sort_unstable();
         let count = found.len();
@@ -109,6 +118,7 @@ impl PlainIntake {
 /// class of a node that it knows changes.
 #[derive(Clone)]
 pub struct FastIntake {
+    pub words: Words,
     pub roster: Vec<u8>,
     pub triples: Vec<u32>,
     pub summary: Vec<u32>,
@@ -124,9 +134,10 @@ pub struct FastIntake {
 }
 
 impl FastIntake {
-    pub fn new(roster: &[u8], slots: usize) -> FastIntake {
+    pub fn new(words: Words, roster: &[u8], slots: usize) -> FastIntake {
         let n = roster.len();
         FastIntake {
+            words,
             roster: roster.to_vec(),
             triples: vec![0; 3 * slots],
             summary: vec![0; 3 * slots],
@@ -141,8 +152,8 @@ impl FastIntake {
     }
 
     /// As feeding the triples of the table would leave it.
-    pub fn holding(roster: &[u8], slots: usize, table: &[u32]) -> FastIntake {
-        let mut intake = FastIntake::new(roster, slots);
+    pub fn holding(words: Words, roster: &[u8], slots: usize, table: &[u32]) -> FastIntake {
+        let mut intake = FastIntake::new(words, roster, slots);
         let mut held: Vec<Packed> = table.chunks_exact(3).map(pack).collect();
         held.sort_unstable();
         held.dedup();
@@ -186,7 +197,7 @@ impl FastIntake {
     /// Puts the representatives of the ends of a new triple; none if the map is to be made anew.
     fn put_ends(&mut self, t: [u32; 3]) -> Option<()> {
         let [s, p, o] = t;
-        let is_data = p >= FIRST_FREE;
+        let is_data = self.words.is_data(p);
         self.map[s as usize] = match self.is_marked(s) {
             true => s,
             false if is_data => self.with_data(s, self.subject_of[p as usize])?,
@@ -204,7 +215,7 @@ impl FastIntake {
 
     fn note_ends(&mut self, t: [u32; 3]) {
         let [s, p, o] = t;
-        if p >= FIRST_FREE {
+        if self.words.is_data(p) {
             for (node, place) in [(s, &mut self.subject_of), (o, &mut self.object_of)] {
                 if self.roster[node as usize] == 0 {
                     place[p as usize] = node;
@@ -216,7 +227,7 @@ impl FastIntake {
 
     fn summarise_anew(&mut self) {
         let table = &self.triples[..3 * self.held];
-        put_map(Mistake::None, table, &self.roster, &mut self.map);
+        put_map(Mistake::None, self.words, table, &self.roster, &mut self.map);
         let mut found: Vec<Packed> = images(table, &self.map).into_iter().collect();
         found.sort_unstable();
         self.summarised = found.len();
@@ -242,10 +253,7 @@ fn insert(list: &mut [u32], count: usize, i: usize, t: [u32; 3]) {
 
 /// Takes in a triple as both ways of feeding do: its checks, and its place in the list if it is new.
 fn take_in(intake: &mut FastIntake, t: [u32; 3]) -> Fed {
-    if checks::roster_wrong(&intake.roster) {
-        return Err(ROSTER);
-    }
-    let refusal = triple_refusal(t, &intake.roster);
+    let refusal = feed_refusal(intake.words.codes(), &intake.roster, t);
     if refusal != OK {
         return Err(refusal);
     }

@@ -12,15 +12,17 @@ mod saturate;
 mod site;
 mod triples;
 mod weak;
+mod words;
 
 pub use ask::ask;
-pub use intake::{feed_fast, feed_lists_only, open, FastIntake, Fed, PlainIntake};
+pub use intake::{feed_fast, feed_lists_only, feed_refusal, open, FastIntake, Fed, PlainIntake};
 pub use mistake::Mistake;
 pub use roster::own_roster;
 pub use saturate::{saturate, saturate_with};
 pub use site::{read, write};
 pub use triples::look_up;
 pub use weak::{cliques, cliques_with, summarise, summarise_with};
+pub use words::Words;
 
 pub const ABSENT: u32 = u32::MAX;
 pub const MIN_SIZE: usize = 5;
@@ -32,14 +34,6 @@ pub const MAX_PATTERNS: usize = 8;
 /// A flat query: the count, then five numbers for each of eight patterns.
 pub const QUERY_NUMBERS: usize = 41;
 pub const QUERIES_NUMBERS: usize = QUERY_NUMBERS * MAX_ASKS;
-
-pub const TYPE: u32 = 0;
-pub const SUBCLASS: u32 = 1;
-pub const SUBPROPERTY: u32 = 2;
-pub const DOMAIN: u32 = 3;
-pub const RANGE: u32 = 4;
-/// Codes below this are reserved; a property from here on is a data property.
-pub const FIRST_FREE: u32 = 5;
 
 pub const CLASS: u8 = 1;
 pub const PROPERTY: u8 = 2;
@@ -53,3 +47,4 @@ pub const SLOTS: u32 = 5;
 pub const QUERY: u32 = 6;
 pub const FULL: u32 = 7;
 pub const FORM: u32 = 8;
+pub const WORDS: u32 = 10;

@@ -1,5 +1,7 @@
-//! The five course mistakes of the scope paper, and one that the rules for domains and ranges invite, to show that a comparison
-//! with a wrong engine is noticed.
+//! The five course mistakes of the scope paper, one that the rules for domains and ranges invite, and one that the word table
+//! invites, to show that a comparison with a wrong engine is noticed.
+
+use crate::Words;
 
 #[derive(Clone, Copy, PartialEq, Eq, Debug)]
 pub enum Mistake {
@@ -17,16 +19,19 @@ pub enum Mistake {
     FirstSeen,
     /// Domains and ranges go to the properties above and to the classes below.
     WrongWay,
+    /// Codes 0 to 4 stay the reserved ones where other words are loaded.
+    FixedWords,
 }
 
 impl Mistake {
-    pub const ALL: [Mistake; 6] = [
+    pub const ALL: [Mistake; 7] = [
         Mistake::OneRound,
         Mistake::TypedOnlyStays,
         Mistake::ClassLinks,
         Mistake::NoSourceEqual,
         Mistake::FirstSeen,
         Mistake::WrongWay,
+        Mistake::FixedWords,
     ];
 
     pub fn name(self) -> &'static str {
@@ -38,10 +43,19 @@ impl Mistake {
             Mistake::NoSourceEqual => "no-source-equal",
             Mistake::FirstSeen => "first-seen",
             Mistake::WrongWay => "wrong-way",
+            Mistake::FixedWords => "fixed-words",
         }
     }
 
     pub fn named(name: &str) -> Option<Mistake> {
         Mistake::ALL.into_iter().find(|m| m.name() == name)
+    }
+
+    /// The words that the engine goes by once its checks have passed.
+    pub(crate) fn words(self, loaded: Words) -> Words {
+        match self {
+            Mistake::FixedWords => Words::RDFS,
+            _ => loaded,
+        }
     }
 }

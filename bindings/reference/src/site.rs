@@ -1,12 +1,12 @@
 //! The site form: reading and writing.
 
-use crate::{
-    checks, CODE, FORM, LENGTH, MAX_ASKS, MAX_PATTERNS, MAX_WRITTEN, OK, QUERIES_NUMBERS, QUERY_NUMBERS, SLOTS,
-};
+use crate::{checks, Words, CODE, FORM, LENGTH, MAX_ASKS, MAX_PATTERNS, MAX_WRITTEN, OK};
+use crate::{QUERIES_NUMBERS, QUERY_NUMBERS, SLOTS, WORDS};
 
 /// What a text gives.
 struct Site {
     n: u32,
+    words: Words,
     triples: Vec<u32>,
     queries: Vec<[u32; QUERY_NUMBERS]>,
 }
@@ -75,23 +75,27 @@ impl Text<'_> {
         (count > 0).then_some(query)
     }
 
-    fn triple(&mut self) -> Option<[u32; 3]> {
-        self.take("(t ")?;
-        let s = self.number()?;
-        self.take(" ")?;
-        let p = self.number()?;
-        self.take(" ")?;
-        let o = self.number()?;
+    /// A line of a word and as many numbers as the result holds.
+    fn line<const K: usize>(&mut self, word: &str) -> Option<[u32; K]> {
+        let mut numbers = [0; K];
+        self.take("(")?;
+        self.take(word)?;
+        for number in &mut numbers {
+            self.take(" ")?;
+            *number = self.number()?;
+        }
         self.take(")\n")?;
-        Some([s, p, o])
+        Some(numbers)
     }
 
     fn site(&mut self) -> Option<Site> {
-        self.take("(site ")?;
-        let mut site = Site { n: self.number()?, triples: Vec::new(), queries: Vec::new() };
-        self.take(")\n")?;
+        let [n] = self.line("site")?;
+        let mut site = Site { n, words: Words::RDFS, triples: Vec::new(), queries: Vec::new() };
+        if self.comes("(words ") {
+            site.words = Words::new(self.line("words")?);
+        }
         while self.comes("(t ") {
-            site.triples.extend(self.triple()?);
+            site.triples.extend(self.line::<3>("t")?);
         }
         while !self.0.is_empty() {
             site.queries.push(self.query()?);
@@ -105,15 +109,17 @@ pub fn read(
     text: &[u8],
     list: &mut [u32],
     queries: &mut [u32],
+    words: &mut [u32],
     n: &mut u32,
     count: &mut usize,
     asks: &mut usize,
 ) -> u32 {
-    if queries.len() != QUERIES_NUMBERS {
+    if queries.len() != QUERIES_NUMBERS || Words::of(words).is_none() {
         return LENGTH;
     }
     list.fill(0);
     queries.fill(0);
+    words.copy_from_slice(Words::RDFS.codes());
     (*n, *count, *asks) = (0, 0, 0);
     let Some(site) = Text(text).site() else {
         return FORM;
@@ -125,6 +131,7 @@ pub fn read(
     for (place, query) in queries.chunks_exact_mut(QUERY_NUMBERS).zip(&site.queries) {
         place.copy_from_slice(query);
     }
+    words.copy_from_slice(site.words.codes());
     (*n, *count, *asks) = (site.n, site.triples.len() / 3, site.queries.len());
     OK
 }
@@ -155,16 +162,25 @@ fn push_line(text: &mut Vec<u8>, word: &str, numbers: &[u32]) {
     text.extend_from_slice(b")\n");
 }
 
-pub fn write(n: u32, table: &[u32], out: &mut [u8], count: &mut usize) -> u32 {
+pub fn write(words: &[u32], n: u32, table: &[u32], out: &mut [u8], count: &mut usize) -> u32 {
+    let Some(words) = Words::of(words) else {
+        return LENGTH;
+    };
     let size = n as usize;
     if checks::size_wrong(size) || !table.len().is_multiple_of(3) || table.len() / 3 > MAX_WRITTEN {
         return LENGTH;
     }
-    if table.chunks_exact(3).any(|t| checks::codes_wrong(t, size)) {
+    if words.wrong(size) {
+        return WORDS;
+    }
+    if checks::table_wrong(words, table, size) {
         return CODE;
     }
-    let mut text = Vec::with_capacity(16 + 8 * table.len());
+    let mut text = Vec::with_capacity(64 + 8 * table.len());
     push_line(&mut text, "site", &[n]);
+    if words != Words::RDFS {
+        push_line(&mut text, "words", words.codes());
+    }
     for t in table.chunks_exact(3) {
         push_line(&mut text, "t", t);
     }

@@ -1,7 +1,8 @@
 //! Cliques, representatives and the summary, by a textbook union-find.
 
 use crate::triples::{pack, put_sorted, PackedSet};
-use crate::{checks, Mistake, ABSENT, FIRST_FREE, LENGTH, OK, SLOTS, TYPE};
+use crate::words::{Kind, Words};
+use crate::{checks, Mistake, ABSENT, LENGTH, OK, SLOTS};
 
 struct UnionFind(Vec<u32>);
 
@@ -37,12 +38,13 @@ impl UnionFind {
 }
 
 /// The cliques of one side: place 0 of a triple gives source cliques, place 2 target cliques.
-fn put_cliques(mistake: Mistake, table: &[u32], roster: &[u8], place: usize, out: &mut [u32]) {
+fn put_cliques(mistake: Mistake, words: Words, table: &[u32], roster: &[u8], place: usize, out: &mut [u32]) {
+    let words = mistake.words(words);
     let n = roster.len();
     let mut sets = UnionFind::new(n);
     let mut first = vec![ABSENT; n];
     let mut has_clique = vec![false; n];
-    for t in table.chunks_exact(3).filter(|t| t[1] >= FIRST_FREE) {
+    for t in table.chunks_exact(3).filter(|t| words.is_data(t[1])) {
         let node = t[place] as usize;
         if roster[node] == 0 || mistake == Mistake::ClassLinks {
             sets.join_first(&mut first[node], t[1]);
@@ -54,21 +56,31 @@ fn put_cliques(mistake: Mistake, table: &[u32], roster: &[u8], place: usize, out
     }
 }
 
-pub fn cliques(table: &[u32], roster: &[u8], sources: &mut [u32], targets: &mut [u32]) -> u32 {
-    cliques_with(Mistake::None, table, roster, sources, targets)
+pub fn cliques(words: &[u32], table: &[u32], roster: &[u8], sources: &mut [u32], targets: &mut [u32]) -> u32 {
+    cliques_with(Mistake::None, words, table, roster, sources, targets)
 }
 
-pub fn cliques_with(mistake: Mistake, table: &[u32], roster: &[u8], sources: &mut [u32], targets: &mut [u32]) -> u32 {
+pub fn cliques_with(
+    mistake: Mistake,
+    words: &[u32],
+    table: &[u32],
+    roster: &[u8],
+    sources: &mut [u32],
+    targets: &mut [u32],
+) -> u32 {
     let n = roster.len();
-    if checks::lengths_refusal(table, roster) != OK || sources.len() != n || targets.len() != n {
+    let Some(words) = Words::of(words) else {
+        return LENGTH;
+    };
+    if checks::lengths_wrong(table, roster) || sources.len() != n || targets.len() != n {
         return LENGTH;
     }
-    let refusal = checks::table_refusal(table, roster);
+    let refusal = checks::table_refusal(words, table, roster);
     if refusal != OK {
         return refusal;
     }
-    put_cliques(mistake, table, roster, 0, sources);
-    put_cliques(mistake, table, roster, 2, targets);
+    put_cliques(mistake, words, table, roster, 0, sources);
+    put_cliques(mistake, words, table, roster, 2, targets);
     OK
 }
 
@@ -117,7 +129,8 @@ impl Nodes {
 }
 
 /// Joins the subjects of each property and its objects, as far as they are data nodes.
-fn join_nodes(mistake: Mistake, table: &[u32], roster: &[u8]) -> Nodes {
+fn join_nodes(mistake: Mistake, words: Words, table: &[u32], roster: &[u8]) -> Nodes {
+    let words = mistake.words(words);
     let n = roster.len();
     let mut nodes = Nodes::new(n);
     let mut subject_of = vec![ABSENT; n];
@@ -127,10 +140,10 @@ fn join_nodes(mistake: Mistake, table: &[u32], roster: &[u8]) -> Nodes {
         let (s, p, o) = (t[0], t[1] as usize, t[2]);
         nodes.see(s);
         nodes.see(o);
-        if p == TYPE as usize && mistake == Mistake::TypedOnlyStays && !nodes.has_data(s) {
+        if mistake == Mistake::TypedOnlyStays && words.kind(t[1]) == Kind::Type && !nodes.has_data(s) {
             nodes.stays_typed[s as usize] = true;
         }
-        if p < FIRST_FREE as usize {
+        if !words.is_data(t[1]) {
             continue;
         }
         if links(s) && !nodes.stays_typed[s as usize] {
@@ -157,8 +170,8 @@ fn join_bare(mistake: Mistake, nodes: &mut Nodes, roster: &[u8]) {
 }
 
 /// Puts each node's representative, absent for a code that is no node.
-pub fn put_map(mistake: Mistake, table: &[u32], roster: &[u8], map: &mut [u32]) {
-    let mut nodes = join_nodes(mistake, table, roster);
+pub fn put_map(mistake: Mistake, words: Words, table: &[u32], roster: &[u8], map: &mut [u32]) {
+    let mut nodes = join_nodes(mistake, words, table, roster);
     join_bare(mistake, &mut nodes, roster);
     map.fill(ABSENT);
     if mistake != Mistake::FirstSeen {
@@ -186,6 +199,7 @@ pub fn images(table: &[u32], map: &[u32]) -> PackedSet {
 }
 
 pub fn summarise(
+    words: &[u32],
     table: &[u32],
     roster: &[u8],
     result: &mut [u32],
@@ -193,27 +207,29 @@ pub fn summarise(
     work: &mut [u32],
     count: &mut usize,
 ) -> u32 {
-    summarise_with(Mistake::None, table, roster, result, map, work, count)
+    summarise_with(Mistake::None, words, table, roster, [result, map, work], count)
 }
 
 pub fn summarise_with(
     mistake: Mistake,
+    words: &[u32],
     table: &[u32],
     roster: &[u8],
-    result: &mut [u32],
-    map: &mut [u32],
-    work: &mut [u32],
+    [result, map, work]: [&mut [u32]; 3],
     count: &mut usize,
 ) -> u32 {
     let n = roster.len();
-    if checks::lengths_refusal(table, roster) != OK || map.len() != n || work.len() != 2 * n {
+    let Some(words) = Words::of(words) else {
+        return LENGTH;
+    };
+    if checks::lengths_wrong(table, roster) || map.len() != n || work.len() != 2 * n {
         return LENGTH;
     }
-    let refusal = checks::table_refusal(table, roster);
+    let refusal = checks::table_refusal(words, table, roster);
     if refusal != OK {
         return refusal;
     }
-    put_map(mistake, table, roster, map);
+    put_map(mistake, words, table, roster, map);
     work.fill(0);
     let found = images(table, map);
     if found.len() > result.len() / 3 {

@@ -1,11 +1,36 @@
 //! That the benchmark's intake, fed in both ways, answers and holds what the plain intake does.
 
-use weak_summary_reference::{feed_fast, feed_lists_only, own_roster, FastIntake, Mistake, PlainIntake};
+use weak_summary_reference::{feed_fast, feed_lists_only, own_roster, FastIntake, Mistake, PlainIntake, Words};
 
 /// The next number of a linear congruential generator.
 fn next(state: &mut u64, bound: u64) -> u32 {
     *state = state.wrapping_mul(6_364_136_223_846_793_005).wrapping_add(1_442_695_040_888_963_407);
     ((*state >> 33) % bound) as u32
+}
+
+/// 0 to 4, or else five different codes below n.
+fn random_words(state: &mut u64, n: u64) -> Words {
+    let mut codes = *Words::RDFS.codes();
+    if next(state, 2) == 0 {
+        for i in 0..5 {
+            codes[i] = loop {
+                let code = next(state, n);
+                if !codes[..i].contains(&code) {
+                    break code;
+                }
+            };
+        }
+    }
+    Words::new(codes)
+}
+
+/// Puts the words in place of codes 0 to 4, and the codes that are none of them in place of the others, in rising order.
+fn load(words: Words, n: u64, table: &mut [u32]) {
+    let free = (0..n as u32).filter(|code| !words.codes().contains(code));
+    let codes: Vec<u32> = words.codes().iter().copied().chain(free).collect();
+    for code in table {
+        *code = codes[*code as usize];
+    }
 }
 
 fn random_table(state: &mut u64, n: u64) -> Vec<u32> {
@@ -39,13 +64,15 @@ fn fast_intake_is_the_plain_one() {
     let mut state = 1;
     for _ in 0..3_000 {
         let n = 12 + next(&mut state, 20) as u64;
-        let table = random_table(&mut state, n);
+        let words = random_words(&mut state, n);
+        let mut table = random_table(&mut state, n);
+        load(words, n, &mut table);
         let mut roster = vec![0; n as usize];
-        assert_eq!(own_roster(&table, &mut roster), 0);
+        assert_eq!(own_roster(words.codes(), &table, &mut roster), 0);
         let slots = table.len() / 3;
-        let mut plain = PlainIntake::new(&roster, slots);
-        let mut fast = FastIntake::new(&roster, slots);
-        let mut lists_only = FastIntake::new(&roster, slots);
+        let mut plain = PlainIntake::new(words, &roster, slots);
+        let mut fast = FastIntake::new(words, &roster, slots);
+        let mut lists_only = FastIntake::new(words, &roster, slots);
         for t in table.chunks_exact(3) {
             let t = [t[0], t[1], t[2]];
             let answer = plain.feed(t, 2 * n as usize);
@@ -54,6 +81,6 @@ fn fast_intake_is_the_plain_one() {
             compare(&plain, &fast);
             compare(&plain, &lists_only);
         }
-        compare(&plain, &FastIntake::holding(&roster, slots, &table));
+        compare(&plain, &FastIntake::holding(words, &roster, slots, &table));
     }
 }

@@ -4,15 +4,19 @@
 
 use crate::ffi;
 
-pub fn own_roster(table: &[u32], roster: &mut [u8]) -> u32 {
+pub fn own_roster(words: &[u32], table: &[u32], roster: &mut [u8]) -> u32 {
     // SAFETY: each pointer comes with the length of its slice.
-    unsafe { ffi::ws_own_roster(table.as_ptr(), table.len(), roster.as_mut_ptr(), roster.len()) }
+    unsafe {
+        ffi::ws_own_roster(words.as_ptr(), words.len(), table.as_ptr(), table.len(), roster.as_mut_ptr(), roster.len())
+    }
 }
 
-pub fn saturate(table: &[u32], roster: &[u8], result: &mut [u32], count: &mut usize) -> u32 {
+pub fn saturate(words: &[u32], table: &[u32], roster: &[u8], result: &mut [u32], count: &mut usize) -> u32 {
     // SAFETY: each pointer comes with the length of its slice, or is a reference.
     unsafe {
         ffi::ws_saturate(
+            words.as_ptr(),
+            words.len(),
             table.as_ptr(),
             table.len(),
             roster.as_ptr(),
@@ -24,10 +28,12 @@ pub fn saturate(table: &[u32], roster: &[u8], result: &mut [u32], count: &mut us
     }
 }
 
-pub fn cliques(table: &[u32], roster: &[u8], sources: &mut [u32], targets: &mut [u32]) -> u32 {
+pub fn cliques(words: &[u32], table: &[u32], roster: &[u8], sources: &mut [u32], targets: &mut [u32]) -> u32 {
     // SAFETY: each pointer comes with the length of its slice.
     unsafe {
         ffi::ws_cliques(
+            words.as_ptr(),
+            words.len(),
             table.as_ptr(),
             table.len(),
             roster.as_ptr(),
@@ -41,6 +47,7 @@ pub fn cliques(table: &[u32], roster: &[u8], sources: &mut [u32], targets: &mut 
 }
 
 pub fn summarise(
+    words: &[u32],
     table: &[u32],
     roster: &[u8],
     result: &mut [u32],
@@ -51,6 +58,8 @@ pub fn summarise(
     // SAFETY: each pointer comes with the length of its slice, or is a reference.
     unsafe {
         ffi::ws_summarise(
+            words.as_ptr(),
+            words.len(),
             table.as_ptr(),
             table.len(),
             roster.as_ptr(),
@@ -71,12 +80,25 @@ pub fn look_up(list: &[u32], s: u32, p: u32, o: u32, found: &mut u32) -> u32 {
     unsafe { ffi::ws_look_up(list.as_ptr(), list.len(), s, p, o, found) }
 }
 
-pub fn ask(table: &[u32], map: &[u32], query: &[u32], maybe: &mut u32) -> u32 {
+pub fn ask(words: &[u32], table: &[u32], map: &[u32], query: &[u32], maybe: &mut u32) -> u32 {
     // SAFETY: each pointer comes with the length of its slice, or is a reference.
-    unsafe { ffi::ws_ask(table.as_ptr(), table.len(), map.as_ptr(), map.len(), query.as_ptr(), query.len(), maybe) }
+    unsafe {
+        ffi::ws_ask(
+            words.as_ptr(),
+            words.len(),
+            table.as_ptr(),
+            table.len(),
+            map.as_ptr(),
+            map.len(),
+            query.as_ptr(),
+            query.len(),
+            maybe,
+        )
+    }
 }
 
 pub fn open(
+    words: &[u32],
     roster: &[u8],
     triples: &mut [u32],
     summary: &mut [u32],
@@ -87,6 +109,8 @@ pub fn open(
     // SAFETY: each pointer comes with the length of its slice, or is a reference.
     unsafe {
         ffi::ws_open(
+            words.as_ptr(),
+            words.len(),
             roster.as_ptr(),
             roster.len(),
             triples.as_mut_ptr(),
@@ -103,6 +127,7 @@ pub fn open(
 
 /// What a feed borrows besides its triple.
 pub struct Lent<'a> {
+    pub words: &'a [u32],
     pub roster: &'a [u8],
     pub triples: &'a mut [u32],
     pub summary: &'a mut [u32],
@@ -116,6 +141,8 @@ pub fn feed(lent: Lent, t: [u32; 3], is_new: &mut u32) -> u32 {
     // SAFETY: each pointer comes with the length of its slice, or is a reference.
     unsafe {
         ffi::ws_feed(
+            lent.words.as_ptr(),
+            lent.words.len(),
             lent.roster.as_ptr(),
             lent.roster.len(),
             lent.triples.as_mut_ptr(),
@@ -136,15 +163,18 @@ pub fn feed(lent: Lent, t: [u32; 3], is_new: &mut u32) -> u32 {
     }
 }
 
-pub fn write(n: u32, table: &[u32], out: &mut [u8], count: &mut usize) -> u32 {
+pub fn write(words: &[u32], n: u32, table: &[u32], out: &mut [u8], count: &mut usize) -> u32 {
     // SAFETY: each pointer comes with the length of its slice, or is a reference.
-    unsafe { ffi::ws_write(n, table.as_ptr(), table.len(), out.as_mut_ptr(), out.len(), count) }
+    unsafe {
+        ffi::ws_write(words.as_ptr(), words.len(), n, table.as_ptr(), table.len(), out.as_mut_ptr(), out.len(), count)
+    }
 }
 
 pub fn read(
     text: &[u8],
     list: &mut [u32],
     queries: &mut [u32],
+    words: &mut [u32],
     n: &mut u32,
     count: &mut usize,
     asks: &mut usize,
@@ -158,6 +188,8 @@ pub fn read(
             list.len(),
             queries.as_mut_ptr(),
             queries.len(),
+            words.as_mut_ptr(),
+            words.len(),
             n,
             count,
             asks,

@@ -1,9 +1,18 @@
 //! The C interface, as `include/weak_summary.h` declares it.
 
 extern "C" {
-    pub fn ws_own_roster(table: *const u32, table_length: usize, roster: *mut u8, roster_length: usize) -> u32;
+    pub fn ws_own_roster(
+        words: *const u32,
+        words_length: usize,
+        table: *const u32,
+        table_length: usize,
+        roster: *mut u8,
+        roster_length: usize,
+    ) -> u32;
 
     pub fn ws_saturate(
+        words: *const u32,
+        words_length: usize,
         table: *const u32,
         table_length: usize,
         roster: *const u8,
@@ -14,6 +23,8 @@ extern "C" {
     ) -> u32;
 
     pub fn ws_cliques(
+        words: *const u32,
+        words_length: usize,
         table: *const u32,
         table_length: usize,
         roster: *const u8,
@@ -25,6 +36,8 @@ extern "C" {
     ) -> u32;
 
     pub fn ws_summarise(
+        words: *const u32,
+        words_length: usize,
         table: *const u32,
         table_length: usize,
         roster: *const u8,
@@ -48,6 +61,8 @@ extern "C" {
     ) -> u32;
 
     pub fn ws_ask(
+        words: *const u32,
+        words_length: usize,
         table: *const u32,
         table_length: usize,
         map: *const u32,
@@ -58,6 +73,8 @@ extern "C" {
     ) -> u32;
 
     pub fn ws_open(
+        words: *const u32,
+        words_length: usize,
         roster: *const u8,
         roster_length: usize,
         triples: *mut u32,
@@ -71,6 +88,8 @@ extern "C" {
     ) -> u32;
 
     pub fn ws_feed(
+        words: *const u32,
+        words_length: usize,
         roster: *const u8,
         roster_length: usize,
         triples: *mut u32,
@@ -90,6 +109,8 @@ extern "C" {
     ) -> u32;
 
     pub fn ws_write(
+        words: *const u32,
+        words_length: usize,
         n: u32,
         table: *const u32,
         table_length: usize,
@@ -105,6 +126,8 @@ extern "C" {
         list_length: usize,
         queries: *mut u32,
         queries_length: usize,
+        words: *mut u32,
+        words_length: usize,
         n: *mut u32,
         count: *mut usize,
         asks: *mut usize,

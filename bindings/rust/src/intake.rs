@@ -2,9 +2,10 @@
 
 use crate::calls::{self, Lent};
 use crate::refusal::accepted;
-use crate::{Refusal, Triple};
+use crate::{Refusal, Triple, Words};
 
 pub struct Intake {
+    words: Words,
     roster: Vec<u8>,
     triples: Vec<u32>,
     summary: Vec<u32>,
@@ -15,14 +16,15 @@ pub struct Intake {
 }
 
 impl Intake {
-    /// An empty intake with this roster and room for this many triples.
-    pub fn open(roster: &[u8], slots: usize) -> Result<Intake, Refusal> {
+    /// An empty intake with these words, this roster and room for this many triples.
+    pub fn open(words: Words, roster: &[u8], slots: usize) -> Result<Intake, Refusal> {
         let numbers = slots.checked_mul(3).ok_or(Refusal::Length)?;
         let n = roster.len();
         if slots > 1_048_576 || n > 65_536 {
             return Err(Refusal::Length);
         }
         let mut intake = Intake {
+            words,
             roster: roster.to_vec(),
             triples: vec![0; numbers],
             summary: vec![0; numbers],
@@ -32,6 +34,7 @@ impl Intake {
             summarised: 0,
         };
         accepted(calls::open(
+            &intake.words.0,
             &intake.roster,
             &mut intake.triples,
             &mut intake.summary,
@@ -46,6 +49,7 @@ impl Intake {
     pub fn feed(&mut self, t: Triple) -> Result<bool, Refusal> {
         let mut is_new = 0;
         let lent = Lent {
+            words: &self.words.0,
             roster: &self.roster,
             triples: &mut self.triples,
             summary: &mut self.summary,

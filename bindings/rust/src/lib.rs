@@ -1,7 +1,8 @@
 //! The weak summary of a site graph: safe calls of the proved engine.
 //!
-//! Lists are slices, a refusal is an error, and an accepted call gives its values. What a call leaves in each slice is said in
-//! `include/weak_summary.h`; [`calls`] has the same calls with the status and the lent numbers as they are.
+//! Lists are slices, a refusal is an error, and an accepted call gives its values. The calls that judge codes take the reserved
+//! ones, [`Words`], first. What a call leaves in each slice is said in `include/weak_summary.h`; [`calls`] has the same calls with
+//! the status and the lent numbers as they are.
 
 pub mod calls;
 pub mod ffi;
@@ -9,11 +10,13 @@ mod intake;
 mod query;
 mod refusal;
 mod site;
+mod words;
 
 pub use intake::Intake;
 pub use query::{ask, Answer, End, Pattern, Query};
 pub use refusal::Refusal;
 pub use site::{read, write, Site};
+pub use words::Words;
 
 use refusal::accepted;
 
@@ -21,6 +24,8 @@ use refusal::accepted;
 pub const ABSENT: u32 = u32::MAX;
 /// The most patterns of a query.
 pub const MAX_PATTERNS: usize = 8;
+/// The numbers of a word table.
+pub const WORDS_NUMBERS: usize = 5;
 /// The numbers of a flat query.
 pub const QUERY_NUMBERS: usize = 41;
 /// The numbers of the sixteen flat queries of a text.
@@ -30,23 +35,30 @@ pub const QUERIES_NUMBERS: usize = 656;
 pub type Triple = [u32; 3];
 
 /// Puts the smallest roster that covers the table; N is the roster's length.
-pub fn own_roster(table: &[u32], roster: &mut [u8]) -> Result<(), Refusal> {
-    accepted(calls::own_roster(table, roster))
+pub fn own_roster(words: Words, table: &[u32], roster: &mut [u8]) -> Result<(), Refusal> {
+    accepted(calls::own_roster(&words.0, table, roster))
 }
 
 /// Saturates the table into the result and gives the number of triples.
-pub fn saturate(table: &[u32], roster: &[u8], result: &mut [u32]) -> Result<usize, Refusal> {
+pub fn saturate(words: Words, table: &[u32], roster: &[u8], result: &mut [u32]) -> Result<usize, Refusal> {
     let mut count = 0;
-    accepted(calls::saturate(table, roster, result, &mut count)).map(|()| count)
+    accepted(calls::saturate(&words.0, table, roster, result, &mut count)).map(|()| count)
 }
 
 /// Puts, for each code taken as a property, the smallest property of its source clique and of its target clique.
-pub fn cliques(table: &[u32], roster: &[u8], sources: &mut [u32], targets: &mut [u32]) -> Result<(), Refusal> {
-    accepted(calls::cliques(table, roster, sources, targets))
+pub fn cliques(
+    words: Words,
+    table: &[u32],
+    roster: &[u8],
+    sources: &mut [u32],
+    targets: &mut [u32],
+) -> Result<(), Refusal> {
+    accepted(calls::cliques(&words.0, table, roster, sources, targets))
 }
 
 /// Puts the summary and the map and gives the number of triples. The work list has 2 × N numbers.
 pub fn summarise(
+    words: Words,
     table: &[u32],
     roster: &[u8],
     result: &mut [u32],
@@ -54,7 +66,7 @@ pub fn summarise(
     work: &mut [u32],
 ) -> Result<usize, Refusal> {
     let mut count = 0;
-    accepted(calls::summarise(table, roster, result, map, work, &mut count)).map(|()| count)
+    accepted(calls::summarise(&words.0, table, roster, result, map, work, &mut count)).map(|()| count)
 }
 
 /// Whether the triple is in the list.

@@ -1,7 +1,7 @@
 //! Queries and ask.
 
 use crate::refusal::accepted;
-use crate::{calls, Refusal, MAX_PATTERNS, QUERY_NUMBERS};
+use crate::{calls, Refusal, Words, MAX_PATTERNS, QUERY_NUMBERS};
 
 /// An end of a pattern.
 #[derive(Clone, Copy, PartialEq, Eq, Debug)]
@@ -92,8 +92,8 @@ impl Query {
 }
 
 /// Whether some choice of nodes for the variables puts every pattern in the table; N is the map's length.
-pub fn ask(table: &[u32], map: &[u32], query: &Query) -> Result<Answer, Refusal> {
+pub fn ask(words: Words, table: &[u32], map: &[u32], query: &Query) -> Result<Answer, Refusal> {
     let mut maybe = 0;
-    accepted(calls::ask(table, map, &query.flat(), &mut maybe))?;
+    accepted(calls::ask(&words.0, table, map, &query.flat(), &mut maybe))?;
     Ok(if maybe == 1 { Answer::Maybe } else { Answer::None })
 }

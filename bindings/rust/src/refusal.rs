@@ -5,33 +5,35 @@ use std::fmt;
 #[derive(Clone, Copy, PartialEq, Eq, Debug)]
 pub enum Refusal {
     /// 1: a list has a wrong length, or N is out of range.
-    Length,
+    Length = 1,
     /// 2: a roster value over 3, or a reserved code marked.
-    Roster,
+    Roster = 2,
     /// 3: a code of a triple not below N, or reserved as subject or object.
-    Code,
+    Code = 3,
     /// 4: the roster does not cover the table or the fed triple.
-    Cover,
+    Cover = 4,
     /// 5: more result triples than slots, or more bytes than the list has.
-    Slots,
+    Slots = 5,
     /// 6: a query with a wrong count, variable or code.
-    Query,
+    Query = 6,
     /// 7: the triple is new and every slot of the intake holds one.
-    Full,
+    Full = 7,
     /// 8: the text is not in the site form.
-    Form,
+    Form = 8,
+    /// 10: two of the words are equal, or one is not below N.
+    Words = 10,
 }
 
 impl Refusal {
     /// The refusal with this number.
     pub fn numbered(number: u32) -> Option<Refusal> {
         use Refusal::*;
-        let all = [Length, Roster, Code, Cover, Slots, Query, Full, Form];
+        let all = [Length, Roster, Code, Cover, Slots, Query, Full, Form, Words];
         all.into_iter().find(|r| r.number() == number)
     }
 
     pub fn number(self) -> u32 {
-        self as u32 + 1
+        self as u32
     }
 
     fn text(self) -> &'static str {
@@ -44,6 +46,7 @@ impl Refusal {
             Refusal::Query => "the query is wrong",
             Refusal::Full => "the intake is full",
             Refusal::Form => "the text is not in the site form",
+            Refusal::Words => "the words are wrong",
         }
     }
 }
@@ -60,6 +63,6 @@ impl std::error::Error for Refusal {}
 pub(crate) fn accepted(status: u32) -> Result<(), Refusal> {
     match status {
         0 => Ok(()),
-        number => Err(Refusal::numbered(number).expect("a status is 0 to 8")),
+        number => Err(Refusal::numbered(number).expect("a status is 0 or the number of a refusal")),
     }
 }

@@ -2,7 +2,7 @@
 
 mod common;
 
-use common::{roster_of, SIX};
+use common::{roster_of, RDFS, SIX};
 use weak_summary::{ask, cliques, own_roster, read, saturate, summarise, write};
 use weak_summary::{calls, look_up, End, Intake, Pattern, Query, Refusal};
 
@@ -10,7 +10,7 @@ use weak_summary::{calls, look_up, End, Intake, Pattern, Query, Refusal};
 fn summarised(table: &[u32], roster: &[u8], lengths: [usize; 3]) -> (Result<usize, Refusal>, [Vec<u32>; 3]) {
     let mut lists = lengths.map(|length| vec![1; length]);
     let [result, map, work] = &mut lists;
-    let answer = summarise(table, roster, result, map, work);
+    let answer = summarise(RDFS, table, roster, result, map, work);
     (answer, lists)
 }
 
@@ -23,7 +23,7 @@ type Case<'a> = (&'a [u32], &'a [u8], [usize; 3], Refusal);
 
 #[test]
 fn summarise_refuses_in_order() {
-    let roster = roster_of(&SIX, 14);
+    let roster = roster_of(RDFS, &SIX, 14);
     let mut marked = roster.clone();
     marked[3] = 1;
     let mut over = roster.clone();
@@ -51,26 +51,26 @@ fn summarise_refuses_in_order() {
 fn saturate_and_cliques_refuse() {
     let table = [10, 5, 11];
     let mut result = [1; 3];
-    assert_eq!(saturate(&table, &[0; 12], &mut result), Err(Refusal::Cover));
-    assert_eq!(saturate(&table, &[9; 12], &mut result), Err(Refusal::Roster));
-    assert_eq!(saturate(&table, &[9; 65_537], &mut result), Err(Refusal::Length));
+    assert_eq!(saturate(RDFS, &table, &[0; 12], &mut result), Err(Refusal::Cover));
+    assert_eq!(saturate(RDFS, &table, &[9; 12], &mut result), Err(Refusal::Roster));
+    assert_eq!(saturate(RDFS, &table, &[9; 65_537], &mut result), Err(Refusal::Length));
     assert_eq!(result, [1; 3]);
     let (mut sources, mut targets) = ([1; 12], [1; 11]);
-    assert_eq!(cliques(&table, &[9; 12], &mut sources, &mut targets), Err(Refusal::Length));
+    assert_eq!(cliques(RDFS, &table, &[9; 12], &mut sources, &mut targets), Err(Refusal::Length));
     let mut targets = [1; 12];
-    assert_eq!(cliques(&table, &[9; 12], &mut sources, &mut targets), Err(Refusal::Roster));
-    assert_eq!(cliques(&[4, 5, 11], &[0; 12], &mut sources, &mut targets), Err(Refusal::Code));
-    assert_eq!(cliques(&table, &[0; 12], &mut sources, &mut targets), Err(Refusal::Cover));
+    assert_eq!(cliques(RDFS, &table, &[9; 12], &mut sources, &mut targets), Err(Refusal::Roster));
+    assert_eq!(cliques(RDFS, &[4, 5, 11], &[0; 12], &mut sources, &mut targets), Err(Refusal::Code));
+    assert_eq!(cliques(RDFS, &table, &[0; 12], &mut sources, &mut targets), Err(Refusal::Cover));
     assert_eq!((sources, targets), ([1; 12], [1; 12]));
 }
 
 #[test]
 fn own_roster_refuses() {
     let mut roster = [9; 12];
-    assert_eq!(own_roster(&[10, 5], &mut roster), Err(Refusal::Length));
-    assert_eq!(own_roster(&[10, 12, 11], &mut roster), Err(Refusal::Code));
+    assert_eq!(own_roster(RDFS, &[10, 5], &mut roster), Err(Refusal::Length));
+    assert_eq!(own_roster(RDFS, &[10, 12, 11], &mut roster), Err(Refusal::Code));
     assert_eq!(roster, [9; 12]);
-    assert_eq!(own_roster(&vec![5; 3 * 1_048_577], &mut roster), Err(Refusal::Length));
+    assert_eq!(own_roster(RDFS, &vec![5; 3 * 1_048_577], &mut roster), Err(Refusal::Length));
 }
 
 #[test]
@@ -95,25 +95,25 @@ fn ask_refuses_in_order() {
     ];
     let table = [10, 5, 11];
     let map = [10; 12];
-    assert!(ask(&table, &map, &right).is_ok());
+    assert!(ask(RDFS, &table, &map, &right).is_ok());
     for query in &wrong {
-        assert_eq!(ask(&table[..2], &map, query), Err(Refusal::Length));
-        assert_eq!(ask(&[10, 5, 4], &map, query), Err(Refusal::Code));
-        assert_eq!(ask(&table, &map, query), Err(Refusal::Query));
+        assert_eq!(ask(RDFS, &table[..2], &map, query), Err(Refusal::Length));
+        assert_eq!(ask(RDFS, &[10, 5, 4], &map, query), Err(Refusal::Code));
+        assert_eq!(ask(RDFS, &table, &map, query), Err(Refusal::Query));
     }
     assert_eq!(Query::new(&[Pattern::BLANK; 9]), Err(Refusal::Query));
-    assert_eq!(calls::ask(&table, &map, &right.flat()[..40], &mut 0), 1);
+    assert_eq!(calls::ask(&RDFS.0, &table, &map, &right.flat()[..40], &mut 0), 1);
     let mut flat = right.flat();
     flat[4] = 2;
-    assert_eq!(calls::ask(&table, &map, &flat, &mut 0), 6);
+    assert_eq!(calls::ask(&RDFS.0, &table, &map, &flat, &mut 0), 6);
 }
 
 #[test]
 fn intake_refuses_in_order() {
-    assert_eq!(Intake::open(&[0; 4], 3).err(), Some(Refusal::Length));
-    assert_eq!(Intake::open(&[0; 9], 1_048_577).err(), Some(Refusal::Length));
-    assert_eq!(Intake::open(&[1; 9], 3).err(), Some(Refusal::Roster));
-    let mut intake = Intake::open(&roster_of(&[10, 5, 11], 12), 1).unwrap();
+    assert_eq!(Intake::open(RDFS, &[0; 4], 3).err(), Some(Refusal::Length));
+    assert_eq!(Intake::open(RDFS, &[0; 9], 1_048_577).err(), Some(Refusal::Length));
+    assert_eq!(Intake::open(RDFS, &[1; 9], 3).err(), Some(Refusal::Roster));
+    let mut intake = Intake::open(RDFS, &roster_of(RDFS, &[10, 5, 11], 12), 1).unwrap();
     assert_eq!(intake.feed([12, 5, 11]), Err(Refusal::Code));
     assert_eq!(intake.feed([10, 6, 11]), Err(Refusal::Cover));
     assert_eq!(intake.feed([10, 5, 11]), Ok(true));
@@ -127,7 +127,16 @@ fn fed(roster: &[u8], work_length: usize) -> (u32, [Vec<u32>; 4]) {
     let mut lists = [vec![1; 6], vec![1; 6], vec![1; roster.len()], vec![1; work_length]];
     let (mut held, mut summarised, mut is_new) = (0, 0, 7);
     let [triples, summary, map, work] = &mut lists;
-    let lent = calls::Lent { roster, triples, summary, map, work, held: &mut held, summarised: &mut summarised };
+    let lent = calls::Lent {
+        words: &RDFS.0,
+        roster,
+        triples,
+        summary,
+        map,
+        work,
+        held: &mut held,
+        summarised: &mut summarised,
+    };
     let status = calls::feed(lent, [10, 5, 11], &mut is_new);
     assert_eq!((held, summarised, is_new), (0, 0, 7));
     (status, lists)
@@ -135,7 +144,7 @@ fn fed(roster: &[u8], work_length: usize) -> (u32, [Vec<u32>; 4]) {
 
 #[test]
 fn a_feed_refuses_lengths_and_rosters() {
-    let roster = roster_of(&[10, 5, 11], 12);
+    let roster = roster_of(RDFS, &[10, 5, 11], 12);
     let mut marked = roster.clone();
     marked[4] = 2;
     for (roster, work_length, refusal) in [(&roster, 23, 1), (&marked, 25, 1), (&marked, 24, 2)] {
@@ -146,11 +155,15 @@ fn a_feed_refuses_lengths_and_rosters() {
 }
 
 #[test]
-fn reading_refuses_a_list_of_queries_of_another_length() {
-    let (mut list, mut queries) = ([1; 6], [1; 655]);
-    let (mut n, mut count, mut asks) = (7, 7, 7);
-    assert_eq!(calls::read(b"(site 05)\n", &mut list, &mut queries, &mut n, &mut count, &mut asks), 1);
-    assert_eq!((list, queries, n, count, asks), ([1; 6], [1; 655], 7, 7, 7));
+fn reading_refuses_queries_and_words_of_another_length() {
+    for (queries_length, words_length) in [(655, 5), (657, 5), (656, 4), (656, 6), (656, 0)] {
+        let (mut list, mut queries, mut words) = ([1; 6], vec![1; queries_length], vec![1; words_length]);
+        let (mut n, mut count, mut asks) = (7, 7, 7);
+        let text = b"(site 05)\n";
+        assert_eq!(calls::read(text, &mut list, &mut queries, &mut words, &mut n, &mut count, &mut asks), 1);
+        assert_eq!((list, queries, words), ([1; 6], vec![1; queries_length], vec![1; words_length]));
+        assert_eq!((n, count, asks), (7, 7, 7));
+    }
 }
 
 #[test]
@@ -163,10 +176,10 @@ fn read_and_write_refuse() {
     assert_eq!(read(text, &mut list), Err(Refusal::Slots));
     assert_eq!(list, [0; 5]);
     let mut out = [1; 20];
-    assert_eq!(write(4, &[], &mut out), Err(Refusal::Length));
-    assert_eq!(write(9, &[5; 3_003], &mut out), Err(Refusal::Length));
-    assert_eq!(write(9, &[8, 5, 9], &mut out), Err(Refusal::Code));
+    assert_eq!(write(RDFS, 4, &[], &mut out), Err(Refusal::Length));
+    assert_eq!(write(RDFS, 9, &[5; 3_003], &mut out), Err(Refusal::Length));
+    assert_eq!(write(RDFS, 9, &[8, 5, 9], &mut out), Err(Refusal::Code));
     assert_eq!(out, [1; 20]);
-    assert_eq!(write(65_536, &[8, 5, 8], &mut out), Err(Refusal::Slots));
+    assert_eq!(write(RDFS, 65_536, &[8, 5, 8], &mut out), Err(Refusal::Slots));
     assert_eq!(out, [0; 20]);
 }

@@ -10,7 +10,8 @@ use lib.Dec.{ltb, eqb}
 use lib.ListN.{length}
 use borrow.Author.Tests.{lt-ltb, le-ltb, le-leb, lt-leb, eqb-true, eqb-false, eq-eqb, ne-eqb}
 use Rattle.model.specs.declared.Triple.{Triple}
-use Rattle.model.specs.Codes.{rdfs, reserved}
+use Rattle.model.specs.declared.Vocabulary.{Vocabulary}
+use Rattle.model.specs.Codes.{reserved}
 use Rattle.model.specs.Lists.{any, tabulate}
 use Rattle.model.specs.Triples.{triples}
 use Rattle.model.specs.Roster.{wrongEnd, wrongTriple, wrongCodes}
@@ -37,60 +38,6 @@ pub length-other : (l : ℕ) → l % 3 ≡ 0 → ltb 3145728 l ≡ wrongLength l
 unfolding wrongLength
 length-other l h = rw (eq-eqb _ _ h)
 
--- ── a triple ──
-pub end-over : (n c : ℕ) → n ≤ c → true ≡ wrongEnd rdfs n c
-unfolding wrongEnd
-end-over n c h = rw (le-leb _ _ h)
-
-pub end-below : (n c : ℕ) → c < n → reserved rdfs c ≡ wrongEnd rdfs n c
-unfolding wrongEnd
-end-below n c h = rw (lt-leb _ _ h)
-
-module _ (n : ℕ) (t : Triple) where
-  pub wrong-subject : wrongEnd rdfs n (t .subject) ≡ true → true ≡ wrongTriple rdfs n t
-  unfolding wrongTriple
-  wrong-subject e = rw e
-
-  module _ (e : wrongEnd rdfs n (t .subject) ≡ false) where
-    pub wrong-property : n ≤ t .property → true ≡ wrongTriple rdfs n t
-    unfolding wrongTriple
-    wrong-property h = rw (e, le-leb _ _ h)
-
-    pub wrong-object : t .property < n → wrongEnd rdfs n (t .object) ≡ wrongTriple rdfs n t
-    unfolding wrongTriple
-    wrong-object h = rw (e, lt-leb _ _ h)
-
--- ── a table ──
--- no triple before place i has a wrong code
-pub record RightBefore (table : List ℕ) (n i : ℕ) : Type 0 where
-  pub within : i ≤ length table / 3
-  pub none : any (wrongTriple rdfs n) (tabulate (at table) 0 i) ≡ false
-
-module _ (table : List ℕ) (n : ℕ) where
-  pub codes-start : RightBefore table n 0
-  codes-start = record { within = omega arith; none = run-none (wrongTriple rdfs n) (at table) 0 }
-
-  pub codes-step : (i : ℕ) (t : Triple) → RightBefore table n i → i < length table / 3 → t ≡ at table i → wrongTriple rdfs n t ≡ false
-      → RightBefore table n (i + 1)
-  codes-step i t h l e w = record {
-    within = omega arith;
-    none = run-more (wrongTriple rdfs n) (at table) i (h .none) (ap (wrongTriple rdfs n) (sym e) ∙ w);
-  }
-
-  pub codes-found : (i : ℕ) (t : Triple) → i < length table / 3 → t ≡ at table i → wrongTriple rdfs n t ≡ true
-      → true ≡ wrongCodes rdfs n (triples table)
-  unfolding wrongCodes
-  codes-found i t l e w =
-      sym
-      (ap (any (wrongTriple rdfs n)) (triples-table table)
-      ∙ run-holds (wrongTriple rdfs n) (at table) 0 (length table / 3) i (omega arith) (omega arith) (ap (wrongTriple rdfs n) (sym e) ∙ w))
-
-  pub codes-end : (i : ℕ) → RightBefore table n i → length table / 3 ≤ i → false ≡ wrongCodes rdfs n (triples table)
-  unfolding wrongCodes
-  codes-end i h l =
-      let e : length table / 3 ≡ i = omega (arith, h .within) in
-      sym (ap (any (wrongTriple rdfs n)) (triples-table table ∙ ap (tabulate (at table) 0) e) ∙ h .none)
-
 -- ── the work list ──
 module _ (n work : ℕ) where
   pub work-odd : (work % 2 ≡ 0 → ⊥) → true ≡ wrongWork n work
@@ -104,3 +51,58 @@ module _ (n work : ℕ) where
       halves : (eqb (work / 2) n ≡ true) ⊎ (eqb (work / 2) n ≡ false) → eqb (work / 2) n ≡ eqb work (2 * n)
       halves (inl e) = e ∙ sym (eq-eqb work (2 * n) (omega (arith, eqb-true (work / 2) n e)))
       halves (inr e) = e ∙ sym (ne-eqb work (2 * n) (λ z. eqb-false (work / 2) n e (omega arith)))
+
+module _ (v : Vocabulary) where
+  -- ── a triple ──
+  pub end-over : (n c : ℕ) → n ≤ c → true ≡ wrongEnd v n c
+  unfolding wrongEnd
+  end-over n c h = rw (le-leb _ _ h)
+
+  pub end-below : (n c : ℕ) → c < n → reserved v c ≡ wrongEnd v n c
+  unfolding wrongEnd
+  end-below n c h = rw (lt-leb _ _ h)
+
+  module _ (n : ℕ) (t : Triple) where
+    pub wrong-subject : wrongEnd v n (t .subject) ≡ true → true ≡ wrongTriple v n t
+    unfolding wrongTriple
+    wrong-subject e = rw e
+
+    module _ (e : wrongEnd v n (t .subject) ≡ false) where
+      pub wrong-property : n ≤ t .property → true ≡ wrongTriple v n t
+      unfolding wrongTriple
+      wrong-property h = rw (e, le-leb _ _ h)
+
+      pub wrong-object : t .property < n → wrongEnd v n (t .object) ≡ wrongTriple v n t
+      unfolding wrongTriple
+      wrong-object h = rw (e, lt-leb _ _ h)
+
+  -- ── a table ──
+  -- no triple before place i has a wrong code
+  pub record RightBefore (table : List ℕ) (n i : ℕ) : Type 0 where
+    pub within : i ≤ length table / 3
+    pub none : any (wrongTriple v n) (tabulate (at table) 0 i) ≡ false
+
+  module _ (table : List ℕ) (n : ℕ) where
+    pub codes-start : RightBefore table n 0
+    codes-start = record { within = omega arith; none = run-none (wrongTriple v n) (at table) 0 }
+
+    pub codes-step : (i : ℕ) (t : Triple) → RightBefore table n i → i < length table / 3 → t ≡ at table i → wrongTriple v n t ≡ false
+        → RightBefore table n (i + 1)
+    codes-step i t h l e w = record {
+      within = omega arith;
+      none = run-more (wrongTriple v n) (at table) i (h .none) (ap (wrongTriple v n) (sym e) ∙ w);
+    }
+
+    pub codes-found : (i : ℕ) (t : Triple) → i < length table / 3 → t ≡ at table i → wrongTriple v n t ≡ true
+        → true ≡ wrongCodes v n (triples table)
+    unfolding wrongCodes
+    codes-found i t l e w =
+        sym
+        (ap (any (wrongTriple v n)) (triples-table table)
+        ∙ run-holds (wrongTriple v n) (at table) 0 (length table / 3) i (omega arith) (omega arith) (ap (wrongTriple v n) (sym e) ∙ w))
+
+    pub codes-end : (i : ℕ) → RightBefore table n i → length table / 3 ≤ i → false ≡ wrongCodes v n (triples table)
+    unfolding wrongCodes
+    codes-end i h l =
+        let e : length table / 3 ≡ i = omega (arith, h .within) in
+        sym (ap (any (wrongTriple v n)) (triples-table table ∙ ap (tabulate (at table) 0) e) ∙ h .none)

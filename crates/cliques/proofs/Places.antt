@@ -9,7 +9,8 @@ use native.Mathlib.Omega.{arith}
 use native.Mathlib.Decide.{ℕ-discrete}
 use lib.ListN.{length}
 use Rattle.model.specs.declared.Triple.{Triple}
-use Rattle.model.specs.Codes.{rdfs, kind}
+use Rattle.model.specs.declared.Vocabulary.{Vocabulary}
+use Rattle.model.specs.Codes.{kind}
 use Rattle.model.specs.Lists.{tabulate}
 use Rattle.model.specs.Triples.{triples, isData}
 use Rattle.model.specs.Roster.{unmarked}
@@ -40,94 +41,96 @@ module _ (table : List ℕ) (i : ℕ) where
       go j h q (yes s) = inr (q ∙ ap (at table) s)
       go j h q (no n) = inl (subst (Before table i) (sym q) (mem-tabulate (at table) 0 i j (omega arith) (omega arith)))
 
-  module _ (roster : List ℕ) (e : Side) (t : Triple) (is : t ≡ at table i) where
-    pub has-back : (m p : ℕ) → Has rdfs roster (Before table (i + 1)) e m p
-        → Has rdfs roster (Before table i) e m p ⊎ ((links rdfs roster e t ≡ true) × (m ≡ end e t) × (p ≡ t .property))
-    unfolding links
-    has-back m p h =
-        ⊎-elim
-        (λ k. inl (record { by = h .by; held = k; is-data = h .is-data; is-end = h .is-end; plain = h .plain; property = h .property }))
-        (λ k.
-        let q : t ≡ h .by = is ∙ sym k in
-        let s : end e t ≡ m = ap (end e) q ∙ h .is-end in
-        inr (and-both (isData rdfs t) _ (ap (isData rdfs) q ∙ h .is-data) (ap (unmarked roster) s ∙ h .plain), sym s, sym (ap (λ (x : Triple). x .property) q ∙ h .property)))
-        (back (h .by) (h .held))
+module _ (v : Vocabulary) where
+  module _ (table : List ℕ) (i : ℕ) where
+    module _ (roster : List ℕ) (e : Side) (t : Triple) (is : t ≡ at table i) where
+      pub has-back : (m p : ℕ) → Has v roster (Before table (i + 1)) e m p
+          → Has v roster (Before table i) e m p ⊎ ((links v roster e t ≡ true) × (m ≡ end e t) × (p ≡ t .property))
+      unfolding links
+      has-back m p h =
+          ⊎-elim
+          (λ k. inl (record { by = h .by; held = k; is-data = h .is-data; is-end = h .is-end; plain = h .plain; property = h .property }))
+          (λ k.
+          let q : t ≡ h .by = is ∙ sym k in
+          let s : end e t ≡ m = ap (end e) q ∙ h .is-end in
+          inr (and-both (isData v t) _ (ap (isData v) q ∙ h .is-data) (ap (unmarked roster) s ∙ h .plain), sym s, sym (ap (λ (x : Triple). x .property) q ∙ h .property)))
+          ((back table i) (h .by) (h .held))
 
-    -- a triple that links nothing
-    pub place-skipped : (l : List ℕ) → links rdfs roster e t ≡ false → Grouped table roster e i l → Grouped table roster e (i + 1) l
-    place-skipped l f g =
-        record { active = g .active; state = skip roster e up (λ m p h. ⊎-elim (λ o. o) (λ x. absurd (not-both (x .0) f)) (has-back m p h)) (g .state) }
+      -- a triple that links nothing
+      pub place-skipped : (l : List ℕ) → links v roster e t ≡ false → Grouped v table roster e i l → Grouped v table roster e (i + 1) l
+      place-skipped l f g =
+          record { active = g .active; state = skip v roster e (up table i) (λ m p h. ⊎-elim (λ o. o) (λ x. absurd (not-both (x .0) f)) (has-back m p h)) (g .state) }
 
-    module _ (R : Right rdfs roster (triples table)) (w : i < length table / 3) where
-      pub place-below : Below (length roster) t
-      place-below = below-at (length roster) table i t (below rdfs roster (triples table) R) w is
+      module _ (R : Right v roster (triples table)) (w : i < length table / 3) where
+        pub place-below : Below (length roster) t
+        place-below = below-at (length roster) table i t (below v roster (triples table) R) w is
 
-      -- a triple that links its property at its node
-      module _ (l : List ℕ) (g : Grouped table roster e i l) (h : links rdfs roster e t ≡ true) where
-        parts : (isData rdfs t ≡ true) × (unmarked roster (end e t) ≡ true)
-        unfolding links
-        parts = and-true (isData rdfs t) _ h
+        -- a triple that links its property at its node
+        module _ (l : List ℕ) (g : Grouped v table roster e i l) (h : links v roster e t ≡ true) where
+          parts : (isData v t ≡ true) × (unmarked roster (end e t) ≡ true)
+          unfolding links
+          parts = and-true (isData v t) _ h
 
-        grown : Grown roster e (Before table i) (Before table (i + 1)) (end e t) (t .property)
-        grown = record {
-          up = up;
-          own = record { by = t; held = subst (Before table (i + 1)) (sym is) last; is-data = parts .0; is-end = refl; plain = parts .1; property = refl };
-          back = λ m p k. ⊎-elim (λ o. inl o) (λ x. inr (x .1, x .2)) (has-back m p k);
-        }
-
-        -- the property of a covered data triple is marked
-        marked : unmarked roster (t .property) ≡ false
-        marked =
-            let k : kind rdfs (t .property) ≡ 5 = omega (arith, kind-top rdfs (t .property), data-kind rdfs t (parts .0)) in
-            let c = covered rdfs roster (triples table) R t (subst (λ (x : Triple). Mem x (triples table)) (sym is) (at-in table i w)) in
-            property-marked roster (t .property) (property-at roster rdfs t 5 k c (t .property) (here refl))
-
-        pub property-inside : t .property < length l
-        property-inside = omega (arith, place-below .property, g .state .size)
-
-        module _ (l₁ : List ℕ) (o : l₁ ≡ opened l (t .property)) where
-          between : (B : ℕ → Bool) × Grouping roster e B (Before table (i + 1)) (Before table i) l₁ × (B (t .property) ≡ true)
-          between =
-              rw o
-              (open-state roster e (g .active) (Before table (i + 1)) (Before table i) l (widen roster e up (g .state)) (t .property) property-inside marked
-              (clique-self rdfs roster (grown .own)))
-
-          node-inside : end e t < length l₁
-          node-inside = omega (arith, end-below (length roster) t place-below e, between .1 .size)
-
-          pub place-linkable : (n : ℕ) → n ≡ end e t → Linkable l₁ n (t .property)
-          place-linkable n q =
-              subst (λ (k : ℕ). Linkable l₁ k (t .property)) (sym q)
-              (linkable roster e (between .0) (Before table (i + 1)) (Before table i) l₁ (between .1) (end e t) (t .property) (parts .1) node-inside (between .2) grown)
-
-          pub place-linked : (n : ℕ) → n ≡ end e t → (l₂ : List ℕ) → NodeLinked l₁ l₂ n (t .property) → Grouped table roster e (i + 1) l₂
-          place-linked n q l₂ s = record {
-            active = between .0;
-            state = link-state roster e (between .0) (Before table (i + 1)) (Before table i) l₁ (between .1) (end e t) (t .property) (parts .1) node-inside (between .2) grown l₂
-                (subst (λ (k : ℕ). NodeLinked l₁ l₂ k (t .property)) q s);
+          grown : Grown v roster e (Before table i) (Before table (i + 1)) (end e t) (t .property)
+          grown = record {
+            up = (up table i);
+            own = record { by = t; held = subst (Before table (i + 1)) (sym is) (last table i); is-data = parts .0; is-end = refl; plain = parts .1; property = refl };
+            back = λ m p k. ⊎-elim (λ o. inl o) (λ x. inr (x .1, x .2)) (has-back m p k);
           }
 
--- ── before the first triple ──
-pub grouped-start : (table roster : List ℕ) (e : Side) (l₀ l : List ℕ) → Right rdfs roster (triples table) → length l₀ ≡ length roster → Emptied l₀ l (length l₀) → Grouped table roster e 0 l
-unfolding tabulate
-grouped-start table roster e l₀ l R n d = record {
-  active = λ x. false;
-  state = record {
-    size = d .size ∙ n;
-    forest = record {
-      size = omega (arith, d .size, room rdfs roster (triples table) R);
-      inside = λ x a. absurd (not-both a refl);
-      falls = λ x a. absurd (not-both a refl);
-      links = λ x a. absurd (not-both a refl);
-    };
-    marked = λ p a. absurd (not-both a refl);
-    sound = λ p a. absurd (not-both a refl);
-    none = λ p h m a. d .absents p (omega (arith, d .size));
-    first = λ m p h. absurd (no-mem (h .held));
-    held = λ m h u. inl (d .absents m (omega (arith, d .size)));
-  };
-}
+          -- the property of a covered data triple is marked
+          marked : unmarked roster (t .property) ≡ false
+          marked =
+              let k : kind v (t .property) ≡ 5 = omega (arith, kind-top v (t .property), data-kind v t (parts .0)) in
+              let c = covered v roster (triples table) R t (subst (λ (x : Triple). Mem x (triples table)) (sym is) (at-in table i w)) in
+              property-marked roster (t .property) (property-at roster v t 5 k c (t .property) (here refl))
 
--- ── after the last ──
-pub grouped-all : (table roster : List ℕ) (e : Side) (n i : ℕ) (l : List ℕ) → n ≡ length table / 3 → n ≡ i → Grouped table roster e i l → Grouped table roster e (length table / 3) l
-grouped-all table roster e n i l h k g = subst (λ (j : ℕ). Grouped table roster e j l) (sym k ∙ h) g
+          pub property-inside : t .property < length l
+          property-inside = omega (arith, place-below .property, g .state .size)
+
+          module _ (l₁ : List ℕ) (o : l₁ ≡ opened l (t .property)) where
+            between : (B : ℕ → Bool) × Grouping v roster e B (Before table (i + 1)) (Before table i) l₁ × (B (t .property) ≡ true)
+            between =
+                rw o
+                (open-state v roster e (g .active) (Before table (i + 1)) (Before table i) l (widen v roster e (up table i) (g .state)) (t .property) property-inside marked
+                (clique-self v roster (grown .own)))
+
+            node-inside : end e t < length l₁
+            node-inside = omega (arith, end-below (length roster) t place-below e, between .1 .size)
+
+            pub place-linkable : (n : ℕ) → n ≡ end e t → Linkable l₁ n (t .property)
+            place-linkable n q =
+                subst (λ (k : ℕ). Linkable l₁ k (t .property)) (sym q)
+                (linkable v roster e (between .0) (Before table (i + 1)) (Before table i) l₁ (between .1) (end e t) (t .property) (parts .1) node-inside (between .2) grown)
+
+            pub place-linked : (n : ℕ) → n ≡ end e t → (l₂ : List ℕ) → NodeLinked l₁ l₂ n (t .property) → Grouped v table roster e (i + 1) l₂
+            place-linked n q l₂ s = record {
+              active = between .0;
+              state = link-state v roster e (between .0) (Before table (i + 1)) (Before table i) l₁ (between .1) (end e t) (t .property) (parts .1) node-inside (between .2) grown l₂
+                  (subst (λ (k : ℕ). NodeLinked l₁ l₂ k (t .property)) q s);
+            }
+
+  -- ── before the first triple ──
+  pub grouped-start : (table roster : List ℕ) (e : Side) (l₀ l : List ℕ) → Right v roster (triples table) → length l₀ ≡ length roster → Emptied l₀ l (length l₀) → Grouped v table roster e 0 l
+  unfolding tabulate
+  grouped-start table roster e l₀ l R n d = record {
+    active = λ x. false;
+    state = record {
+      size = d .size ∙ n;
+      forest = record {
+        size = omega (arith, d .size, room v roster (triples table) R);
+        inside = λ x a. absurd (not-both a refl);
+        falls = λ x a. absurd (not-both a refl);
+        links = λ x a. absurd (not-both a refl);
+      };
+      marked = λ p a. absurd (not-both a refl);
+      sound = λ p a. absurd (not-both a refl);
+      none = λ p h m a. d .absents p (omega (arith, d .size));
+      first = λ m p h. absurd (no-mem (h .held));
+      held = λ m h u. inl (d .absents m (omega (arith, d .size)));
+    };
+  }
+
+  -- ── after the (last table i) ──
+  pub grouped-all : (table roster : List ℕ) (e : Side) (n i : ℕ) (l : List ℕ) → n ≡ length table / 3 → n ≡ i → Grouped v table roster e i l → Grouped v table roster e (length table / 3) l
+  grouped-all table roster e n i l h k g = subst (λ (j : ℕ). Grouped v table roster e j l) (sym k ∙ h) g

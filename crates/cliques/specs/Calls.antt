@@ -5,7 +5,7 @@ use mathlib.Core.Path.{_≡_}
 use mathlib.Core.Bool.{Bool, true, false}
 use mathlib.Core.List.{List}
 use Rattle.model.specs.declared.Done.{Done}
-use Rattle.model.specs.Codes.{rdfs}
+use Rattle.model.specs.declared.Vocabulary.{Vocabulary}
 use Rattle.model.specs.Cliques.{Side, source, target}
 use Rattle.model.specs.Outcomes.{done}
 use Rattle.model.specs.Calls.{cliquesOutcome, cliquesLeave}
@@ -15,8 +15,9 @@ abbrev pub sideOf : Bool → Side
 sideOf true = source
 sideOf false = target
 
--- what cliques returns, and what it leaves in the two lent lists
-pub record CliquesCall (table roster sources targets : List ℕ) (r : Done) (after-sources after-targets : List ℕ) : Type 0 where
-  pub answer : done r ≡ cliquesOutcome rdfs table roster sources targets
-  pub in-sources : after-sources ≡ cliquesLeave rdfs source table roster sources targets
-  pub in-targets : after-targets ≡ cliquesLeave rdfs target table roster sources targets
+module _ (v : Vocabulary) where
+  -- what cliques returns, and what it leaves in the two lent lists
+  pub record CliquesCall (table roster sources targets : List ℕ) (r : Done) (after-sources after-targets : List ℕ) : Type 0 where
+    pub answer : done r ≡ cliquesOutcome v table roster sources targets
+    pub in-sources : after-sources ≡ cliquesLeave v source table roster sources targets
+    pub in-targets : after-targets ≡ cliquesLeave v target table roster sources targets

@@ -7,7 +7,6 @@ ghost use mathlib.Core.Bool.{not, _||_};
 ghost use Prim.Native.Nat.{_+_, _/_, _<_};
 ghost use lib.Dec.{eqb};
 ghost use lib.ListN.{length};
-ghost use Rattle.model.specs.Codes.{rdfs};
 ghost use Rattle.model.specs.Triples.{triples};
 ghost use Rattle.model.specs.Cliques.{end, links, cliques};
 ghost use Rattle.theory.proofs.Accepted.{Right};
@@ -20,6 +19,7 @@ use lists::triple_at;
 use lists::wide;
 use model::Done;
 use model::Triple;
+use model::Vocabulary;
 use table_checks::Verdict;
 use table_checks::table_refusal;
 use union_find::flatten;
@@ -36,11 +36,11 @@ pub fn side_end(sources: bool, t: Triple) -> u32
 }
 
 // Whether a triple is a data triple with an unmarked end at the side.
-pub fn links_at(roster: &[u8], sources: bool, t: Triple) -> bool
+pub fn links_at(words: Vocabulary, roster: &[u8], sources: bool, t: Triple) -> bool
     requires { ⌜ Below (length (now roster)) t ⌝ }
-    ensures { λ r. ⌜ r ≡ links rdfs (now (roster .entry)) (sideOf sources) t ⌝ }
+    ensures { λ r. ⌜ r ≡ links words (now (roster .entry)) (sideOf sources) t ⌝ }
 {
-    if Code(t.property).is_reserved() {
+    if Code(t.property).is_reserved(words) {
         return false;
     }
     let i = wide(side_end(sources, t));
@@ -74,12 +74,19 @@ fn link_node(list: &mut [u32], node: u32, property: u32)
 }
 
 // Adds the triple at place i of the table.
-fn link_at(table: &[u32], roster: &[u8], sources: bool, list: &mut [u32], i: usize)
-    requires { ⌜ Right rdfs (now roster) (triples (now table)) × (i < length (now table) / 3) × Grouped (now table) (now roster) (sideOf sources) i (now list) ⌝ }
-    ensures { λ r. ⌜ Grouped (now (table .entry)) (now (roster .entry)) (sideOf sources) (i + 1) (now (list .exit)) ⌝ }
+fn link_at(
+    words: Vocabulary,
+    table: &[u32],
+    roster: &[u8],
+    sources: bool,
+    list: &mut [u32],
+    i: usize,
+)
+    requires { ⌜ Right words (now roster) (triples (now table)) × (i < length (now table) / 3) × Grouped words (now table) (now roster) (sideOf sources) i (now list) ⌝ }
+    ensures { λ r. ⌜ Grouped words (now (table .entry)) (now (roster .entry)) (sideOf sources) (i + 1) (now (list .exit)) ⌝ }
 {
     let t = triple_at(table, i);
-    if !links_at(roster, sources, t) {
+    if !links_at(words, roster, sources, t) {
         return;
     }
     open_property(list, t.property);
@@ -87,14 +94,14 @@ fn link_at(table: &[u32], roster: &[u8], sources: bool, list: &mut [u32], i: usi
 }
 
 // Adds each triple of the table.
-fn link_table(table: &[u32], roster: &[u8], sources: bool, list: &mut [u32])
-    requires { ⌜ Right rdfs (now roster) (triples (now table)) × Grouped (now table) (now roster) (sideOf sources) 0 (now list) ⌝ }
-    ensures { λ r. ⌜ Grouped (now (table .entry)) (now (roster .entry)) (sideOf sources) (length (now (table .entry)) / 3) (now (list .exit)) ⌝ }
+fn link_table(words: Vocabulary, table: &[u32], roster: &[u8], sources: bool, list: &mut [u32])
+    requires { ⌜ Right words (now roster) (triples (now table)) × Grouped words (now table) (now roster) (sideOf sources) 0 (now list) ⌝ }
+    ensures { λ r. ⌜ Grouped words (now (table .entry)) (now (roster .entry)) (sideOf sources) (length (now (table .entry)) / 3) (now (list .exit)) ⌝ }
 {
     let n = table.len() / 3;
     let mut i = 0;
     while i < n {
-        link_at(table, roster, sources, list, i);
+        link_at(words, table, roster, sources, list, i);
         i += 1;
     }
 }
@@ -114,12 +121,12 @@ fn clear_nodes(roster: &[u8], list: &mut [u32])
 }
 
 // The clique list of a side.
-fn clique_side(table: &[u32], roster: &[u8], sources: bool, list: &mut [u32])
-    requires { ⌜ Right rdfs (now roster) (triples (now table)) × (length (now list) ≡ length (now roster)) ⌝ }
-    ensures { λ r. ⌜ now (list .exit) ≡ cliques rdfs (now (roster .entry)) (sideOf sources) (triples (now (table .entry))) ⌝ }
+fn clique_side(words: Vocabulary, table: &[u32], roster: &[u8], sources: bool, list: &mut [u32])
+    requires { ⌜ Right words (now roster) (triples (now table)) × (length (now list) ≡ length (now roster)) ⌝ }
+    ensures { λ r. ⌜ now (list .exit) ≡ cliques words (now (roster .entry)) (sideOf sources) (triples (now (table .entry))) ⌝ }
 {
     empty(list);
-    link_table(table, roster, sources, list);
+    link_table(words, table, roster, sources, list);
     clear_nodes(roster, list);
     flatten(list);
 }
@@ -135,15 +142,21 @@ fn lengths_wrong(n: usize, sources: usize, targets: usize) -> bool
 }
 
 // The smallest property of each property's clique, or absent: by common subjects into `sources`, by common objects into `targets`.
-pub fn cliques(table: &[u32], roster: &[u8], sources: &mut [u32], targets: &mut [u32]) -> Done
-    ensures { λ r. ⌜ CliquesCall (now (table .entry)) (now (roster .entry)) (now (sources .entry)) (now (targets .entry)) r (now (sources .exit)) (now (targets .exit)) ⌝ }
+pub fn cliques(
+    words: Vocabulary,
+    table: &[u32],
+    roster: &[u8],
+    sources: &mut [u32],
+    targets: &mut [u32],
+) -> Done
+    ensures { λ r. ⌜ CliquesCall words (now (table .entry)) (now (roster .entry)) (now (sources .entry)) (now (targets .entry)) r (now (sources .exit)) (now (targets .exit)) ⌝ }
 {
     let lengths = lengths_wrong(roster.len(), sources.len(), targets.len());
-    match table_refusal(lengths, table, roster) {
+    match table_refusal(words, lengths, table, roster) {
         Verdict::Refused(r) => Done::Refused(r),
         Verdict::Passed => {
-            clique_side(table, roster, true, sources);
-            clique_side(table, roster, false, targets);
+            clique_side(words, table, roster, true, sources);
+            clique_side(words, table, roster, false, targets);
             Done::Accepted
         },
     }

@@ -1,6 +1,8 @@
 // Compares the engine with the naive one, all calls but opening and feeding: every refusal and small graph of the papers, then
 // many random sites. After every call both answers and the contents of every lent list are compared. Prints the small cases, each
 // difference, and the counts.
+mod cases;
+mod loaded;
 mod queries;
 mod sizes;
 mod small;
@@ -9,8 +11,9 @@ use comparison::report;
 use comparison::sites;
 
 fn main() {
-    let mut tally = [0u64; 90];
+    let mut tally = [0u64; 129];
     small::all(&mut tally);
+    loaded::all(&mut tally);
     sizes::all(&mut tally);
     sites::all(&mut tally);
     queries::all(&mut tally);

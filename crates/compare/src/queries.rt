@@ -10,6 +10,8 @@ use comparison::random::pick;
 use comparison::random::set;
 use comparison::random::triples_end;
 use comparison::sites;
+use comparison::words;
+use model::Vocabulary;
 
 // How many patterns: mostly 1 to 3.
 fn count_of(seed: u64) -> u32 {
@@ -90,26 +92,35 @@ fn identity(map: &mut [u32]) {
 
 // Two queries on a list and on its summary, with its map.
 fn ask_both(
-    tally: &mut [u64; 90],
+    tally: &mut [u64; 129],
     seed: u64,
+    given: Vocabulary,
     list: &[u32],
     summary: &[u32],
     map: &[u32],
     query: &[u32],
 ) {
-    calls::ask(tally, seed, list, map, query);
-    calls::ask(tally, seed, summary, map, query);
+    calls::ask(tally, seed, given, list, map, query);
+    calls::ask(tally, seed, given, summary, map, query);
 }
 
 // A query with the codes as they are.
-fn ask_plain(tally: &mut [u64; 90], seed: u64, list: &[u32], map: &mut [u32], query: &mut [u32]) {
+fn ask_plain(
+    tally: &mut [u64; 129],
+    seed: u64,
+    given: Vocabulary,
+    list: &[u32],
+    map: &mut [u32],
+    query: &mut [u32],
+) {
     identity(map);
     fill_query(query, mix(seed, 62), list);
-    calls::ask(tally, seed, list, map, query);
+    calls::ask(tally, seed, given, list, map, query);
 }
 
 // Summarises; the numbers of the summary.
 fn summary_end(
+    right: Vocabulary,
     list: &[u32],
     roster: &[u8],
     summary: &mut [u32],
@@ -118,12 +129,12 @@ fn summary_end(
 ) -> usize
     ensures { λ r. ⌜ r ≤ length (now (summary .exit)) ⌝ }
 {
-    let answer = naive::summarise(list, roster, summary, map, work);
+    let answer = naive::summarise(calls::plain_words(right), list, roster, summary, map, work);
     triples_end(answer.count, summary.len())
 }
 
 fn ask_list(
-    tally: &mut [u64; 90],
+    tally: &mut [u64; 129],
     seed: u64,
     list: &[u32],
     roster: &[u8],
@@ -132,14 +143,16 @@ fn ask_list(
     work: &mut [u32],
     query: &mut [u32],
 ) {
-    let end = summary_end(list, roster, summary, map, work);
+    let right = words::right(seed, roster.len());
+    let given = words::given(seed, roster.len());
+    let end = summary_end(right, list, roster, summary, map, work);
     fill_query(query, mix(seed, 61), list);
-    ask_both(tally, seed, list, &summary[0..end], map, query);
-    ask_plain(tally, seed, list, map, query);
+    ask_both(tally, seed, given, list, &summary[0..end], map, query);
+    ask_plain(tally, seed, given, list, map, query);
 }
 
 fn ask_site(
-    tally: &mut [u64; 90],
+    tally: &mut [u64; 129],
     seed: u64,
     table: &mut [u32],
     roster: &mut [u8],
@@ -162,7 +175,7 @@ fn ask_site(
     );
 }
 
-fn ask_case(tally: &mut [u64; 90], seed: u64) {
+fn ask_case(tally: &mut [u64; 129], seed: u64) {
     let mut table = [0u32; 62];
     let mut roster = [0u8; 24];
     let mut closed = [0u32; 240];
@@ -187,7 +200,7 @@ fn ask_case(tally: &mut [u64; 90], seed: u64) {
     );
 }
 
-pub fn all(tally: &mut [u64; 90]) {
+pub fn all(tally: &mut [u64; 129]) {
     let mut seed = 1000000;
     while seed < 1100000 {
         ask_case(tally, seed);

@@ -7,12 +7,13 @@ use comparison::report::OWN_ROSTER;
 use comparison::report::SATURATE;
 use comparison::report::SUMMARISE;
 use comparison::report::sized;
+use lists::rdfs_words;
 
-fn own_roster(tally: &mut [u64; 90], n: usize, table: &[u32]) -> u32 {
+fn own_roster(tally: &mut [u64; 129], n: usize, table: &[u32]) -> u32 {
     let mut a = [0u8; 65537];
     let mut b = [0u8; 65537];
     let m = at_most(n, 65537);
-    calls::own_roster(tally, 0, table, &mut a[0..m], &mut b[0..m])
+    calls::own_roster(tally, 0, rdfs_words(), table, &mut a[0..m], &mut b[0..m])
 }
 
 // Property 5 is marked: that covers the table.
@@ -20,22 +21,22 @@ fn mark(roster: &mut [u8]) {
     comparison::random::set_mark(roster, 5, 2);
 }
 
-fn saturate_in(tally: &mut [u64; 90], table: &[u32], roster: &mut [u8]) -> u32 {
+fn saturate_in(tally: &mut [u64; 129], table: &[u32], roster: &mut [u8]) -> u32 {
     let mut a = [0u32; 6];
     let mut b = [0u32; 6];
     mark(roster);
-    let got = calls::saturate(tally, 0, table, roster, &mut a, &mut b);
+    let got = calls::saturate(tally, 0, rdfs_words(), table, roster, &mut a, &mut b);
     got.refused
 }
 
-fn saturate(tally: &mut [u64; 90], n: usize, table: &[u32]) -> u32 {
+fn saturate(tally: &mut [u64; 129], n: usize, table: &[u32]) -> u32 {
     let mut roster = [0u8; 65537];
     let m = at_most(n, 65537);
     saturate_in(tally, table, &mut roster[0..m])
 }
 
 fn cliques_in(
-    tally: &mut [u64; 90],
+    tally: &mut [u64; 129],
     table: &[u32],
     roster: &mut [u8],
     a: &mut [u32],
@@ -44,10 +45,10 @@ fn cliques_in(
     d: &mut [u32],
 ) -> u32 {
     mark(roster);
-    calls::cliques(tally, 0, table, roster, a, b, c, d)
+    calls::cliques(tally, 0, rdfs_words(), table, roster, a, b, c, d)
 }
 
-fn cliques(tally: &mut [u64; 90], n: usize, table: &[u32]) -> u32 {
+fn cliques(tally: &mut [u64; 129], n: usize, table: &[u32]) -> u32 {
     let mut roster = [0u8; 65537];
     let mut a = [0u32; 65537];
     let mut b = [0u32; 65537];
@@ -66,7 +67,7 @@ fn cliques(tally: &mut [u64; 90], n: usize, table: &[u32]) -> u32 {
 }
 
 fn summarise_in(
-    tally: &mut [u64; 90],
+    tally: &mut [u64; 129],
     table: &[u32],
     roster: &mut [u8],
     map: &mut [u32],
@@ -80,6 +81,7 @@ fn summarise_in(
     let got = calls::summarise(
         tally,
         0,
+        rdfs_words(),
         table,
         roster,
         &mut a,
@@ -92,7 +94,7 @@ fn summarise_in(
     got.refused
 }
 
-fn summarise(tally: &mut [u64; 90], n: usize, table: &[u32]) -> u32 {
+fn summarise(tally: &mut [u64; 129], n: usize, table: &[u32]) -> u32 {
     let mut roster = [0u8; 65537];
     let mut map = [0u32; 65537];
     let mut work = [0u32; 131074];
@@ -112,15 +114,15 @@ fn summarise(tally: &mut [u64; 90], n: usize, table: &[u32]) -> u32 {
 }
 
 // Asks for a triple with property 0 between any two nodes, of which there is none.
-fn ask(tally: &mut [u64; 90], n: usize, table: &[u32]) -> u32 {
+fn ask(tally: &mut [u64; 129], n: usize, table: &[u32]) -> u32 {
     let map = [0u32; 65537];
     let mut query = [0u32; 41];
     query[0] = 1;
     let m = at_most(n, 65537);
-    calls::ask(tally, 0, table, &map[0..m], &query)
+    calls::ask(tally, 0, rdfs_words(), table, &map[0..m], &query)
 }
 
-fn at_size(tally: &mut [u64; 90], n: usize, table: &[u32], expected: u32) {
+fn at_size(tally: &mut [u64; 129], n: usize, table: &[u32], expected: u32) {
     sized(OWN_ROSTER, n, expected, own_roster(tally, n, table));
     sized(SATURATE, n, expected, saturate(tally, n, table));
     sized(CLIQUES, n, expected, cliques(tally, n, table));
@@ -128,7 +130,7 @@ fn at_size(tally: &mut [u64; 90], n: usize, table: &[u32], expected: u32) {
     sized(ASK, n, expected, ask(tally, n, table));
 }
 
-pub fn all(tally: &mut [u64; 90]) {
+pub fn all(tally: &mut [u64; 129]) {
     let table = [65535u32, 5, 65534];
     at_size(tally, 4, &[], 1);
     at_size(tally, 5, &[], 0);

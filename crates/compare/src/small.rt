@@ -1,47 +1,35 @@
 // The small cases of the papers that are not proved as theorems, small schemas, and every refusal of every call.
 ghost use Prim.Native.Nat.{_<_};
+use super::cases;
 use comparison::calls;
-use comparison::random::at_most;
-use comparison::random::set;
-use comparison::report::ASK;
-use comparison::report::CLIQUES;
 use comparison::report::LOOK_UP;
-use comparison::report::OWN_ROSTER;
-use comparison::report::SATURATE;
-use comparison::report::SUMMARISE;
 use comparison::report::small;
+use lists::rdfs_words;
 
 // The six triples of the paper's example, with N 14.
 const SIX: [u32; 18] = [5, 2, 7, 6, 2, 7, 7, 3, 8, 8, 1, 9, 10, 5, 12, 11, 6, 13];
 
 const SIX_ROSTER: [u8; 14] = [0, 0, 0, 0, 0, 2, 2, 2, 1, 1, 0, 0, 0, 0];
 
-fn own_roster(tally: &mut [u64; 90], name: &[u8], expected: u32, table: &[u32]) {
-    let mut a = [0u8; 14];
-    let mut b = [0u8; 14];
-    let got = calls::own_roster(tally, 0, table, &mut a, &mut b);
-    small(OWN_ROSTER, name, expected, got);
+fn own_roster(tally: &mut [u64; 129], name: &[u8], expected: u32, table: &[u32]) {
+    cases::own_roster(tally, name, expected, rdfs_words(), table, 14);
 }
 
 // Saturates into that many numbers.
 fn saturate(
-    tally: &mut [u64; 90],
+    tally: &mut [u64; 129],
     name: &[u8],
     expected: u32,
     table: &[u32],
     roster: &[u8],
     length: usize,
 ) {
-    let mut a = [0u32; 60];
-    let mut b = [0u32; 60];
-    let m = at_most(length, 60);
-    let got = calls::saturate(tally, 0, table, roster, &mut a[0..m], &mut b[0..m]);
-    small(SATURATE, name, expected, got.refused);
+    cases::saturate(tally, name, expected, rdfs_words(), table, roster, length);
 }
 
 // Cliques into lists of those lengths.
 fn cliques(
-    tally: &mut [u64; 90],
+    tally: &mut [u64; 129],
     name: &[u8],
     expected: u32,
     table: &[u32],
@@ -49,28 +37,21 @@ fn cliques(
     sources: usize,
     targets: usize,
 ) {
-    let mut a = [0u32; 20];
-    let mut b = [0u32; 20];
-    let mut c = [0u32; 20];
-    let mut d = [0u32; 20];
-    let s = at_most(sources, 20);
-    let t = at_most(targets, 20);
-    let got = calls::cliques(
+    cases::cliques(
         tally,
-        0,
+        name,
+        expected,
+        rdfs_words(),
         table,
         roster,
-        &mut a[0..s],
-        &mut b[0..t],
-        &mut c[0..s],
-        &mut d[0..t],
+        sources,
+        targets,
     );
-    small(CLIQUES, name, expected, got);
 }
 
 // Summarises with a result, a map and a work list of those lengths.
 fn summarise(
-    tally: &mut [u64; 90],
+    tally: &mut [u64; 129],
     name: &[u8],
     expected: u32,
     table: &[u32],
@@ -79,39 +60,26 @@ fn summarise(
     map: usize,
     work: usize,
 ) {
-    let mut a = [0u32; 40];
-    let mut b = [0u32; 40];
-    let mut c = [0u32; 40];
-    let mut d = [0u32; 40];
-    let mut e = [0u32; 40];
-    let mut f = [0u32; 40];
-    let r = at_most(result, 40);
-    let m = at_most(map, 40);
-    let w = at_most(work, 40);
-    let got = calls::summarise(
+    cases::summarise(
         tally,
-        0,
+        name,
+        expected,
+        rdfs_words(),
         table,
         roster,
-        &mut a[0..r],
-        &mut b[0..m],
-        &mut c[0..w],
-        &mut d[0..r],
-        &mut e[0..m],
-        &mut f[0..w],
+        result,
+        map,
+        work,
     );
-    small(SUMMARISE, name, expected, got.refused);
 }
 
 // The three calls on a table with its roster, with lists long enough.
-fn three(tally: &mut [u64; 90], name: &[u8], expected: u32, table: &[u32], roster: &[u8]) {
-    saturate(tally, name, expected, table, roster, 60);
-    cliques(tally, name, expected, table, roster, 14, 14);
-    summarise(tally, name, expected, table, roster, 40, 14, 28);
+fn three(tally: &mut [u64; 129], name: &[u8], expected: u32, table: &[u32], roster: &[u8]) {
+    cases::three(tally, name, expected, rdfs_words(), table, roster);
 }
 
 // Refusals 1 and 2 of these calls.
-fn lists_and_rosters(tally: &mut [u64; 90], six: &[u32], roster: &[u8]) {
+fn lists_and_rosters(tally: &mut [u64; 129], six: &[u32], roster: &[u8]) {
     let over = [0u8, 0, 0, 0, 0, 2, 2, 2, 1, 1, 0, 0, 0, 4];
     let reserved = [0u8, 0, 1, 0, 0, 2, 2, 2, 1, 1, 0, 0, 0, 0];
     three(tally, b"six", 0, six, roster);
@@ -121,7 +89,7 @@ fn lists_and_rosters(tally: &mut [u64; 90], six: &[u32], roster: &[u8]) {
 }
 
 // Refusal 3, also beside an uncovered triple.
-fn codes(tally: &mut [u64; 90], roster: &[u8]) {
+fn codes(tally: &mut [u64; 129], roster: &[u8]) {
     three(tally, b"10-5-14", 3, &[10, 5, 14], roster);
     three(tally, b"10-5-0", 3, &[10, 5, 0], roster);
     three(
@@ -141,14 +109,14 @@ fn codes(tally: &mut [u64; 90], roster: &[u8]) {
 }
 
 // Refusal 4.
-fn covers(tally: &mut [u64; 90], six: &[u32], roster: &[u8]) {
+fn covers(tally: &mut [u64; 129], six: &[u32], roster: &[u8]) {
     let none = [0u8; 14];
     three(tally, b"uncovered", 4, &[10, 5, 11, 10, 10, 11], roster);
     three(tally, b"no-marks", 4, six, &none);
 }
 
 // Results with enough slots and with too few.
-fn slots(tally: &mut [u64; 90], six: &[u32], roster: &[u8]) {
+fn slots(tally: &mut [u64; 129], six: &[u32], roster: &[u8]) {
     saturate(tally, b"51-numbers", 0, six, roster, 51);
     saturate(tally, b"50-numbers", 5, six, roster, 50);
     saturate(tally, b"0-numbers", 5, six, roster, 0);
@@ -157,15 +125,14 @@ fn slots(tally: &mut [u64; 90], six: &[u32], roster: &[u8]) {
 }
 
 // A table whose saturation has that many numbers: one number less is too few.
-fn closes(tally: &mut [u64; 90], name: &[u8], table: &[u32], roster: &[u8], numbers: usize)
+fn closes(tally: &mut [u64; 129], name: &[u8], table: &[u32], roster: &[u8], numbers: usize)
     requires { ⌜ 0 < numbers ⌝ }
 {
-    saturate(tally, name, 0, table, roster, numbers);
-    saturate(tally, name, 5, table, roster, numbers - 1);
+    cases::closes(tally, name, rdfs_words(), table, roster, numbers);
 }
 
 // Each of the rules 7 to 10 alone.
-fn constraints(tally: &mut [u64; 90], roster: &[u8]) {
+fn constraints(tally: &mut [u64; 129], roster: &[u8]) {
     closes(tally, b"rule-7", &[5, 2, 6, 6, 3, 8], roster, 9);
     closes(tally, b"rule-8", &[5, 2, 6, 6, 4, 8], roster, 9);
     closes(tally, b"rule-9", &[5, 3, 8, 8, 1, 9], roster, 9);
@@ -173,7 +140,7 @@ fn constraints(tally: &mut [u64; 90], roster: &[u8]) {
 }
 
 // The other way round nothing follows.
-fn other_ways(tally: &mut [u64; 90], roster: &[u8]) {
+fn other_ways(tally: &mut [u64; 129], roster: &[u8]) {
     closes(tally, b"domain-above", &[6, 2, 5, 6, 3, 8], roster, 6);
     closes(tally, b"range-above", &[6, 2, 5, 6, 4, 8], roster, 6);
     closes(tally, b"domain-below", &[5, 3, 8, 9, 1, 8], roster, 6);
@@ -181,7 +148,7 @@ fn other_ways(tally: &mut [u64; 90], roster: &[u8]) {
 }
 
 // The rules one after the other, and around cycles.
-fn chains(tally: &mut [u64; 90], roster: &[u8]) {
+fn chains(tally: &mut [u64; 129], roster: &[u8]) {
     let chain = [5u32, 2, 6, 6, 2, 7, 7, 3, 8, 8, 1, 9];
     closes(tally, b"chain", &chain, roster, 30);
     let properties = [5u32, 2, 6, 6, 2, 5, 5, 3, 8];
@@ -191,14 +158,14 @@ fn chains(tally: &mut [u64; 90], roster: &[u8]) {
 }
 
 // Lists of wrong lengths.
-fn lengths(tally: &mut [u64; 90], six: &[u32], roster: &[u8]) {
+fn lengths(tally: &mut [u64; 129], six: &[u32], roster: &[u8]) {
     cliques(tally, b"13-sources", 1, six, roster, 13, 14);
     cliques(tally, b"15-targets", 1, six, roster, 14, 15);
     summarise(tally, b"13-map", 1, six, roster, 18, 13, 28);
     summarise(tally, b"29-work", 1, six, roster, 18, 14, 29);
 }
 
-fn rosters(tally: &mut [u64; 90], six: &[u32]) {
+fn rosters(tally: &mut [u64; 129], six: &[u32]) {
     own_roster(tally, b"six", 0, six);
     own_roster(tally, b"length-4", 1, &[5, 2, 7, 6]);
     own_roster(tally, b"10-5-14", 3, &[10, 5, 14]);
@@ -206,7 +173,7 @@ fn rosters(tally: &mut [u64; 90], six: &[u32]) {
     own_roster(tally, b"10-5-0-uncovered", 3, &[10, 5, 0, 10, 10, 11]);
 }
 
-fn look_ups(tally: &mut [u64; 90], six: &[u32]) {
+fn look_ups(tally: &mut [u64; 129], six: &[u32]) {
     let refused = calls::look_up(tally, 0, &[5, 2, 7, 6], 5, 2, 7);
     small(LOOK_UP, b"length-4", 1, refused);
     let held = calls::look_up(tally, 0, six, 11, 6, 13);
@@ -217,7 +184,7 @@ fn look_ups(tally: &mut [u64; 90], six: &[u32]) {
 
 // Asks a query of `count` patterns, the first of which is given and the others ask nothing of the table.
 fn ask(
-    tally: &mut [u64; 90],
+    tally: &mut [u64; 129],
     name: &[u8],
     expected: u32,
     table: &[u32],
@@ -225,29 +192,26 @@ fn ask(
     count: u32,
     pattern: &[u32; 5],
 ) {
-    let mut query = [0u32; 41];
-    set(&mut query, 0, count);
-    set(&mut query, 1, pattern[0]);
-    set(&mut query, 2, pattern[1]);
-    set(&mut query, 3, pattern[2]);
-    set(&mut query, 4, pattern[3]);
-    set(&mut query, 5, pattern[4]);
-    small(
-        ASK,
+    cases::ask(
+        tally,
         name,
         expected,
-        calls::ask(tally, 0, table, map, &query),
+        rdfs_words(),
+        table,
+        map,
+        count,
+        pattern,
     );
 }
 
-fn answers(tally: &mut [u64; 90], six: &[u32], map: &[u32]) {
+fn answers(tally: &mut [u64; 129], six: &[u32], map: &[u32]) {
     ask(tally, b"maybe", 9, six, map, 1, &[0, 0, 5, 0, 1]);
     ask(tally, b"variable-7", 9, six, map, 1, &[0, 7, 5, 0, 1]);
     ask(tally, b"none", 0, six, map, 1, &[0, 0, 5, 0, 0]);
     ask(tally, b"no-triples", 0, &[], map, 1, &[0, 0, 5, 0, 1]);
 }
 
-fn tables_refused(tally: &mut [u64; 90], map: &[u32]) {
+fn tables_refused(tally: &mut [u64; 129], map: &[u32]) {
     ask(
         tally,
         b"length-4",
@@ -269,18 +233,18 @@ fn tables_refused(tally: &mut [u64; 90], map: &[u32]) {
     );
 }
 
-fn counts_refused(tally: &mut [u64; 90], six: &[u32], map: &[u32]) {
+fn counts_refused(tally: &mut [u64; 129], six: &[u32], map: &[u32]) {
     ask(tally, b"no-patterns", 6, six, map, 0, &[0, 0, 5, 0, 1]);
     ask(tally, b"9-patterns", 6, six, map, 9, &[0, 0, 5, 0, 1]);
 }
 
-fn patterns_refused(tally: &mut [u64; 90], six: &[u32], map: &[u32]) {
+fn patterns_refused(tally: &mut [u64; 129], six: &[u32], map: &[u32]) {
     ask(tally, b"variable-8", 6, six, map, 1, &[0, 8, 5, 0, 0]);
     ask(tally, b"code-14", 6, six, map, 1, &[0, 0, 5, 1, 14]);
     ask(tally, b"property-14", 6, six, map, 1, &[0, 0, 14, 0, 1]);
 }
 
-fn asks(tally: &mut [u64; 90], six: &[u32]) {
+fn asks(tally: &mut [u64; 129], six: &[u32]) {
     let map = [0u32, 1, 2, 3, 4, 5, 6, 7, 8, 9, 10, 11, 12, 13];
     answers(tally, six, &map);
     tables_refused(tally, &map);
@@ -288,7 +252,7 @@ fn asks(tally: &mut [u64; 90], six: &[u32]) {
     patterns_refused(tally, six, &map);
 }
 
-fn table_cases(tally: &mut [u64; 90], six: &[u32], roster: &[u8]) {
+fn table_cases(tally: &mut [u64; 129], six: &[u32], roster: &[u8]) {
     lists_and_rosters(tally, six, roster);
     codes(tally, roster);
     covers(tally, six, roster);
@@ -302,6 +266,6 @@ fn table_cases(tally: &mut [u64; 90], six: &[u32], roster: &[u8]) {
     asks(tally, six);
 }
 
-pub fn all(tally: &mut [u64; 90]) {
+pub fn all(tally: &mut [u64; 129]) {
     table_cases(tally, &SIX, &SIX_ROSTER);
 }

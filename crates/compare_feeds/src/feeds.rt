@@ -11,21 +11,25 @@ use comparison::report::FEED;
 use comparison::report::check;
 use comparison::report::record;
 use comparison::sites;
+use comparison::words;
 use intake::FedCounts;
 use model::Found;
+use model::Vocabulary;
 use naive::Answer;
 use naive::Fed;
 
-// The engine's two counts, the size of H, and the engine's last answer.
+// The words of the list of feeds, the engine's two counts, the size of H, and the engine's last answer.
 pub struct State {
+    pub words: Vocabulary,
     pub held: usize,
     pub summarised: usize,
     pub plain: usize,
     pub answer: u32,
 }
 
-pub fn opened() -> State {
+pub fn opened(words: Vocabulary) -> State {
     State {
+        words: words,
         held: 0,
         summarised: 0,
         plain: 0,
@@ -35,9 +39,9 @@ pub fn opened() -> State {
 
 // What the intake's lists hold, against H in rising order, its summary and its map.
 fn check_against(
-    tally: &mut [u64; 90],
+    tally: &mut [u64; 129],
     seed: u64,
-    summarised: usize,
+    state: State,
     h: &[u32],
     roster: &[u8],
     triples: &[u32],
@@ -48,7 +52,9 @@ fn check_against(
     plain_map: &mut [u32],
     plain_work: &mut [u32],
 ) {
+    let words = state.words;
     let plain = naive::plain_lists(
+        calls::plain_words(words),
         h,
         roster,
         plain_triples,
@@ -56,7 +62,13 @@ fn check_against(
         plain_map,
         plain_work,
     );
-    check(tally, FEED, seed, b"summarised", summarised == plain.count);
+    check(
+        tally,
+        FEED,
+        seed,
+        b"summarised",
+        state.summarised == plain.count,
+    );
     calls::check_three(
         tally,
         FEED,
@@ -71,9 +83,9 @@ fn check_against(
 }
 
 fn check_lists(
-    tally: &mut [u64; 90],
+    tally: &mut [u64; 129],
     seed: u64,
-    summarised: usize,
+    state: State,
     h: &[u32],
     roster: &[u8],
     triples: &[u32],
@@ -91,7 +103,7 @@ fn check_lists(
     check_against(
         tally,
         seed,
-        summarised,
+        state,
         h,
         roster,
         triples,
@@ -106,6 +118,7 @@ fn check_lists(
 
 fn engine_feed(
     state: State,
+    words: Vocabulary,
     roster: &[u8],
     triples: &mut [u32],
     summary: &mut [u32],
@@ -119,6 +132,7 @@ fn engine_feed(
     intake::feed_lists(
         state.held,
         state.summarised,
+        words,
         roster,
         triples,
         summary,
@@ -139,6 +153,7 @@ fn clear_if(list: &mut [u32], yes: bool) {
 // The plain intake, and what a feed leaves of a work list: zeros if it is not refused.
 fn naive_feed(
     state: State,
+    words: Vocabulary,
     roster: &[u8],
     slots: usize,
     h: &mut [u32],
@@ -148,23 +163,34 @@ fn naive_feed(
     o: u32,
 ) -> Fed {
     calls::junk(work);
-    let fed = naive::plain_feed(roster, slots, h, state.plain, work.len(), s, p, o);
+    let fed = naive::plain_feed(
+        calls::plain_words(words),
+        roster,
+        slots,
+        h,
+        state.plain,
+        work.len(),
+        s,
+        p,
+        o,
+    );
     clear_if(work, fed.refused == 0);
     fed
 }
 
-fn check_fed(tally: &mut [u64; 90], seed: u64, got: Answer, held: usize, plain: Fed) {
+fn check_fed(tally: &mut [u64; 129], seed: u64, got: Answer, held: usize, plain: Fed) {
     check(tally, FEED, seed, b"answer", got.refused == plain.refused);
     check(tally, FEED, seed, b"new", plain.new == (got.count == 1));
     check(tally, FEED, seed, b"held", held == plain.held);
     record(tally, FEED, calls::column(got));
 }
 
-// Feeds both with a work list, and compares answers, counts and the work list.
+// Feeds both with a word table and a work list, and compares answers, counts and the work list.
 fn feed_both(
-    tally: &mut [u64; 90],
+    tally: &mut [u64; 129],
     seed: u64,
     state: State,
+    words: Vocabulary,
     roster: &[u8],
     triples: &mut [u32],
     summary: &mut [u32],
@@ -176,13 +202,15 @@ fn feed_both(
     p: u32,
     o: u32,
 ) -> State {
-    let fed = engine_feed(state, roster, triples, summary, map, work, s, p, o);
-    let plain = naive_feed(state, roster, triples.len() / 3, h, left, s, p, o);
+    let fed = engine_feed(state, words, roster, triples, summary, map, work, s, p, o);
+    let plain = naive_feed(state, words, roster, triples.len() / 3, h, left, s, p, o);
     let answer = fed.answer;
     let got = calls::of_found(answer);
     check_fed(tally, seed, got, fed.held, plain);
     calls::check_list(tally, FEED, seed, b"work", work, left);
+    let kept = state.words;
     State {
+        words: kept,
         held: fed.held,
         summarised: fed.summarised,
         plain: plain.held,
@@ -192,7 +220,7 @@ fn feed_both(
 
 // A feed with all lists lent, after which all is compared; the engine's answer.
 pub fn feed_with(
-    tally: &mut [u64; 90],
+    tally: &mut [u64; 129],
     seed: u64,
     state: State,
     roster: &[u8],
@@ -209,10 +237,12 @@ pub fn feed_with(
     p: u32,
     o: u32,
 ) -> u32 {
+    let words = state.words;
     let next = feed_both(
         tally,
         seed,
         state,
+        words,
         roster,
         triples,
         summary,
@@ -228,7 +258,7 @@ pub fn feed_with(
     check_against(
         tally,
         seed,
-        next.summarised,
+        next,
         &h[0..end],
         roster,
         triples,
@@ -242,11 +272,12 @@ pub fn feed_with(
     next.answer
 }
 
-// A feed with a work list of w numbers, after which all is compared.
+// A feed with a word table and a work list of w numbers, after which all is compared.
 pub fn feed(
-    tally: &mut [u64; 90],
+    tally: &mut [u64; 129],
     seed: u64,
     state: State,
+    words: Vocabulary,
     roster: &[u8],
     triples: &mut [u32],
     summary: &mut [u32],
@@ -264,6 +295,7 @@ pub fn feed(
         tally,
         seed,
         state,
+        words,
         roster,
         triples,
         summary,
@@ -276,22 +308,22 @@ pub fn feed(
         o,
     );
     let end = triples_end(next.plain, h.len());
-    check_lists(
-        tally,
-        seed,
-        next.summarised,
-        &h[0..end],
-        roster,
-        triples,
-        summary,
-        map,
-    );
+    check_lists(tally, seed, next, &h[0..end], roster, triples, summary, map);
     next
 }
 
-// Feeds the triple at place i of a table; now and then with a work list of a wrong length.
+// The words of the list of feeds, now and then spoilt.
+fn words_fed(state: State, seed: u64, n: usize) -> Vocabulary {
+    let words = state.words;
+    if chance(seed, 0, 48) {
+        return words::spoilt(words, mix(seed, 1), n);
+    }
+    words
+}
+
+// Feeds the triple at place i of a table; now and then with wrong words or a work list of a wrong length.
 fn feed_at(
-    tally: &mut [u64; 90],
+    tally: &mut [u64; 129],
     seed: u64,
     state: State,
     i: usize,
@@ -304,6 +336,7 @@ fn feed_at(
 ) -> State {
     let k = 3 * at_most(i, 1000);
     let w = sites::near(mix(seed, 70), k as u64, 2 * at_most(roster.len(), 24));
+    let words = words_fed(state, mix(mix(seed, 74), k as u64), roster.len());
     let s = get(table, k);
     let p = get(table, k + 1);
     let o = get(table, k + 2);
@@ -311,6 +344,7 @@ fn feed_at(
         tally,
         seed,
         state,
+        words,
         roster,
         triples,
         summary,
@@ -325,8 +359,9 @@ fn feed_at(
 
 // Feeds the 30 triples of a table one after the other.
 fn feed_all(
-    tally: &mut [u64; 90],
+    tally: &mut [u64; 129],
     seed: u64,
+    words: Vocabulary,
     table: &[u32],
     roster: &[u8],
     triples: &mut [u32],
@@ -334,7 +369,7 @@ fn feed_all(
     map: &mut [u32],
     h: &mut [u32],
 ) {
-    let mut state = opened();
+    let mut state = opened(words);
     let mut i = 0;
     while i < 30 {
         state = feed_at(
@@ -356,13 +391,15 @@ fn feed_all(
 // A table to be fed, and a roster that may leave a triple uncovered.
 fn make(seed: u64, table: &mut [u32], roster: &mut [u8]) {
     sites::make(seed, table, roster);
-    sites::damage_table(table, mix(seed, 71), roster.len());
-    sites::damage_table(table, mix(seed, 72), roster.len());
-    sites::damage_table(table, mix(seed, 73), roster.len());
+    let n = roster.len();
+    let right = words::right(seed, n);
+    sites::damage_table(right, table, mix(seed, 71), n);
+    sites::damage_table(right, table, mix(seed, 72), n);
+    sites::damage_table(right, table, mix(seed, 73), n);
 }
 
 fn run(
-    tally: &mut [u64; 90],
+    tally: &mut [u64; 129],
     seed: u64,
     table: &[u32],
     roster: &[u8],
@@ -373,9 +410,11 @@ fn run(
     plain_summary: &mut [u32],
     plain_map: &mut [u32],
 ) {
+    let given = words::given(seed, roster.len());
     let got = calls::open(
         tally,
         seed,
+        given,
         roster,
         triples,
         summary,
@@ -388,6 +427,7 @@ fn run(
         feed_all(
             tally,
             seed,
+            given,
             table,
             roster,
             triples,
@@ -399,7 +439,7 @@ fn run(
 }
 
 fn intake_of(
-    tally: &mut [u64; 90],
+    tally: &mut [u64; 129],
     seed: u64,
     table: &mut [u32],
     roster: &mut [u8],
@@ -433,6 +473,7 @@ fn junk_four(a: &mut [u32], b: &mut [u32], c: &mut [u32], d: &mut [u32]) {
 }
 
 fn feed_junk(
+    words: Vocabulary,
     roster: &[u8],
     triples: &mut [u32],
     summary: &mut [u32],
@@ -440,11 +481,11 @@ fn feed_junk(
     work: &mut [u32],
 ) -> FedCounts {
     junk_four(triples, summary, map, work);
-    intake::feed_lists(1, 1, roster, triples, summary, map, work, 10, 5, 12)
+    intake::feed_lists(1, 1, words, roster, triples, summary, map, work, 10, 5, 12)
 }
 
 fn check_refused(
-    tally: &mut [u64; 90],
+    tally: &mut [u64; 129],
     expected: u32,
     answer: Found,
     held: usize,
@@ -458,7 +499,7 @@ fn check_refused(
 }
 
 fn check_four(
-    tally: &mut [u64; 90],
+    tally: &mut [u64; 129],
     triples: &[u32],
     summary: &[u32],
     map: &[u32],
@@ -484,8 +525,9 @@ fn check_four(
 
 // A feed of 10 5 12 that is refused before the state matters: it leaves all as it was, also what no opening left there.
 pub fn feed_refused(
-    tally: &mut [u64; 90],
+    tally: &mut [u64; 129],
     expected: u32,
+    words: Vocabulary,
     roster: &[u8],
     triples: &mut [u32],
     summary: &mut [u32],
@@ -496,7 +538,7 @@ pub fn feed_refused(
     left_map: &mut [u32],
     left_work: &mut [u32],
 ) -> u32 {
-    let fed = feed_junk(roster, triples, summary, map, work);
+    let fed = feed_junk(words, roster, triples, summary, map, work);
     junk_four(left_triples, left_summary, left_map, left_work);
     check_four(
         tally,
@@ -534,7 +576,7 @@ fn summary_room(seed: u64, r: usize) -> usize
     at_most(whole + pick(seed, 83, 3) as usize, 100)
 }
 
-fn intake_case(tally: &mut [u64; 90], seed: u64) {
+fn intake_case(tally: &mut [u64; 129], seed: u64) {
     let mut table = [0u32; 90];
     let mut roster = [0u8; 24];
     let mut triples = [0u32; 100];
@@ -561,7 +603,7 @@ fn intake_case(tally: &mut [u64; 90], seed: u64) {
     );
 }
 
-pub fn all(tally: &mut [u64; 90]) {
+pub fn all(tally: &mut [u64; 129]) {
     let mut seed = 2000000;
     while seed < 2030000 {
         intake_case(tally, seed);

@@ -5,8 +5,10 @@ use comparison::random::at_most;
 use comparison::report::FEED;
 use comparison::report::OPEN;
 use comparison::report::sized;
+use lists::rdfs_words;
+use model::Vocabulary;
 
-fn open(tally: &mut [u64; 90], n: usize) -> u32 {
+fn open(tally: &mut [u64; 129], n: usize) -> u32 {
     let roster = [0u8; 65537];
     let mut map = [0u32; 65537];
     let mut plain_map = [0u32; 65537];
@@ -18,6 +20,7 @@ fn open(tally: &mut [u64; 90], n: usize) -> u32 {
     calls::open(
         tally,
         0,
+        rdfs_words(),
         &roster[0..m],
         &mut a,
         &mut b,
@@ -30,7 +33,8 @@ fn open(tally: &mut [u64; 90], n: usize) -> u32 {
 
 // An opened intake is fed 65535 5 65534.
 fn feed_in(
-    tally: &mut [u64; 90],
+    tally: &mut [u64; 129],
+    words: Vocabulary,
     roster: &[u8],
     map: &mut [u32],
     work: &mut [u32],
@@ -45,6 +49,7 @@ fn feed_in(
     calls::open(
         tally,
         0,
+        words,
         roster,
         &mut triples,
         &mut summary,
@@ -56,7 +61,7 @@ fn feed_in(
     feeds::feed_with(
         tally,
         0,
-        feeds::opened(),
+        feeds::opened(words),
         roster,
         &mut triples,
         &mut summary,
@@ -73,7 +78,7 @@ fn feed_in(
     )
 }
 
-fn feed(tally: &mut [u64; 90], n: usize) -> u32 {
+fn feed(tally: &mut [u64; 129], n: usize) -> u32 {
     let mut roster = [0u8; 65537];
     let mut map = [0u32; 65537];
     let mut work = [0u32; 131074];
@@ -84,6 +89,7 @@ fn feed(tally: &mut [u64; 90], n: usize) -> u32 {
     roster[5] = 2;
     feed_in(
         tally,
+        rdfs_words(),
         &roster[0..m],
         &mut map[0..m],
         &mut work[0..w],
@@ -93,7 +99,7 @@ fn feed(tally: &mut [u64; 90], n: usize) -> u32 {
 }
 
 // A size that is refused.
-fn feed_refused(tally: &mut [u64; 90], n: usize) -> u32 {
+fn feed_refused(tally: &mut [u64; 129], n: usize) -> u32 {
     let roster = [0u8; 65537];
     let mut a = [0u32; 6];
     let mut b = [0u32; 6];
@@ -108,6 +114,7 @@ fn feed_refused(tally: &mut [u64; 90], n: usize) -> u32 {
     feeds::feed_refused(
         tally,
         1,
+        rdfs_words(),
         &roster[0..m],
         &mut a,
         &mut b,
@@ -120,7 +127,7 @@ fn feed_refused(tally: &mut [u64; 90], n: usize) -> u32 {
     )
 }
 
-pub fn all(tally: &mut [u64; 90]) {
+pub fn all(tally: &mut [u64; 129]) {
     sized(OPEN, 4, 1, open(tally, 4));
     sized(OPEN, 5, 0, open(tally, 5));
     sized(OPEN, 65536, 0, open(tally, 65536));

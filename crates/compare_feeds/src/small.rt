@@ -7,14 +7,18 @@ use comparison::random::get;
 use comparison::report::FEED;
 use comparison::report::OPEN;
 use comparison::report::small;
+use comparison::words::table_of;
+use lists::rdfs_words;
+use model::Vocabulary;
 
 const SIX_ROSTER: [u8; 14] = [0, 0, 0, 0, 0, 2, 2, 2, 1, 1, 0, 0, 0, 0];
 
 // Opens with lists of those lengths.
 fn open(
-    tally: &mut [u64; 90],
+    tally: &mut [u64; 129],
     name: &[u8],
     expected: u32,
+    words: Vocabulary,
     roster: &[u8],
     triples: usize,
     summary: usize,
@@ -32,6 +36,7 @@ fn open(
     let got = calls::open(
         tally,
         0,
+        words,
         roster,
         &mut a[0..t],
         &mut b[0..s],
@@ -43,14 +48,33 @@ fn open(
     small(OPEN, name, expected, got);
 }
 
-fn opens(tally: &mut [u64; 90], roster: &[u8]) {
+fn opens(tally: &mut [u64; 129], words: Vocabulary, roster: &[u8]) {
     let over = [0u8, 0, 0, 0, 0, 2, 2, 2, 1, 1, 0, 0, 0, 4];
     let reserved = [2u8, 0, 0, 0, 0, 2, 2, 2, 1, 1, 0, 0, 0, 0];
-    open(tally, b"equal-slots", 0, roster, 7, 8, 14);
-    open(tally, b"unequal-slots", 1, roster, 8, 9, 14);
-    open(tally, b"13-map", 1, roster, 6, 6, 13);
-    open(tally, b"value-4", 2, &over, 6, 6, 14);
-    open(tally, b"reserved-marked", 2, &reserved, 6, 6, 14);
+    open(tally, b"equal-slots", 0, words, roster, 7, 8, 14);
+    open(tally, b"unequal-slots", 1, words, roster, 8, 9, 14);
+    open(tally, b"13-map", 1, words, roster, 6, 6, 13);
+    open(tally, b"value-4", 2, words, &over, 6, 6, 14);
+    open(tally, b"reserved-marked", 2, words, &reserved, 6, 6, 14);
+}
+
+// With other words: a code that is reserved by them may not be marked, and 0 may be.
+fn opens_loaded(tally: &mut [u64; 129], roster: &[u8]) {
+    let marked = [2u8, 0, 0, 0, 0, 2, 2, 2, 1, 1, 0, 0, 0, 0];
+    let nine = table_of(9, 1, 2, 3, 4);
+    let ten = table_of(10, 1, 2, 3, 4);
+    open(tally, b"word-9-marked", 2, nine, roster, 6, 6, 14);
+    open(tally, b"0-marked", 0, ten, &marked, 6, 6, 14);
+}
+
+// With wrong words: 1 comes before 10, and 10 before 2.
+fn opens_wrong(tally: &mut [u64; 129], equal: Vocabulary, roster: &[u8]) {
+    let over = [0u8, 0, 0, 0, 0, 2, 2, 2, 1, 1, 0, 0, 0, 4];
+    let large = table_of(0, 1, 2, 3, 14);
+    open(tally, b"equal-words", 10, equal, roster, 6, 6, 14);
+    open(tally, b"word-14-N-14", 10, large, roster, 6, 6, 14);
+    open(tally, b"equal-words-13-map", 1, equal, roster, 6, 6, 13);
+    open(tally, b"equal-words-value-4", 10, equal, &over, 6, 6, 14);
 }
 
 // Ten feeds of an intake of two slots, each with the number expected, the work list's length and the triple.
@@ -132,7 +156,7 @@ fn small_feed(i: usize, expected: u32, got: u32) {
 }
 
 fn feed(
-    tally: &mut [u64; 90],
+    tally: &mut [u64; 129],
     i: usize,
     state: State,
     list: &[u32],
@@ -151,6 +175,7 @@ fn feed(
         tally,
         0,
         state,
+        rdfs_words(),
         roster,
         triples,
         summary,
@@ -166,7 +191,7 @@ fn feed(
 }
 
 fn feed_two_slots(
-    tally: &mut [u64; 90],
+    tally: &mut [u64; 129],
     list: &[u32],
     roster: &[u8],
     triples: &mut [u32],
@@ -174,7 +199,7 @@ fn feed_two_slots(
     map: &mut [u32],
     h: &mut [u32],
 ) {
-    let mut state = feeds::opened();
+    let mut state = feeds::opened(rdfs_words());
     let mut i = 0;
     while i < 10 {
         state = feed(tally, i, state, list, roster, triples, summary, map, h);
@@ -182,7 +207,7 @@ fn feed_two_slots(
     }
 }
 
-fn feed_opened(tally: &mut [u64; 90], roster: &[u8]) {
+fn feed_opened(tally: &mut [u64; 129], roster: &[u8]) {
     let mut a = [0u32; 8];
     let mut b = [0u32; 7];
     let mut c = [0u32; 14];
@@ -192,6 +217,7 @@ fn feed_opened(tally: &mut [u64; 90], roster: &[u8]) {
     let got = calls::open(
         tally,
         0,
+        rdfs_words(),
         roster,
         &mut a,
         &mut b,
@@ -206,9 +232,10 @@ fn feed_opened(tally: &mut [u64; 90], roster: &[u8]) {
 
 // A feed of 10 5 12 that is refused, with lists of those lengths.
 fn feed_refused(
-    tally: &mut [u64; 90],
+    tally: &mut [u64; 129],
     name: &[u8],
     expected: u32,
+    words: Vocabulary,
     roster: &[u8],
     triples: usize,
     summary: usize,
@@ -228,6 +255,7 @@ fn feed_refused(
     let got = feeds::feed_refused(
         tally,
         expected,
+        words,
         roster,
         &mut a[0..t],
         &mut b[0..s],
@@ -241,17 +269,43 @@ fn feed_refused(
     small(FEED, name, expected, got);
 }
 
-fn feeds_refused(tally: &mut [u64; 90], roster: &[u8]) {
+fn feeds_refused(tally: &mut [u64; 129], words: Vocabulary, roster: &[u8]) {
     let over = [0u8, 0, 0, 0, 0, 2, 2, 2, 1, 1, 0, 0, 0, 4];
     let reserved = [2u8, 0, 0, 0, 0, 2, 2, 2, 1, 1, 0, 0, 0, 0];
-    feed_refused(tally, b"unequal-slots", 1, roster, 9, 6, 14);
-    feed_refused(tally, b"13-map", 1, roster, 6, 6, 13);
-    feed_refused(tally, b"value-4", 2, &over, 6, 6, 14);
-    feed_refused(tally, b"reserved-marked", 2, &reserved, 6, 6, 14);
+    feed_refused(tally, b"unequal-slots", 1, words, roster, 9, 6, 14);
+    feed_refused(tally, b"13-map", 1, words, roster, 6, 6, 13);
+    feed_refused(tally, b"value-4", 2, words, &over, 6, 6, 14);
+    feed_refused(tally, b"reserved-marked", 2, words, &reserved, 6, 6, 14);
 }
 
-pub fn all(tally: &mut [u64; 90]) {
-    opens(tally, &SIX_ROSTER);
+fn feeds_loaded(tally: &mut [u64; 129], roster: &[u8]) {
+    let nine = table_of(9, 1, 2, 3, 4);
+    let ten = table_of(10, 1, 2, 3, 4);
+    feed_refused(tally, b"word-9-marked", 2, nine, roster, 6, 6, 14);
+    feed_refused(tally, b"word-10-subject", 3, ten, roster, 6, 6, 14);
+}
+
+fn feeds_wrong(tally: &mut [u64; 129], equal: Vocabulary, roster: &[u8]) {
+    let over = [0u8, 0, 0, 0, 0, 2, 2, 2, 1, 1, 0, 0, 0, 4];
+    let none = [0u8; 14];
+    feed_refused(tally, b"equal-words", 10, equal, roster, 6, 6, 14);
+    feed_refused(tally, b"equal-words-13-map", 1, equal, roster, 6, 6, 13);
+    feed_refused(tally, b"equal-words-value-4", 10, equal, &over, 6, 6, 14);
+    feed_refused(tally, b"equal-words-no-marks", 10, equal, &none, 6, 6, 14);
+}
+
+// What is tried with other words than 0 to 4.
+fn loaded(tally: &mut [u64; 129], roster: &[u8]) {
+    let equal = table_of(0, 1, 2, 3, 3);
+    opens_loaded(tally, roster);
+    opens_wrong(tally, equal, roster);
+    feeds_loaded(tally, roster);
+    feeds_wrong(tally, equal, roster);
+}
+
+pub fn all(tally: &mut [u64; 129]) {
+    opens(tally, rdfs_words(), &SIX_ROSTER);
     feed_opened(tally, &SIX_ROSTER);
-    feeds_refused(tally, &SIX_ROSTER);
+    feeds_refused(tally, rdfs_words(), &SIX_ROSTER);
+    loaded(tally, &SIX_ROSTER);
 }

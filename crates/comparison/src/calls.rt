@@ -16,7 +16,9 @@ use model::Done;
 use model::Found;
 use model::Refusal;
 use model::Triple;
+use model::Vocabulary;
 use naive::Answer;
+use naive::Words;
 use query::Asked;
 use query::End;
 use query::Pattern;
@@ -94,6 +96,18 @@ fn refused(r: Refusal) -> u32 {
         Refusal::Query => 6,
         Refusal::Full => 7,
         Refusal::Form => 8,
+        Refusal::Words => 10,
+    }
+}
+
+// The five codes as the naive engine takes them.
+pub fn plain_words(words: Vocabulary) -> Words {
+    Words {
+        instance: words.instance,
+        subclass: words.subclass,
+        subproperty: words.subproperty,
+        domain: words.domain,
+        range: words.range,
     }
 }
 
@@ -142,14 +156,14 @@ pub fn column(a: Answer) -> u32 {
     a.refused
 }
 
-fn check_answer(tally: &mut [u64; 90], call: usize, seed: u64, got: Answer, want: Answer) {
+fn check_answer(tally: &mut [u64; 129], call: usize, seed: u64, got: Answer, want: Answer) {
     check(tally, call, seed, b"answer", got.refused == want.refused);
     check(tally, call, seed, b"count", got.count == want.count);
 }
 
 // Compares a list of each engine.
 pub fn check_list(
-    tally: &mut [u64; 90],
+    tally: &mut [u64; 129],
     call: usize,
     seed: u64,
     what: &[u8],
@@ -159,17 +173,26 @@ pub fn check_list(
     check(tally, call, seed, what, same(a, b));
 }
 
+fn engine_roster(words: Vocabulary, table: &[u32], roster: &mut [u8]) -> u32 {
+    junk_marks(roster);
+    of_done(roster::own_roster(words, table, roster))
+}
+
+fn naive_roster(words: Vocabulary, table: &[u32], roster: &mut [u8]) -> u32 {
+    junk_marks(roster);
+    naive::own_roster(plain_words(words), table, roster)
+}
+
 pub fn own_roster(
-    tally: &mut [u64; 90],
+    tally: &mut [u64; 129],
     seed: u64,
+    words: Vocabulary,
     table: &[u32],
     roster: &mut [u8],
     plain: &mut [u8],
 ) -> u32 {
-    junk_marks(roster);
-    junk_marks(plain);
-    let got = of_done(roster::own_roster(table, roster));
-    let want = naive::own_roster(table, plain);
+    let got = engine_roster(words, table, roster);
+    let want = naive_roster(words, table, plain);
     check(tally, OWN_ROSTER, seed, b"answer", got == want);
     check(
         tally,
@@ -182,47 +205,61 @@ pub fn own_roster(
     got
 }
 
-fn engine_saturate(table: &[u32], roster: &[u8], result: &mut [u32]) -> Answer {
+fn engine_saturate(words: Vocabulary, table: &[u32], roster: &[u8], result: &mut [u32]) -> Answer {
     junk(result);
-    of_counted(saturate::saturate(table, roster, result))
+    of_counted(saturate::saturate(words, table, roster, result))
 }
 
-fn naive_saturate(table: &[u32], roster: &[u8], result: &mut [u32]) -> Answer {
+fn naive_saturate(words: Vocabulary, table: &[u32], roster: &[u8], result: &mut [u32]) -> Answer {
     junk(result);
-    naive::saturate(table, roster, result)
+    naive::saturate(plain_words(words), table, roster, result)
 }
 
 pub fn saturate(
-    tally: &mut [u64; 90],
+    tally: &mut [u64; 129],
     seed: u64,
+    words: Vocabulary,
     table: &[u32],
     roster: &[u8],
     result: &mut [u32],
     plain: &mut [u32],
 ) -> Answer {
-    let got = engine_saturate(table, roster, result);
-    let want = naive_saturate(table, roster, plain);
+    let got = engine_saturate(words, table, roster, result);
+    let want = naive_saturate(words, table, roster, plain);
     check_answer(tally, SATURATE, seed, got, want);
     check(tally, SATURATE, seed, b"result", same(result, plain));
     record(tally, SATURATE, got.refused);
     got
 }
 
-fn engine_cliques(table: &[u32], roster: &[u8], sources: &mut [u32], targets: &mut [u32]) -> u32 {
+fn engine_cliques(
+    words: Vocabulary,
+    table: &[u32],
+    roster: &[u8],
+    sources: &mut [u32],
+    targets: &mut [u32],
+) -> u32 {
     junk(sources);
     junk(targets);
-    of_done(cliques::cliques(table, roster, sources, targets))
+    of_done(cliques::cliques(words, table, roster, sources, targets))
 }
 
-fn naive_cliques(table: &[u32], roster: &[u8], sources: &mut [u32], targets: &mut [u32]) -> u32 {
+fn naive_cliques(
+    words: Vocabulary,
+    table: &[u32],
+    roster: &[u8],
+    sources: &mut [u32],
+    targets: &mut [u32],
+) -> u32 {
     junk(sources);
     junk(targets);
-    naive::cliques(table, roster, sources, targets)
+    naive::cliques(plain_words(words), table, roster, sources, targets)
 }
 
 pub fn cliques(
-    tally: &mut [u64; 90],
+    tally: &mut [u64; 129],
     seed: u64,
+    words: Vocabulary,
     table: &[u32],
     roster: &[u8],
     sources: &mut [u32],
@@ -230,8 +267,8 @@ pub fn cliques(
     plain_sources: &mut [u32],
     plain_targets: &mut [u32],
 ) -> u32 {
-    let got = engine_cliques(table, roster, sources, targets);
-    let want = naive_cliques(table, roster, plain_sources, plain_targets);
+    let got = engine_cliques(words, table, roster, sources, targets);
+    let want = naive_cliques(words, table, roster, plain_sources, plain_targets);
     check(tally, CLIQUES, seed, b"answer", got == want);
     check_list(tally, CLIQUES, seed, b"sources", sources, plain_sources);
     check_list(tally, CLIQUES, seed, b"targets", targets, plain_targets);
@@ -240,6 +277,7 @@ pub fn cliques(
 }
 
 fn engine_summarise(
+    words: Vocabulary,
     table: &[u32],
     roster: &[u8],
     result: &mut [u32],
@@ -249,10 +287,11 @@ fn engine_summarise(
     junk(result);
     junk(map);
     junk(work);
-    of_counted(summarise::summarise(table, roster, result, map, work))
+    of_counted(summarise::summarise(words, table, roster, result, map, work))
 }
 
 fn naive_summarise(
+    words: Vocabulary,
     table: &[u32],
     roster: &[u8],
     result: &mut [u32],
@@ -262,12 +301,12 @@ fn naive_summarise(
     junk(result);
     junk(map);
     junk(work);
-    naive::summarise(table, roster, result, map, work)
+    naive::summarise(plain_words(words), table, roster, result, map, work)
 }
 
 // Compares three lists of each engine.
 pub fn check_three(
-    tally: &mut [u64; 90],
+    tally: &mut [u64; 129],
     call: usize,
     seed: u64,
     triples: &[u32],
@@ -287,8 +326,9 @@ pub fn check_three(
 }
 
 pub fn summarise(
-    tally: &mut [u64; 90],
+    tally: &mut [u64; 129],
     seed: u64,
+    words: Vocabulary,
     table: &[u32],
     roster: &[u8],
     result: &mut [u32],
@@ -298,8 +338,8 @@ pub fn summarise(
     plain_map: &mut [u32],
     plain_work: &mut [u32],
 ) -> Answer {
-    let got = engine_summarise(table, roster, result, map, work);
-    let want = naive_summarise(table, roster, plain_result, plain_map, plain_work);
+    let got = engine_summarise(words, table, roster, result, map, work);
+    let want = naive_summarise(words, table, roster, plain_result, plain_map, plain_work);
     check_answer(tally, SUMMARISE, seed, got, want);
     check_three(
         tally,
@@ -316,7 +356,7 @@ pub fn summarise(
     got
 }
 
-pub fn look_up(tally: &mut [u64; 90], seed: u64, list: &[u32], s: u32, p: u32, o: u32) -> u32 {
+pub fn look_up(tally: &mut [u64; 129], seed: u64, list: &[u32], s: u32, p: u32, o: u32) -> u32 {
     let t = Triple {
         subject: s,
         property: p,
@@ -362,15 +402,23 @@ fn query_of(query: &[u32]) -> Query {
     }
 }
 
-pub fn ask(tally: &mut [u64; 90], seed: u64, table: &[u32], map: &[u32], query: &[u32]) -> u32 {
-    let got = of_asked(query::ask(table, map, query_of(query)));
-    let want = naive::ask(table, map, query);
+pub fn ask(
+    tally: &mut [u64; 129],
+    seed: u64,
+    words: Vocabulary,
+    table: &[u32],
+    map: &[u32],
+    query: &[u32],
+) -> u32 {
+    let got = of_asked(query::ask(words, table, map, query_of(query)));
+    let want = naive::ask(plain_words(words), table, map, query);
     check_answer(tally, ASK, seed, got, want);
     record(tally, ASK, column(got));
     column(got)
 }
 
 fn engine_open(
+    words: Vocabulary,
     roster: &[u8],
     triples: &mut [u32],
     summary: &mut [u32],
@@ -379,19 +427,25 @@ fn engine_open(
     junk(triples);
     junk(summary);
     junk(map);
-    intake::open_counts(70, 71, roster, triples, summary, map)
+    intake::open_counts(70, 71, words, roster, triples, summary, map)
 }
 
-fn naive_open(roster: &[u8], triples: &mut [u32], summary: &mut [u32], map: &mut [u32]) -> u32 {
+fn naive_open(
+    words: Vocabulary,
+    roster: &[u8],
+    triples: &mut [u32],
+    summary: &mut [u32],
+    map: &mut [u32],
+) -> u32 {
     junk(triples);
     junk(summary);
     junk(map);
-    naive::open(roster, triples, summary, map)
+    naive::open(plain_words(words), roster, triples, summary, map)
 }
 
 // An accepted opening makes both counts zero, a refused one leaves them.
 fn check_opened(
-    tally: &mut [u64; 90],
+    tally: &mut [u64; 129],
     seed: u64,
     got: u32,
     want: u32,
@@ -408,8 +462,9 @@ fn check_opened(
 }
 
 pub fn open(
-    tally: &mut [u64; 90],
+    tally: &mut [u64; 129],
     seed: u64,
+    words: Vocabulary,
     roster: &[u8],
     triples: &mut [u32],
     summary: &mut [u32],
@@ -418,8 +473,8 @@ pub fn open(
     plain_summary: &mut [u32],
     plain_map: &mut [u32],
 ) -> u32 {
-    let opened = engine_open(roster, triples, summary, map);
-    let want = naive_open(roster, plain_triples, plain_summary, plain_map);
+    let opened = engine_open(words, roster, triples, summary, map);
+    let want = naive_open(words, roster, plain_triples, plain_summary, plain_map);
     let done = opened.answer;
     let got = of_done(done);
     check_opened(tally, seed, got, want, opened.held, opened.summarised);

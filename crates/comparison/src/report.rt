@@ -1,5 +1,12 @@
-// The tally: ten counts for each call, by the number answered, 9 for yes, maybe and new; the last ten are differences.
+// The tally: sixteen counts for each of eight calls, by the number answered, 9 for yes, maybe and new; the last number is that of
+// the differences.
 use libc::STDOUT_FILENO;
+
+pub const COLUMNS: usize = 16;
+
+const YES: usize = 9;
+
+const DIFFERENCES: usize = 128;
 
 pub const OWN_ROSTER: usize = 0;
 
@@ -45,28 +52,28 @@ fn print_call(call: usize) {
     }
 }
 
-fn add_one(tally: &mut [u64; 90], i: usize) {
-    if i < 90 {
+fn add_one(tally: &mut [u64; 129], i: usize) {
+    if i < 129 {
         tally[i] = std::num::wrapping_add_u64(tally[i], 1);
     }
 }
 
 // Counts an answer of a call.
-pub fn record(tally: &mut [u64; 90], call: usize, answer: u32) {
+pub fn record(tally: &mut [u64; 129], call: usize, answer: u32) {
     let column = answer as usize;
     if call < 8 {
-        if column < 10 {
-            add_one(tally, call * 10 + column);
+        if column < COLUMNS {
+            add_one(tally, call * COLUMNS + column);
         }
     }
 }
 
 // Reports what differs.
-pub fn check(tally: &mut [u64; 90], call: usize, seed: u64, what: &[u8], ok: bool) {
+pub fn check(tally: &mut [u64; 129], call: usize, seed: u64, what: &[u8], ok: bool) {
     if ok {
         return;
     }
-    add_one(tally, 80);
+    add_one(tally, DIFFERENCES);
     print(b"(different ");
     print_call(call);
     print(b" case ");
@@ -102,29 +109,29 @@ pub fn sized(call: usize, n: usize, expected: u32, got: u32) {
     print(b")\n");
 }
 
-fn sum(tally: &[u64; 90], call: usize) -> u64 {
+fn sum(tally: &[u64; 129], call: usize) -> u64 {
     let mut total = 0;
     let mut column = 0;
-    while column < 10 {
+    while column < COLUMNS {
         total = std::num::wrapping_add_u64(total, count_of(tally, call, column));
         column += 1;
     }
     total
 }
 
-fn count_of(tally: &[u64; 90], call: usize, column: usize) -> u64 {
+fn count_of(tally: &[u64; 129], call: usize, column: usize) -> u64 {
     if call < 8 {
-        if column < 10 {
-            return tally[call * 10 + column];
+        if column < COLUMNS {
+            return tally[call * COLUMNS + column];
         }
     }
     0
 }
 
-// A refusal's count, if there are any.
-fn print_refusal(tally: &[u64; 90], call: usize, number: usize) {
+// A refusal's count, if there are any; 9 is none.
+fn print_refusal(tally: &[u64; 129], call: usize, number: usize) {
     let count = count_of(tally, call, number);
-    if count == 0 {
+    if count == 0 || number == YES {
         return;
     }
     print(b" refused-");
@@ -133,16 +140,16 @@ fn print_refusal(tally: &[u64; 90], call: usize, number: usize) {
     print_number(count);
 }
 
-fn print_refusals(tally: &[u64; 90], call: usize) {
+fn print_refusals(tally: &[u64; 129], call: usize) {
     let mut number = 1;
-    while number < 9 {
+    while number < 15 {
         print_refusal(tally, call, number);
         number += 1;
     }
 }
 
 // A call's counts, if there are any.
-fn print_line(tally: &[u64; 90], call: usize) {
+fn print_line(tally: &[u64; 129], call: usize) {
     let cases = sum(tally, call);
     if cases == 0 {
         return;
@@ -153,7 +160,7 @@ fn print_line(tally: &[u64; 90], call: usize) {
     print_number(cases);
     if call == LOOK_UP || call == ASK || call == FEED {
         print(b" yes ");
-        print_number(count_of(tally, call, 9));
+        print_number(count_of(tally, call, YES));
         print(b" no ");
     } else {
         print(b" accepted ");
@@ -164,13 +171,13 @@ fn print_line(tally: &[u64; 90], call: usize) {
 }
 
 // A line for each call that was compared, and the number of differences.
-pub fn counts(tally: &[u64; 90]) {
+pub fn counts(tally: &[u64; 129]) {
     let mut call = 0;
     while call < 8 {
         print_line(tally, call);
         call += 1;
     }
     print(b"(differences ");
-    print_number(tally[80]);
+    print_number(tally[DIFFERENCES]);
     print(b")\n");
 }

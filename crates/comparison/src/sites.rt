@@ -11,6 +11,10 @@ use super::random::remainder;
 use super::random::set;
 use super::random::set_mark;
 use super::random::triples_end;
+use super::words;
+use super::words::free_code;
+use lists::word_of;
+use model::Vocabulary;
 
 // N: mostly 8 to 24, now and then less.
 pub fn size(seed: u64) -> usize
@@ -170,8 +174,8 @@ fn place_in(seed: u64, place: u64, length: usize) -> usize
     pick(seed, place, at_most(length, 1000) as u32) as usize
 }
 
-// One time in eight, a code not below N or a reserved code at an end.
-pub fn damage_table(table: &mut [u32], seed: u64, n: usize) {
+// One time in six, a code not below N or a reserved code at an end.
+pub fn damage_table(words: Vocabulary, table: &mut [u32], seed: u64, n: usize) {
     let d = pick(seed, 10, 24);
     if d == 0 {
         set(
@@ -187,58 +191,68 @@ pub fn damage_table(table: &mut [u32], seed: u64, n: usize) {
     }
     let k = place_in(seed, 11, table.len() / 3);
     if d == 2 {
-        set(table, 3 * k, pick(seed, 12, 5));
+        set(table, 3 * k, word_of(words, pick(seed, 12, 5)));
         return;
     }
     if d == 3 {
-        set(table, 3 * k + 2, pick(seed, 12, 5));
+        set(table, 3 * k + 2, word_of(words, pick(seed, 12, 5)));
     }
+}
+
+// Marks a code that is not reserved.
+fn mark_free(words: Vocabulary, roster: &mut [u8], seed: u64, place: u64, mark: u8) {
+    let i = pick(seed, place, at_most(roster.len(), 1000) as u32);
+    set_mark(roster, free_code(words, i) as usize, mark);
 }
 
 // One time in three, marks more than the table needs.
-fn mark_more(roster: &mut [u8], seed: u64) {
+fn mark_more(words: Vocabulary, roster: &mut [u8], seed: u64) {
     if !chance(seed, 20, 3) {
         return;
     }
-    let n = roster.len();
-    set_mark(roster, 5 + place_in(seed, 21, n), 3);
-    set_mark(roster, 5 + place_in(seed, 22, n), 3);
-    set_mark(roster, 5 + place_in(seed, 23, n), 3);
+    mark_free(words, roster, seed, 21, 3);
+    mark_free(words, roster, seed, 22, 3);
+    mark_free(words, roster, seed, 23, 3);
 }
 
 // One time in four, a value over 3, a reserved code marked, or another mark than the table needs.
-fn damage_roster(roster: &mut [u8], seed: u64) {
-    let n = roster.len();
+fn damage_roster(words: Vocabulary, roster: &mut [u8], seed: u64) {
     let d = pick(seed, 24, 20);
     if d == 0 {
-        set_mark(roster, place_in(seed, 25, n), 4);
+        set_mark(roster, place_in(seed, 25, roster.len()), 4);
     } else if d == 1 {
-        set_mark(roster, place_in(seed, 25, 5), 1);
+        set_mark(roster, word_of(words, pick(seed, 25, 5)) as usize, 1);
     } else if d == 2 {
-        set_mark(roster, 5 + place_in(seed, 25, n), 0);
+        mark_free(words, roster, seed, 25, 0);
     } else if d == 3 {
-        set_mark(roster, 5 + place_in(seed, 25, n), 1);
+        mark_free(words, roster, seed, 25, 1);
     } else if d == 4 {
-        set_mark(roster, 5 + place_in(seed, 25, n), 2);
+        mark_free(words, roster, seed, 25, 2);
     }
 }
 
 // A table and a roster, each perhaps damaged.
 pub fn make(seed: u64, table: &mut [u32], roster: &mut [u8]) {
-    fill_table(table, seed, roster.len());
-    naive::own_roster(table, roster);
-    mark_more(roster, seed);
-    damage_table(table, seed, roster.len());
-    damage_roster(roster, seed);
+    let n = roster.len();
+    let right = words::right(seed, n);
+    fill_table(table, seed, n);
+    words::rename(right, table);
+    naive::own_roster(calls::plain_words(right), table, roster);
+    mark_more(right, roster, seed);
+    damage_table(right, table, seed, n);
+    damage_roster(right, roster, seed);
 }
 
-fn roster_of(tally: &mut [u64; 90], seed: u64, table: &mut [u32], a: &mut [u8], b: &mut [u8]) {
-    fill_table(table, seed, a.len());
-    damage_table(table, seed, a.len());
-    calls::own_roster(tally, seed, table, a, b);
+fn roster_of(tally: &mut [u64; 129], seed: u64, table: &mut [u32], a: &mut [u8], b: &mut [u8]) {
+    let n = a.len();
+    let right = words::right(seed, n);
+    fill_table(table, seed, n);
+    words::rename(right, table);
+    damage_table(right, table, seed, n);
+    calls::own_roster(tally, seed, words::given(seed, n), table, a, b);
 }
 
-fn roster_case(tally: &mut [u64; 90], seed: u64) {
+fn roster_case(tally: &mut [u64; 129], seed: u64) {
     let mut table = [0u32; 62];
     let mut a = [0u8; 24];
     let mut b = [0u8; 24];
@@ -248,7 +262,7 @@ fn roster_case(tally: &mut [u64; 90], seed: u64) {
 }
 
 fn saturation_of(
-    tally: &mut [u64; 90],
+    tally: &mut [u64; 129],
     seed: u64,
     table: &mut [u32],
     roster: &mut [u8],
@@ -256,10 +270,11 @@ fn saturation_of(
     b: &mut [u32],
 ) {
     make(seed, table, roster);
-    calls::saturate(tally, seed, table, roster, a, b);
+    let given = words::given(seed, roster.len());
+    calls::saturate(tally, seed, given, table, roster, a, b);
 }
 
-fn saturation_case(tally: &mut [u64; 90], seed: u64) {
+fn saturation_case(tally: &mut [u64; 129], seed: u64) {
     let mut table = [0u32; 62];
     let mut roster = [0u8; 24];
     let mut a = [0u32; 600];
@@ -278,7 +293,7 @@ fn saturation_case(tally: &mut [u64; 90], seed: u64) {
 }
 
 fn cliques_of(
-    tally: &mut [u64; 90],
+    tally: &mut [u64; 129],
     seed: u64,
     table: &mut [u32],
     roster: &mut [u8],
@@ -288,10 +303,11 @@ fn cliques_of(
     d: &mut [u32],
 ) {
     make(seed, table, roster);
-    calls::cliques(tally, seed, table, roster, a, b, c, d);
+    let given = words::given(seed, roster.len());
+    calls::cliques(tally, seed, given, table, roster, a, b, c, d);
 }
 
-fn cliques_case(tally: &mut [u64; 90], seed: u64) {
+fn cliques_case(tally: &mut [u64; 129], seed: u64) {
     let mut table = [0u32; 62];
     let mut roster = [0u8; 24];
     let mut a = [0u32; 50];
@@ -323,7 +339,8 @@ pub fn base(seed: u64, table: &mut [u32], roster: &mut [u8], list: &mut [u32]) -
         copy(table, list);
         return at_most(table.len(), list.len());
     }
-    let answer = naive::saturate(table, roster, list);
+    let right = calls::plain_words(words::right(seed, roster.len()));
+    let answer = naive::saturate(right, table, roster, list);
     triples_end(answer.count, list.len())
 }
 
@@ -336,7 +353,7 @@ fn copy(from: &[u32], to: &mut [u32]) {
 }
 
 fn summary_of(
-    tally: &mut [u64; 90],
+    tally: &mut [u64; 129],
     seed: u64,
     table: &mut [u32],
     roster: &mut [u8],
@@ -352,6 +369,7 @@ fn summary_of(
     calls::summarise(
         tally,
         seed,
+        words::given(seed, roster.len()),
         &closed[0..end],
         roster,
         result,
@@ -363,7 +381,7 @@ fn summary_of(
     );
 }
 
-fn summary_case(tally: &mut [u64; 90], seed: u64) {
+fn summary_case(tally: &mut [u64; 129], seed: u64) {
     let mut table = [0u32; 62];
     let mut roster = [0u8; 24];
     let mut closed = [0u32; 600];
@@ -394,7 +412,7 @@ fn summary_case(tally: &mut [u64; 90], seed: u64) {
 }
 
 // A triple of the table, or one with another object.
-fn look_up_of(tally: &mut [u64; 90], seed: u64, table: &mut [u32]) {
+fn look_up_of(tally: &mut [u64; 129], seed: u64, table: &mut [u32]) {
     fill_table(table, seed, 24);
     let k = 3 * place_in(seed, 40, table.len() / 3);
     let s = get(table, k);
@@ -404,13 +422,13 @@ fn look_up_of(tally: &mut [u64; 90], seed: u64, table: &mut [u32]) {
     calls::look_up(tally, seed, table, s, p, 5 + pick(seed, 41, 20));
 }
 
-fn look_up_case(tally: &mut [u64; 90], seed: u64) {
+fn look_up_case(tally: &mut [u64; 129], seed: u64) {
     let mut table = [0u32; 62];
     let t = table_length(seed);
     look_up_of(tally, seed, &mut table[0..t]);
 }
 
-fn site_cases(tally: &mut [u64; 90], seed: u64) {
+fn site_cases(tally: &mut [u64; 129], seed: u64) {
     roster_case(tally, seed);
     saturation_case(tally, seed);
     cliques_case(tally, seed);
@@ -418,7 +436,7 @@ fn site_cases(tally: &mut [u64; 90], seed: u64) {
     look_up_case(tally, seed);
 }
 
-pub fn all(tally: &mut [u64; 90]) {
+pub fn all(tally: &mut [u64; 129]) {
     let mut seed = 0;
     while seed < 200000 {
         site_cases(tally, seed);

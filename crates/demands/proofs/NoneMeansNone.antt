@@ -7,7 +7,7 @@ use mathlib.Core.Bool.{false}
 use mathlib.Core.List.{List}
 use lib.ListN.{length}
 use Rattle.model.specs.declared.Triple.{Triple}
-use Rattle.model.specs.Codes.{rdfs}
+use Rattle.model.specs.declared.Vocabulary.{Vocabulary}
 use Rattle.model.specs.Triples.{triples, flat}
 use Rattle.model.specs.Partition.{label}
 use Rattle.model.specs.Classes.{mapOf}
@@ -24,23 +24,24 @@ use Rattle.theory.proofs.Checks.{passes-first, decided-cases, not-accepted}
 use Rattle.theory.proofs.Flat.{triples-flat}
 use Rattle.demands.specs.NoneMeansNone.{NoneMeansNone}
 
--- an ask that is answered passed its checks
-answered-passes : (table map : List ℕ) (q : Query) → askOutcome rdfs table map q ≡ accepted false → Passes (askChecks rdfs table map q)
-unfolding askOutcome
-answered-passes table map q h =
-    ⊎-elim (λ w. absurd (not-accepted (sym (w .1) ∙ h))) (λ p. p)
-    (decided-cases (askChecks rdfs table map q) (accepted (search (triples table) map (q .patterns) (q .count) 0 unbound)))
+module _ (v : Vocabulary) where
+  -- an ask that is answered passed its checks
+  answered-passes : (table map : List ℕ) (q : Query) → askOutcome v table map q ≡ accepted false → Passes (askChecks v table map q)
+  unfolding askOutcome
+  answered-passes table map q h =
+      ⊎-elim (λ w. absurd (not-accepted (sym (w .1) ∙ h))) (λ p. p)
+      (decided-cases (askChecks v table map q) (accepted (search (triples table) map (q .patterns) (q .count) 0 unbound)))
 
-query-right : (table map : List ℕ) (q : Query) → Passes (askChecks rdfs table map q) → wrongQuery (length map) q ≡ false
-unfolding askChecks
-query-right table map q h = (passes-first _ _ ((passes-first _ _ ((passes-first _ _ h) .1)) .1)) .0
+  query-right : (table map : List ℕ) (q : Query) → Passes (askChecks v table map q) → wrongQuery (length map) q ≡ false
+  unfolding askChecks
+  query-right table map q h = (passes-first _ _ ((passes-first _ _ ((passes-first _ _ ((passes-first _ _ h) .1)) .1)) .1)) .0
 
-pub none-means-none : NoneMeansNone
-none-means-none table roster q h e m =
-    let sat = saturationOf table roster in
-    let sum = summary rdfs roster sat in
-    let map = mapOf rdfs roster sat in
-    let p = answered-passes (flat sum) map q e in
-    let choice = match-carried (label map) sat sum map q
-    (λ t n. (summaries.summary-exact rdfs roster sat (moved (label map) t)) .1 (t, n, refl)) (λ c l n. refl) (query-right (flat sum) map q p) m in
-    (ask-exact rdfs (flat sum) map q p) .none .0 e (subst (λ (us : List Triple). Choice us map q) (sym (triples-flat sum)) choice)
+  pub none-means-none : NoneMeansNone v
+  none-means-none table roster q h e m =
+      let sat = saturationOf v table roster in
+      let sum = summary v roster sat in
+      let map = mapOf v roster sat in
+      let p = answered-passes (flat sum) map q e in
+      let choice = match-carried (label map) sat sum map q
+      (λ t n. (summaries.summary-exact v roster sat (moved (label map) t)) .1 (t, n, refl)) (λ c l n. refl) (query-right (flat sum) map q p) m in
+      (ask-exact v (flat sum) map q p) .none .0 e (subst (λ (us : List Triple). Choice us map q) (sym (triples-flat sum)) choice)

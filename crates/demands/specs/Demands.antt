@@ -1,17 +1,25 @@
--- The demands in one place.
+-- The demands in one place: for every word table.
 -- Assumes nothing.
-use lib.Dec.{T}
+use Prim.Native.Nat.{ℕ, min}
+use lib.Dec.{T, ltb}
+use mathlib.Core.Path.{_≡_}
+use mathlib.Core.Bool.{Bool, true, false}
+use mathlib.Core.List.{List, [], _∷_}
+use mathlib.Core.Option.{none}
+use Rattle.model.specs.declared.Vocabulary.{Vocabulary}
+use Rattle.model.specs.Codes.{rdfs, codes, kind, reserved, wrongWords}
+use Rattle.model.specs.Outcomes.{Outcome, Check, check, decided, wrongSize}
 use Rattle.model.specs.Graphs.{graphs, allRight, closures, allClosed}
 use Rattle.query.specs.Match.{AskExact}
-use Rattle.site_form.specs.Reading.{ReadsExactly, CountsPatterns}
-use Rattle.site_form.specs.Writing.{WrittenIsRead}
+use Rattle.site_form.specs.Reading.{ReadsExactly, CountsPatterns, loaded}
+use Rattle.site_form.specs.Writing.{WrittenIsRead, lineOf}
 use Rattle.site_form.specs.Example.{SignBytes, PrintsExample}
 use Rattle.theory.specs.Theorems.{SaturationExact, ConstraintsFollow, CliquesExact, RepresentativesExact, SummaryExact, OwnRosterLeast, ShortcutHolds, RoutesAccepted, AnyOrder, FedInAnyOrder, WholeList}
 use Rattle.demands.specs.NoneMeansNone.{NoneMeansNone}
 use Rattle.demands.specs.Feeds.{ListOfCalls}
 use Rattle.demands.specs.Routes.{AcceptedCalls, ShortcutOfCalls, NoneOfCalls, AskRefusesSix}
 
--- the small graphs of 01, computed, with the saturation that 02 gives the six triples
+-- the small graphs of 01, computed, with the saturation that 02 gives the six triples, and two graphs with reserved codes of their own
 abbrev pub GraphsRight : Type 0
 GraphsRight = T (allRight graphs)
 
@@ -20,31 +28,45 @@ abbrev pub ClosuresRight : Type 0
 ClosuresRight = T (allClosed closures)
 
 pub record Demand2 : Type 0 where
-  pub saturation : SaturationExact
-  pub constraints : ConstraintsFollow
-  pub cliques : CliquesExact
-  pub representatives : RepresentativesExact
-  pub summaries : SummaryExact
-  pub own-roster : OwnRosterLeast
+  pub saturation : (v : Vocabulary) → SaturationExact v
+  pub constraints : (v : Vocabulary) → ConstraintsFollow v
+  pub cliques : (v : Vocabulary) → CliquesExact v
+  pub representatives : (v : Vocabulary) → RepresentativesExact v
+  pub summaries : (v : Vocabulary) → SummaryExact v
+  pub own-roster : (v : Vocabulary) → OwnRosterLeast v
   pub ask : AskExact
 
 pub record Demand3 : Type 0 where
-  pub shortcut : ShortcutHolds
-  pub routes : RoutesAccepted
-  pub accepted-calls : AcceptedCalls
-  pub shortcut-of-calls : ShortcutOfCalls
-  pub any-order : AnyOrder
-  pub fed-in-any-order : FedInAnyOrder
-  pub none-means-none : NoneMeansNone
-  pub none-of-calls : NoneOfCalls
-  pub whole-list : WholeList
-  pub list-of-calls : ListOfCalls
+  pub shortcut : (v : Vocabulary) → ShortcutHolds v
+  pub routes : (v : Vocabulary) → RoutesAccepted v
+  pub accepted-calls : (v : Vocabulary) → AcceptedCalls v
+  pub shortcut-of-calls : (v : Vocabulary) → ShortcutOfCalls v
+  pub any-order : (v : Vocabulary) → AnyOrder v
+  pub fed-in-any-order : (v : Vocabulary) → FedInAnyOrder v
+  pub none-means-none : (v : Vocabulary) → NoneMeansNone v
+  pub none-of-calls : (v : Vocabulary) → NoneOfCalls v
+  pub whole-list : (v : Vocabulary) → WholeList v
+  pub list-of-calls : (v : Vocabulary) → ListOfCalls v
 
 -- the site form: read exactly, read back as written, and the example printed
 pub record SiteForms : Type 0 where
   pub reads : ReadsExactly
   pub written-is-read : WrittenIsRead
   pub example : PrintsExample
-  pub ask-refuses-six : AskRefusesSix
+  pub ask-refuses-six : (v : Vocabulary) → AskRefusesSix v
   pub signs : SignBytes
   pub counts : CountsPatterns
+
+-- 02: "A customer who loads 0 to 4 sees the present engine."
+pub record LoadsRdfs : Type 1 where
+  pub never-refused : (n : ℕ) → wrongSize n ≡ false → wrongWords rdfs n ≡ false
+  -- in each call 10 stands straight after a 1 that fails with a wrong N: there it decides nothing
+  pub decides-nothing : {A : Type 0} (n : ℕ) (lengths : Bool) → (wrongSize n ≡ true → lengths ≡ true) → (cs : List Check) (rest : Outcome A)
+      → decided (check 1 lengths ∷ check 10 (wrongWords rdfs n) ∷ cs) rest ≡ decided (check 1 lengths ∷ cs) rest
+  -- the codes are 01's: those that a roster leaves unmarked, those that stand only in the property place, and the kind of a triple
+  pub five : codes rdfs ≡ 0 ∷ 1 ∷ 2 ∷ 3 ∷ 4 ∷ []
+  pub reserved-low : (c : ℕ) → reserved rdfs c ≡ ltb c 5
+  pub kind-low : (c : ℕ) → kind rdfs c ≡ min c 5
+  -- a text without the line loads them, and they are written without it
+  pub loads : loaded none ≡ rdfs
+  pub no-line : lineOf rdfs ≡ none

@@ -4,7 +4,7 @@ use Prim.Native.Nat.{ℕ}
 use mathlib.Core.Path.{_≡_}
 use mathlib.Core.Bool.{false}
 use mathlib.Core.List.{List}
-use Rattle.model.specs.Codes.{rdfs}
+use Rattle.model.specs.declared.Vocabulary.{Vocabulary}
 use Rattle.model.specs.Triples.{flat}
 use Rattle.model.specs.Classes.{mapOf}
 use Rattle.model.specs.Summary.{summary}
@@ -15,9 +15,10 @@ use Rattle.query.specs.Ask.{askOutcome}
 use Rattle.query.specs.Match.{Match}
 use Rattle.theory.specs.Theorems.{saturationOf}
 
--- none on the saturated table's summary means no match in the saturated table
-abbrev pub NoneMeansNone : Type 0
-NoneMeansNone =
-    (table roster : List ℕ) (q : Query) → Accepted rdfs table roster
-    → askOutcome rdfs (flat (summary rdfs roster (saturationOf table roster))) (mapOf rdfs roster (saturationOf table roster)) q ≡ accepted false
-    → Match (saturationOf table roster) q → ⊥
+module _ (v : Vocabulary) where
+  -- none on the saturated table's summary means no match in the saturated table
+  abbrev pub NoneMeansNone : Type 0
+  NoneMeansNone =
+      (table roster : List ℕ) (q : Query) → Accepted v table roster
+      → askOutcome v (flat (summary v roster (saturationOf v table roster))) (mapOf v roster (saturationOf v table roster)) q ≡ accepted false
+      → Match (saturationOf v table roster) q → ⊥

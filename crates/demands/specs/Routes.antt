@@ -17,7 +17,8 @@ use Rattle.query.specs.Ask.{askOutcome}
 use Rattle.query.specs.Match.{Match}
 use Rattle.site_form.specs.Reading.{queryOf}
 use Rattle.site_form.specs.Printing.{printerSlots}
-use Rattle.model.specs.Codes.{rdfs}
+use Rattle.model.specs.declared.Vocabulary.{Vocabulary}
+use Rattle.model.specs.Codes.{wrongWords}
 use Rattle.model.specs.Partition.{label}
 use Rattle.model.specs.Outcomes.{accepted, refused, wrongSize}
 use Rattle.model.specs.Calls.{Accepted, saturateOutcome, saturateLeaves, summariseOutcome, summariseLeaves}
@@ -32,48 +33,49 @@ pub record Lent : Type 0 where
   pub map : List ℕ
   pub work : List ℕ
 
--- a summarise that is accepted with a count, and what it leaves
-pub record Summarises (table roster : List ℕ) (l : Lent) (count : ℕ) (out map : List ℕ) : Type 0 where
-  pub returns : summariseOutcome rdfs table roster (l .result) (l .map) (l .work) ≡ accepted count
-  pub triples : out ≡ tableIn count (summariseLeaves rdfs table roster (l .result) (l .map) (l .work) .result)
-  pub representatives : map ≡ summariseLeaves rdfs table roster (l .result) (l .map) (l .work) .map
+module _ (v : Vocabulary) where
+  -- a summarise that is accepted with a count, and what it leaves
+  pub record Summarises (table roster : List ℕ) (l : Lent) (count : ℕ) (out map : List ℕ) : Type 0 where
+    pub returns : summariseOutcome v table roster (l .result) (l .map) (l .work) ≡ accepted count
+    pub triples : out ≡ tableIn count (summariseLeaves v table roster (l .result) (l .map) (l .work) .result)
+    pub representatives : map ≡ summariseLeaves v table roster (l .result) (l .map) (l .work) .map
 
--- a saturate that is accepted with a count, and what it leaves
-pub record Saturates (table roster result : List ℕ) (count : ℕ) (out : List ℕ) : Type 0 where
-  pub returns : saturateOutcome rdfs table roster result ≡ accepted count
-  pub triples : out ≡ tableIn count (saturateLeaves rdfs table roster result)
+  -- a saturate that is accepted with a count, and what it leaves
+  pub record Saturates (table roster result : List ℕ) (count : ℕ) (out : List ℕ) : Type 0 where
+    pub returns : saturateOutcome v table roster result ≡ accepted count
+    pub triples : out ≡ tableIn count (saturateLeaves v table roster result)
 
--- 01: "A table is accepted with a roster if no check before 5 below refuses it; a list is long enough if its length causes no 1, 5 or 7."
--- On an accepted table, with lists that are long enough, both calls are accepted. `RoutesAccepted` says that the tables on either route are
--- accepted, so each call of a route is.
-pub record CallsAccept (table roster : List ℕ) : Type 0 where
-  pub saturates : (result : List ℕ) → length (saturation rdfs (length roster) (triples table)) ≤ slots result
-      → saturateOutcome rdfs table roster result ≡ accepted (length (saturation rdfs (length roster) (triples table)))
-  pub summarises : (l : Lent) → length (l .map) ≡ length roster → length (l .work) ≡ 2 * length roster → length (summary rdfs roster (triples table)) ≤ slots (l .result)
-      → summariseOutcome rdfs table roster (l .result) (l .map) (l .work) ≡ accepted (length (summary rdfs roster (triples table)))
+  -- 01: "A table is accepted with a roster if no check before 5 below refuses it; a list is long enough if its length causes no 1, 5 or 7."
+  -- On an accepted table, with lists that are long enough, both calls are accepted. `RoutesAccepted` says that the tables on either route are
+  -- accepted, so each call of a route is.
+  pub record CallsAccept (table roster : List ℕ) : Type 0 where
+    pub saturates : (result : List ℕ) → length (saturation v (length roster) (triples table)) ≤ slots result
+        → saturateOutcome v table roster result ≡ accepted (length (saturation v (length roster) (triples table)))
+    pub summarises : (l : Lent) → length (l .map) ≡ length roster → length (l .work) ≡ 2 * length roster → length (summary v roster (triples table)) ≤ slots (l .result)
+        → summariseOutcome v table roster (l .result) (l .map) (l .work) ≡ accepted (length (summary v roster (triples table)))
 
-abbrev pub AcceptedCalls : Type 0
-AcceptedCalls = (table roster : List ℕ) → Accepted rdfs table roster → CallsAccept table roster
+  abbrev pub AcceptedCalls : Type 0
+  AcceptedCalls = (table roster : List ℕ) → Accepted v table roster → CallsAccept table roster
 
--- the two routes as calls, each on what the call before left: they end with one table, and the maps of the short route lead, one after the
--- other, where the map of the long route leads
-abbrev pub ShortcutOfCalls : Type 0
-ShortcutOfCalls =
-    (table roster big small : List ℕ) (l k m : Lent) (a b c d e : ℕ) (sat sum short shortSat shortSum f g h : List ℕ)
-    → Saturates table roster big a sat → Summarises sat roster l b sum g
-    → Summarises table roster k c short f → Saturates short roster small d shortSat → Summarises shortSat roster m e shortSum h
-    → (b ≡ e) × (sum ≡ shortSum) × ((x : ℕ) → label h (label f x) ≡ label g x)
+  -- the two routes as calls, each on what the call before left: they end with one table, and the maps of the short route lead, one after the
+  -- other, where the map of the long route leads
+  abbrev pub ShortcutOfCalls : Type 0
+  ShortcutOfCalls =
+      (table roster big small : List ℕ) (l k m : Lent) (a b c d e : ℕ) (sat sum short shortSat shortSum f g h : List ℕ)
+      → Saturates table roster big a sat → Summarises sat roster l b sum g
+      → Summarises table roster k c short f → Saturates short roster small d shortSat → Summarises shortSat roster m e shortSum h
+      → (b ≡ e) × (sum ≡ shortSum) × ((x : ℕ) → label h (label f x) ≡ label g x)
 
--- none means no match, as calls: saturate, summarise, ask
-abbrev pub NoneOfCalls : Type 0
-NoneOfCalls =
-    (table roster big : List ℕ) (l : Lent) (a b : ℕ) (sat sum g : List ℕ) (q : Query)
-    → Saturates table roster big a sat → Summarises sat roster l b sum g
-    → askOutcome rdfs sum g q ≡ accepted false → Match (triples sat) q → ⊥
+  -- none means no match, as calls: saturate, summarise, ask
+  abbrev pub NoneOfCalls : Type 0
+  NoneOfCalls =
+      (table roster big : List ℕ) (l : Lent) (a b : ℕ) (sat sum g : List ℕ) (q : Query)
+      → Saturates table roster big a sat → Summarises sat roster l b sum g
+      → askOutcome v sum g q ≡ accepted false → Match (triples sat) q → ⊥
 
--- In the printer ask refuses a query with 6 only: by then 1, 3 and 5 have passed.
-abbrev pub AskRefusesSix : Type 0
-AskRefusesSix =
-    (n : ℕ) (ts : List Triple) (ps : List Pattern) (r : ℕ) → wrongSize n ≡ false → wrongCodes rdfs n ts ≡ false → length (saturation rdfs n ts) ≤ printerSlots
-    → askOutcome rdfs (flat (summary rdfs (ownRoster rdfs n ts) (saturation rdfs n ts))) (mapOf rdfs (ownRoster rdfs n ts) (saturation rdfs n ts)) (queryOf ps) ≡ refused r
-    → r ≡ 6
+  -- In the printer ask refuses a query with 6 only: by then 1, 10, 3 and 5 have passed.
+  abbrev pub AskRefusesSix : Type 0
+  AskRefusesSix =
+      (n : ℕ) (ts : List Triple) (ps : List Pattern) (r : ℕ) → wrongSize n ≡ false → wrongWords v n ≡ false → wrongCodes v n ts ≡ false → length (saturation v n ts) ≤ printerSlots
+      → askOutcome v (flat (summary v (ownRoster v n ts) (saturation v n ts))) (mapOf v (ownRoster v n ts) (saturation v n ts)) (queryOf ps) ≡ refused r
+      → r ≡ 6

@@ -12,14 +12,14 @@ use borrow.Author.Tests.{ne-eqb, eq-eqb}
 use Rattle.model.specs.declared.Done.{Done}
 use Rattle.model.specs.declared.Refusal.{Refusal}
 use Rattle.model.specs.declared.Done.the-variants.{Accepted, Refused}
-use Rattle.model.specs.declared.Refusal.the-variants.{Length, Roster}
-use Rattle.model.specs.Codes.{rdfs, absent}
+use Rattle.model.specs.declared.Refusal.the-variants.{Length, Words, Roster}
+use Rattle.model.specs.declared.Vocabulary.{Vocabulary}
+use Rattle.model.specs.Codes.{wrongWords, absent}
 use Rattle.model.specs.Triples.{slots}
 use Rattle.model.specs.Roster.{wrongRoster}
 use Rattle.model.specs.Outcomes.{Outcome, refused, accepted, number, done, decided, wrongSize}
 use Rattle.model.specs.Intake.{State, wrongLists, openOutcome, opened, openLeaves}
-use Rattle.theory.proofs.Tests.{or-left, or-right, or-false}
-use Rattle.theory.proofs.Accepted.{size-bounds}
+use Rattle.theory.proofs.Tests.{or-left, or-right}
 use Rattle.lists.specs.Flat.{Cleared}
 use Rattle.lists.proofs.Search.{cleared-all}
 use Rattle.lists.specs.Flat.{Emptied}
@@ -44,71 +44,78 @@ module _ (n triples summary map : ℕ) where
     unfolding wrongLengths
     by-most e h r q = q ∙ (λ i. sym z i || (not (sym (eq-eqb map n e) i) || (not (sym (eq-eqb (triples / 3) (summary / 3) h) i) || ltb 1048576 (triples / 3))))
 
-pub five : (n triples summary map : ℕ) → wrongLengths n triples summary map ≡ false → 5 ≤ n
-unfolding wrongLengths
-five n triples summary map h = (size-bounds n ((or-false (wrongSize n) _ h) .0)) .0
-
 -- ── the answers ──
 emptied-all : (l m : List ℕ) → Emptied l m (length l) → m ≡ replicate (length l) absent
 emptied-all l m e =
     ext-getD 0 m (replicate (length l) absent) (e .size ∙ sym (length-replicate (length l) absent))
     (λ k q. e .absents k (omega (arith, e .size)) ∙ sym (getD-replicate (length l) k absent 0 (omega (arith, e .size))))
 
-module _ (roster triples summary map : List ℕ) where
-  abbrev wrong : Bool
-  wrong = wrongLengths (length roster) (length triples) (length summary) (length map)
+module _ (v : Vocabulary) where
+  module _ (roster triples summary map : List ℕ) where
+    abbrev wrong : Bool
+    wrong = wrongLengths (length roster) (length triples) (length summary) (length map)
 
-  abbrev first-of : Bool → Bool → Outcome (Unit {0})
-  first-of a b = cond a (refused 1) (cond b (refused 2) (accepted tt))
+    abbrev first-of : Bool → Bool → Bool → Outcome (Unit {0})
+    first-of a w b = cond a (refused 1) (cond w (refused 10) (cond b (refused 2) (accepted tt)))
 
-  outcome-is : (a b : Bool) → wrong ≡ a → wrongRoster rdfs roster ≡ b → (held summarised : ℕ) → openOutcome rdfs roster (stateWith triples summary map held summarised) ≡ first-of a b
-  unfolding openOutcome decided wrongLists wrongLengths slots
-  outcome-is a b p q held summarised = λ i. first-of (p i) (q i)
+    outcome-is : (a w b : Bool) → wrong ≡ a → wrongWords v (length roster) ≡ w → wrongRoster v roster ≡ b → (held summarised : ℕ) → openOutcome v roster (stateWith triples summary map held summarised) ≡ first-of a w b
+    unfolding openOutcome decided wrongLists wrongLengths slots
+    outcome-is a w b p x q held summarised = λ i. first-of (p i) (x i) (q i)
 
-  pub opened-length : wrong ≡ true → OpenCall roster triples summary map (Refused Length) triples summary map
-  unfolding done number openLeaves
-  opened-length p =
-      record {
-        answer = λ h s. sym (outcome-is true (wrongRoster rdfs roster) p refl h s);
-        in-triples = λ h s. refl;
-        in-summary = λ h s. refl;
-        in-map = λ h s. refl;
-      }
+    pub opened-length : wrong ≡ true → OpenCall v roster triples summary map (Refused Length) triples summary map
+    unfolding done number openLeaves
+    opened-length p =
+        record {
+          answer = λ h s. sym (outcome-is true (wrongWords v (length roster)) (wrongRoster v roster) p refl refl h s);
+          in-triples = λ h s. refl;
+          in-summary = λ h s. refl;
+          in-map = λ h s. refl;
+        }
 
-  pub opened-roster : wrong ≡ false → wrongRoster rdfs roster ≡ true → OpenCall roster triples summary map (Refused Roster) triples summary map
-  unfolding done number openLeaves
-  opened-roster p q =
-      record {
-        answer = λ h s. sym (outcome-is false true p q h s);
-        in-triples = λ h s. refl;
-        in-summary = λ h s. refl;
-        in-map = λ h s. refl;
-      }
+    pub opened-words : wrong ≡ false → wrongWords v (length roster) ≡ true → OpenCall v roster triples summary map (Refused Words) triples summary map
+    unfolding done number openLeaves
+    opened-words p q =
+        record {
+          answer = λ h s. sym (outcome-is false true (wrongRoster v roster) p q refl h s);
+          in-triples = λ h s. refl;
+          in-summary = λ h s. refl;
+          in-map = λ h s. refl;
+        }
 
-  pub opened-all : wrong ≡ false → wrongRoster rdfs roster ≡ false → (x y z : List ℕ) → Cleared triples x 0 (length triples) → Cleared summary y 0 (length summary) → Emptied map z (length map)
-      → OpenCall roster triples summary map Accepted x y z
-  unfolding done openLeaves opened
-  opened-all p q x y z a b d =
-      record {
-        answer = λ h s. sym (outcome-is false false p q h s);
-        in-triples = λ h s. cleared-all triples x (length triples) a (omega arith);
-        in-summary = λ h s. cleared-all summary y (length summary) b (omega arith);
-        in-map = λ h s. emptied-all map z d;
-      }
+    pub opened-roster : wrong ≡ false → wrongWords v (length roster) ≡ false → wrongRoster v roster ≡ true → OpenCall v roster triples summary map (Refused Roster) triples summary map
+    unfolding done number openLeaves
+    opened-roster p k q =
+        record {
+          answer = λ h s. sym (outcome-is false false true p k q h s);
+          in-triples = λ h s. refl;
+          in-summary = λ h s. refl;
+          in-map = λ h s. refl;
+        }
 
-  -- ── with the counts ──
-  module _ (held summarised : ℕ) (d : Done) (x y z : List ℕ) (C : OpenCall roster triples summary map d x y z) where
-    abbrev s : State
-    s = stateWith triples summary map held summarised
-
-    pub opens-refused : (r : Refusal) → d ≡ Refused r → Opens roster s (done (Refused r)) (stateWith x y z held summarised)
-    unfolding done openLeaves
-    opens-refused r e =
-        let K = subst (λ (d : Done). OpenCall roster triples summary map d x y z) e C in
-        record { answer = K .answer held summarised; leaves = λ i. stateWith (K .in-triples held summarised i) (K .in-summary held summarised i) (K .in-map held summarised i) held summarised }
-
-    pub opens-accepted : d ≡ Accepted → Opens roster s (done Accepted) (stateWith x y z 0 0)
+    pub opened-all : wrong ≡ false → wrongWords v (length roster) ≡ false → wrongRoster v roster ≡ false → (x y z : List ℕ) → Cleared triples x 0 (length triples) → Cleared summary y 0 (length summary) → Emptied map z (length map)
+        → OpenCall v roster triples summary map Accepted x y z
     unfolding done openLeaves opened
-    opens-accepted e =
-        let K = subst (λ (d : Done). OpenCall roster triples summary map d x y z) e C in
-        record { answer = K .answer held summarised; leaves = λ i. stateWith (K .in-triples held summarised i) (K .in-summary held summarised i) (K .in-map held summarised i) 0 0 }
+    opened-all p k q x y z a b d =
+        record {
+          answer = λ h s. sym (outcome-is false false false p k q h s);
+          in-triples = λ h s. cleared-all triples x (length triples) a (omega arith);
+          in-summary = λ h s. cleared-all summary y (length summary) b (omega arith);
+          in-map = λ h s. emptied-all map z d;
+        }
+
+    -- ── with the counts ──
+    module _ (held summarised : ℕ) (d : Done) (x y z : List ℕ) (C : OpenCall v roster triples summary map d x y z) where
+      abbrev s : State
+      s = stateWith triples summary map held summarised
+
+      pub opens-refused : (r : Refusal) → d ≡ Refused r → Opens v roster s (done (Refused r)) (stateWith x y z held summarised)
+      unfolding done openLeaves
+      opens-refused r e =
+          let K = subst (λ (d : Done). OpenCall v roster triples summary map d x y z) e C in
+          record { answer = K .answer held summarised; leaves = λ i. stateWith (K .in-triples held summarised i) (K .in-summary held summarised i) (K .in-map held summarised i) held summarised }
+
+      pub opens-accepted : d ≡ Accepted → Opens v roster s (done Accepted) (stateWith x y z 0 0)
+      unfolding done openLeaves opened
+      opens-accepted e =
+          let K = subst (λ (d : Done). OpenCall v roster triples summary map d x y z) e C in
+          record { answer = K .answer held summarised; leaves = λ i. stateWith (K .in-triples held summarised i) (K .in-summary held summarised i) (K .in-map held summarised i) 0 0 }

@@ -10,7 +10,8 @@ use lib.Dec.{eqb}
 use lib.ListN.{length, getD}
 use borrow.Author.Tests.{eqb-false}
 use Rattle.model.specs.declared.Triple.{Triple}
-use Rattle.model.specs.Codes.{rdfs, absent}
+use Rattle.model.specs.declared.Vocabulary.{Vocabulary}
+use Rattle.model.specs.Codes.{absent}
 use Rattle.model.specs.Lists.{any, tabulate}
 use Rattle.model.specs.Triples.{triple, same, holds}
 use Rattle.model.specs.Roster.{coversTriple, wrongTriple}
@@ -60,35 +61,36 @@ module _ (summary : List ℕ) (n : ℕ) (map : List ℕ) (t : Triple) (below : B
         image = subst (λ (z : Triple). Mem z (first summary n)) e (w .held h);
       }
 
--- ── held triples that are wrong ──
-pub record GoodBefore (l roster : List ℕ) (i : ℕ) : Type 0 where
-  pub good : (k : ℕ) → k < i → bad roster (at l k) ≡ false
+module _ (v : Vocabulary) where
+  -- ── held triples that are wrong ──
+  pub record GoodBefore (l roster : List ℕ) (i : ℕ) : Type 0 where
+    pub good : (k : ℕ) → k < i → bad v roster (at l k) ≡ false
 
-pub good-start : (l roster : List ℕ) → GoodBefore l roster 0
-good-start l roster = record { good = λ k h. absurd (omega arith) }
+  pub good-start : (l roster : List ℕ) → GoodBefore l roster 0
+  good-start l roster = record { good = λ k h. absurd (omega arith) }
 
-module _ (l roster : List ℕ) (i : ℕ) (t : Triple) (e : t ≡ at l i) where
-  pub good-step : GoodBefore l roster i → wrongTriple rdfs (length roster) t ≡ false → coversTriple rdfs roster t ≡ true → GoodBefore l roster (i + 1)
-  unfolding bad
-  good-step g a b = record { good = λ k h. go k h (cmp k i) }
-    where
-      go : (k : ℕ) → k < i + 1 → Cmp k i → bad roster (at l k) ≡ false
-      go k h (lt x) = g .good k x
-      go k h (eq x) =
-          ap (λ (z : ℕ). bad roster (at l z)) x ∙ ap (bad roster) (sym e)
-          ∙ or-neither (wrongTriple rdfs (length roster) t) _ a (ap not b)
-      go k h (gt x) = absurd (omega arith)
+  module _ (l roster : List ℕ) (i : ℕ) (t : Triple) (e : t ≡ at l i) where
+    pub good-step : GoodBefore l roster i → wrongTriple v (length roster) t ≡ false → coversTriple v roster t ≡ true → GoodBefore l roster (i + 1)
+    unfolding bad
+    good-step g a b = record { good = λ k h. go k h (cmp k i) }
+      where
+        go : (k : ℕ) → k < i + 1 → Cmp k i → bad v roster (at l k) ≡ false
+        go k h (lt x) = g .good k x
+        go k h (eq x) =
+            ap (λ (z : ℕ). bad v roster (at l z)) x ∙ ap (bad v roster) (sym e)
+            ∙ or-neither (wrongTriple v (length roster) t) _ a (ap not b)
+        go k h (gt x) = absurd (omega arith)
 
-  pub bad-code : (n : ℕ) → i < n → wrongTriple rdfs (length roster) t ≡ true → true ≡ any (bad roster) (first l n)
-  unfolding bad
-  bad-code n h a = any-at (bad roster) (at l) n i h (ap (bad roster) (sym e) ∙ or-left (wrongTriple rdfs (length roster) t) _ a)
+    pub bad-code : (n : ℕ) → i < n → wrongTriple v (length roster) t ≡ true → true ≡ any (bad v roster) (first l n)
+    unfolding bad
+    bad-code n h a = any-at (bad v roster) (at l) n i h (ap (bad v roster) (sym e) ∙ or-left (wrongTriple v (length roster) t) _ a)
 
-  pub bad-cover : (n : ℕ) → i < n → coversTriple rdfs roster t ≡ false → true ≡ any (bad roster) (first l n)
-  unfolding bad
-  bad-cover n h a = any-at (bad roster) (at l) n i h (ap (bad roster) (sym e) ∙ or-right (wrongTriple rdfs (length roster) t) _ (ap not a))
+    pub bad-cover : (n : ℕ) → i < n → coversTriple v roster t ≡ false → true ≡ any (bad v roster) (first l n)
+    unfolding bad
+    bad-cover n h a = any-at (bad v roster) (at l) n i h (ap (bad v roster) (sym e) ∙ or-right (wrongTriple v (length roster) t) _ (ap not a))
 
-pub good-end : (l roster : List ℕ) (i n : ℕ) → GoodBefore l roster i → n ≤ i → false ≡ any (bad roster) (first l n)
-good-end l roster i n g h = any-nowhere (bad roster) (at l) n i h (g .good)
+  pub good-end : (l roster : List ℕ) (i n : ℕ) → GoodBefore l roster i → n ≤ i → false ≡ any (bad v roster) (first l n)
+  good-end l roster i n g h = any-nowhere (bad v roster) (at l) n i h (g .good)
 
-pub below-of : (n : ℕ) (t : Triple) → wrongTriple rdfs n t ≡ false → Below n t
-below-of n t h = (codes-right rdfs n t h) .below
+  pub below-of : (n : ℕ) (t : Triple) → wrongTriple v n t ≡ false → Below n t
+  below-of n t h = (codes-right v n t h) .below

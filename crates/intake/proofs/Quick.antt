@@ -7,7 +7,8 @@ use mathlib.Core.Bool.{true, true≢false}
 use mathlib.Core.List.{List, List·Memᴰ as Mem}
 use lib.ListN.{length}
 use Rattle.model.specs.declared.Triple.{Triple}
-use Rattle.model.specs.Codes.{Vocabulary, absent, kind}
+use Rattle.model.specs.declared.Vocabulary.{Vocabulary}
+use Rattle.model.specs.Codes.{absent, kind}
 use Rattle.model.specs.Triples.{isData, insert}
 use Rattle.model.specs.Roster.{unmarked}
 use Rattle.model.specs.Partition.{label}

@@ -8,17 +8,21 @@ use mathlib.Core.List.{List, List·Memᴰ as Mem}
 use lib.ListN.{length}
 use Rattle.model.specs.declared.Triple.{Triple}
 use Rattle.model.specs.declared.Refusal.{Refusal}
-use Rattle.model.specs.declared.Found.the-variants.{Refused}
-use Rattle.model.specs.Codes.{rdfs, absent}
+use Rattle.model.specs.declared.Found.the-variants.{No, Refused}
+use Rattle.model.specs.declared.Vocabulary.{Vocabulary}
+use Rattle.model.specs.Codes.{wrongWords, absent}
 use Rattle.model.specs.Lists.{zeros}
 use Rattle.model.specs.Triples.{slots, holds, insert}
 use Rattle.model.specs.Roster.{coversTriple, wrongRoster, wrongTriple}
 use Rattle.model.specs.Partition.{label}
 use Rattle.model.specs.Summary.{moved}
-use Rattle.model.specs.Outcomes.{Outcome, refused, accepted, left, wrongSize}
-use Rattle.model.specs.Intake.{State, judged, joins, stateOf, Valid}
+use Rattle.model.specs.Outcomes.{Outcome, refused, accepted, checked, left, wrongSize}
+use Rattle.model.specs.Intake.{State, judged, joins, stateOf, feedChecks, Valid}
 use Rattle.lists.specs.Flat.{at, RisingPart, Bound}
+use Rattle.table_checks.specs.declared.Verdict.{Verdict}
+use Rattle.table_checks.specs.Verdicts.{verdict}
 use Rattle.builder.specs.Builder.{first}
+use Rattle.intake.specs.Opening.{stateWith}
 use Rattle.intake.specs.declared.FedCounts.{FedCounts}
 
 pub record StandsAt (l : List ℕ) (n i : ℕ) (t : Triple) (r : Bool) : Type 0 where
@@ -32,47 +36,58 @@ pub record Known (summary : List ℕ) (n : ℕ) (map : List ℕ) (t : Triple) : 
   pub fits : 3 * n ≤ length summary
   pub image : Mem (moved (label map) t) (first summary n)
 
--- a wrong code, or a role that is not marked
-unfoldable pub bad : List ℕ → Triple → Bool
-bad roster t = wrongTriple rdfs (length roster) t || not (coversTriple rdfs roster t)
-
--- the checks 1 to 4 of a feed pass
-pub record Ready (roster triples summary map work : List ℕ) (t : Triple) : Type 0 where
-  pub size : wrongSize (length roster) ≡ false
-  pub marks : wrongRoster rdfs roster ≡ false
-  pub right : wrongTriple rdfs (length roster) t ≡ false
-  pub cover : coversTriple rdfs roster t ≡ true
-  pub map-size : length map ≡ length roster
-  pub equal : length triples / 3 ≡ length summary / 3
-  pub work-size : length work ≡ 2 * length roster
-
-module _ (roster : List ℕ) (s : State) (work : List ℕ) (t : Triple) where
-  -- every list keeps its length
-  pub record Kept (after : State) (work′ : List ℕ) : Type 0 where
-    pub in-triples : length (after .triples) ≡ length (s .triples)
-    pub in-summary : length (after .summary) ≡ length (s .summary)
-    pub in-map : length (after .map) ≡ length (s .map)
-    pub in-work : length work′ ≡ length work
-
-  abbrev pub SevenOrTaken : Outcome Bool → Type 0
-  SevenOrTaken outcome = (outcome ≡ refused 7) ⊎ ((new : Bool) × (outcome ≡ accepted new))
-
-  -- a new triple with its place
-  pub record AddCall (i : ℕ) (outcome : Outcome Bool) (after : State) (work′ : List ℕ) : Type 0 where
-    pub passes : SevenOrTaken outcome
-    pub steps : (H : List Triple) → Valid rdfs roster s H → Bound (at (s .triples)) 0 (s .held) t i → holds t H ≡ false
-        → (outcome ≡ accepted true) × (after ≡ stateOf rdfs roster (length (s .triples)) (length (s .summary)) (insert t H)) × (work′ ≡ zeros (length work))
-    pub kept : Kept after work′
-
-  -- a feed that no check refuses
-  pub record Taken (outcome : Outcome Bool) (after : State) (work′ : List ℕ) : Type 0 where
-    pub passes : SevenOrTaken outcome
-    pub steps : (H : List Triple) → Valid rdfs roster s H
-        → (outcome ≡ judged rdfs roster (slots (s .triples)) H t)
-        × (after ≡ stateOf rdfs roster (length (s .triples)) (length (s .summary)) (joins rdfs roster outcome t H))
-        × (work′ ≡ left outcome work (zeros (length work)))
-    pub kept : Kept after work′
-
 -- a refusal with the counts as they were
 abbrev pub refusal : Refusal → ℕ → ℕ → FedCounts
 refusal r held summarised = record { answer = Refused r; held = held; summarised = summarised }
+
+-- a triple that is held, with the counts as they were
+abbrev pub notNew : ℕ → ℕ → FedCounts
+notNew held summarised = record { answer = No; held = held; summarised = summarised }
+
+module _ (v : Vocabulary) where
+  -- a wrong code, or a role that is not marked
+  unfoldable pub bad : List ℕ → Triple → Bool
+  bad roster t = wrongTriple v (length roster) t || not (coversTriple v roster t)
+
+  -- what the checks 1, 10, 2, 3, 4 of a feed decide, whatever the counts are
+  abbrev pub FeedVerdict : (roster triples summary map work : List ℕ) → Triple → Verdict → Type 0
+  FeedVerdict roster triples summary map work t r =
+      (held summarised : ℕ) → verdict r ≡ checked (feedChecks v roster (stateWith triples summary map held summarised) (record { triple = t; work = length work })) tt
+
+  -- the checks 1, 10 and 2 to 4 of a feed pass
+  pub record Ready (roster triples summary map work : List ℕ) (t : Triple) : Type 0 where
+    pub size : wrongSize (length roster) ≡ false
+    pub words : wrongWords v (length roster) ≡ false
+    pub marks : wrongRoster v roster ≡ false
+    pub right : wrongTriple v (length roster) t ≡ false
+    pub cover : coversTriple v roster t ≡ true
+    pub map-size : length map ≡ length roster
+    pub equal : length triples / 3 ≡ length summary / 3
+    pub work-size : length work ≡ 2 * length roster
+
+  module _ (roster : List ℕ) (s : State) (work : List ℕ) (t : Triple) where
+    -- every list keeps its length
+    pub record Kept (after : State) (work′ : List ℕ) : Type 0 where
+      pub in-triples : length (after .triples) ≡ length (s .triples)
+      pub in-summary : length (after .summary) ≡ length (s .summary)
+      pub in-map : length (after .map) ≡ length (s .map)
+      pub in-work : length work′ ≡ length work
+
+    abbrev pub SevenOrTaken : Outcome Bool → Type 0
+    SevenOrTaken outcome = (outcome ≡ refused 7) ⊎ ((new : Bool) × (outcome ≡ accepted new))
+
+    -- a new triple with its place
+    pub record AddCall (i : ℕ) (outcome : Outcome Bool) (after : State) (work′ : List ℕ) : Type 0 where
+      pub passes : SevenOrTaken outcome
+      pub steps : (H : List Triple) → Valid v roster s H → Bound (at (s .triples)) 0 (s .held) t i → holds t H ≡ false
+          → (outcome ≡ accepted true) × (after ≡ stateOf v roster (length (s .triples)) (length (s .summary)) (insert t H)) × (work′ ≡ zeros (length work))
+      pub kept : Kept after work′
+
+    -- a feed that no check refuses
+    pub record Taken (outcome : Outcome Bool) (after : State) (work′ : List ℕ) : Type 0 where
+      pub passes : SevenOrTaken outcome
+      pub steps : (H : List Triple) → Valid v roster s H
+          → (outcome ≡ judged v roster (slots (s .triples)) H t)
+          × (after ≡ stateOf v roster (length (s .triples)) (length (s .summary)) (joins v roster outcome t H))
+          × (work′ ≡ left outcome work (zeros (length work)))
+      pub kept : Kept after work′

@@ -6,7 +6,8 @@ use mathlib.Core.Bool.{Bool, not, _||_}
 use mathlib.Core.List.{List}
 use lib.Dec.{eqb, ltb}
 use Rattle.model.specs.declared.Done.{Done}
-use Rattle.model.specs.Codes.{rdfs, mostTriples}
+use Rattle.model.specs.declared.Vocabulary.{Vocabulary}
+use Rattle.model.specs.Codes.{mostTriples}
 use Rattle.model.specs.Outcomes.{Outcome, done, wrongSize}
 use Rattle.model.specs.Intake.{State, openOutcome, openLeaves}
 
@@ -19,14 +20,15 @@ wrongLengths n triples summary map =
 abbrev pub stateWith : List ℕ → List ℕ → List ℕ → ℕ → ℕ → State
 stateWith triples summary map held summarised = record { triples = triples; summary = summary; map = map; held = held; summarised = summarised }
 
--- the answer, and the three lists after the call, whatever the counts are
-pub record OpenCall (roster triples summary map : List ℕ) (r : Done) (triples′ summary′ map′ : List ℕ) : Type 0 where
-  pub answer : (held summarised : ℕ) → done r ≡ openOutcome rdfs roster (stateWith triples summary map held summarised)
-  pub in-triples : (held summarised : ℕ) → triples′ ≡ openLeaves rdfs roster (done r) (stateWith triples summary map held summarised) .triples
-  pub in-summary : (held summarised : ℕ) → summary′ ≡ openLeaves rdfs roster (done r) (stateWith triples summary map held summarised) .summary
-  pub in-map : (held summarised : ℕ) → map′ ≡ openLeaves rdfs roster (done r) (stateWith triples summary map held summarised) .map
+module _ (v : Vocabulary) where
+  -- the answer, and the three lists after the call, whatever the counts are
+  pub record OpenCall (roster triples summary map : List ℕ) (r : Done) (triples′ summary′ map′ : List ℕ) : Type 0 where
+    pub answer : (held summarised : ℕ) → done r ≡ openOutcome v roster (stateWith triples summary map held summarised)
+    pub in-triples : (held summarised : ℕ) → triples′ ≡ openLeaves v roster (done r) (stateWith triples summary map held summarised) .triples
+    pub in-summary : (held summarised : ℕ) → summary′ ≡ openLeaves v roster (done r) (stateWith triples summary map held summarised) .summary
+    pub in-map : (held summarised : ℕ) → map′ ≡ openLeaves v roster (done r) (stateWith triples summary map held summarised) .map
 
--- the whole call: its outcome, and the lists and counts after it
-pub record Opens (roster : List ℕ) (s : State) (outcome : Outcome (Unit {0})) (after : State) : Type 0 where
-  pub answer : outcome ≡ openOutcome rdfs roster s
-  pub leaves : after ≡ openLeaves rdfs roster outcome s
+  -- the whole call: its outcome, and the lists and counts after it
+  pub record Opens (roster : List ℕ) (s : State) (outcome : Outcome (Unit {0})) (after : State) : Type 0 where
+    pub answer : outcome ≡ openOutcome v roster s
+    pub leaves : after ≡ openLeaves v roster outcome s

@@ -5,7 +5,6 @@ ghost use mathlib.Core.Path.{_≡_};
 ghost use mathlib.Core.List.{List·Memᴰ as Mem};
 ghost use Prim.Native.Nat.{_+_, _*_, _/_, _<_, _≤_};
 ghost use lib.ListN.{length};
-ghost use Rattle.model.specs.Codes.{rdfs};
 ghost use Rattle.model.specs.Lists.{any};
 ghost use Rattle.model.specs.Triples.{triple};
 ghost use Rattle.model.specs.Outcomes.{done, found};
@@ -14,9 +13,10 @@ ghost use Rattle.theory.proofs.Covered.{Below};
 ghost use Rattle.builder.specs.Builder.{first};
 ghost use Rattle.intake.specs.Insertion.{Inserted};
 ghost use Rattle.intake.specs.Opening.{wrongLengths, stateWith, OpenCall, Opens};
-ghost use Rattle.intake.specs.Feeding.{StandsAt, Known, bad, Ready, AddCall, Taken, refusal};
+ghost use Rattle.intake.specs.Feeding.{StandsAt, Known, bad, FeedVerdict, Ready, AddCall, Taken, refusal, notNew};
 use checks::size_wrong;
 use checks::triple_wrong;
+use checks::words_wrong;
 use checks::work_wrong;
 use lists::Code;
 use lists::clear;
@@ -31,9 +31,11 @@ use model::Done;
 use model::Found;
 use model::Refusal;
 use model::Triple;
+use model::Vocabulary;
 use roster::covers_triple;
 use roster::roster_wrong;
 use summarise::condense;
+use table_checks::Verdict;
 
 // The most slots of an intake's lists.
 pub const MOST_SLOTS: usize = 1048576;
@@ -69,13 +71,22 @@ fn lengths_wrong(n: usize, triples: usize, summary: usize, map: usize) -> bool
 }
 
 // Opens an intake: both lists zero, the map absent.
-fn open_lists(roster: &[u8], triples: &mut [u32], summary: &mut [u32], map: &mut [u32]) -> Done
-    ensures { λ r. ⌜ OpenCall (now (roster .entry)) (now (triples .entry)) (now (summary .entry)) (now (map .entry)) r (now (triples .exit)) (now (summary .exit)) (now (map .exit)) ⌝ }
+fn open_lists(
+    words: Vocabulary,
+    roster: &[u8],
+    triples: &mut [u32],
+    summary: &mut [u32],
+    map: &mut [u32],
+) -> Done
+    ensures { λ r. ⌜ OpenCall words (now (roster .entry)) (now (triples .entry)) (now (summary .entry)) (now (map .entry)) r (now (triples .exit)) (now (summary .exit)) (now (map .exit)) ⌝ }
 {
     if lengths_wrong(roster.len(), triples.len(), summary.len(), map.len()) {
         return Done::Refused(Refusal::Length);
     }
-    if roster_wrong(roster) {
+    if words_wrong(words, roster.len()) {
+        return Done::Refused(Refusal::Words);
+    }
+    if roster_wrong(words, roster) {
         return Done::Refused(Refusal::Roster);
     }
     clear(triples, 0, triples.len());
@@ -141,18 +152,18 @@ fn image_known(summary: &[u32], summarised: usize, map: &[u32], t: Triple) -> bo
 }
 
 // Whether one of the first `count` triples has a wrong code or is not covered.
-fn held_wrong(list: &[u32], count: usize, roster: &[u8]) -> bool
+fn held_wrong(words: Vocabulary, list: &[u32], count: usize, roster: &[u8]) -> bool
     requires { ⌜ 3 * count ≤ length (now list) ⌝ }
-    ensures { λ r. ⌜ r ≡ any (bad (now (roster .entry))) (first (now (list .entry)) count) ⌝ }
+    ensures { λ r. ⌜ r ≡ any (bad words (now (roster .entry))) (first (now (list .entry)) count) ⌝ }
 {
     let n = roster.len();
     let mut i = 0;
     while i < count {
         let t = triple_at(list, i);
-        if triple_wrong(t, n) {
+        if triple_wrong(words, t, n) {
             return true;
         }
-        if !covers_triple(roster, t) {
+        if !covers_triple(words, roster, t) {
             return true;
         }
         i += 1;
@@ -171,10 +182,22 @@ fn refuse(r: Refusal, held: usize, summarised: usize) -> FedCounts
     }
 }
 
+// The answer for a triple that is held, with the counts as they were.
+fn not_new(held: usize, summarised: usize) -> FedCounts
+    ensures { λ x. ⌜ x ≡ notNew held summarised ⌝ }
+{
+    FedCounts {
+        answer: Found::No,
+        held: held,
+        summarised: summarised,
+    }
+}
+
 // Takes in a triple that is not held, at its place i. Only an intake altered by hand holds wrong triples.
 fn add(
     held: usize,
     summarised: usize,
+    words: Vocabulary,
     roster: &[u8],
     triples: &mut [u32],
     summary: &mut [u32],
@@ -183,8 +206,8 @@ fn add(
     t: Triple,
     i: usize,
 ) -> FedCounts
-    requires { ⌜ Ready (now roster) (now triples) (now summary) (now map) (now work) t × (i ≤ held) × (held < length (now triples) / 3) ⌝ }
-    ensures { λ r. ⌜ AddCall (now (roster .entry)) (stateWith (now (triples .entry)) (now (summary .entry)) (now (map .entry)) held summarised) (now (work .entry)) t i (found (r .answer)) (stateWith (now (triples .exit)) (now (summary .exit)) (now (map .exit)) (r .held) (r .summarised)) (now (work .exit)) ⌝ }
+    requires { ⌜ Ready words (now roster) (now triples) (now summary) (now map) (now work) t × (i ≤ held) × (held < length (now triples) / 3) ⌝ }
+    ensures { λ r. ⌜ AddCall words (now (roster .entry)) (stateWith (now (triples .entry)) (now (summary .entry)) (now (map .entry)) held summarised) (now (work .entry)) t i (found (r .answer)) (stateWith (now (triples .exit)) (now (summary .exit)) (now (map .exit)) (r .held) (r .summarised)) (now (work .exit)) ⌝ }
 {
     if image_known(summary, summarised, map, t) {
         insert_at(triples, held, i, t);
@@ -195,12 +218,12 @@ fn add(
             summarised: summarised,
         };
     }
-    if held_wrong(triples, held, roster) {
+    if held_wrong(words, triples, held, roster) {
         return refuse(Refusal::Full, held, summarised);
     }
     insert_at(triples, held, i, t);
     let count = held + 1;
-    match condense(triples, count, roster, summary, map, work) {
+    match condense(words, triples, count, roster, summary, map, work) {
         Counted::Refused(r) => refuse(r, held, summarised),
         Counted::Count(k) => FedCounts {
             answer: Found::Yes,
@@ -214,6 +237,7 @@ fn add(
 fn take_in(
     held: usize,
     summarised: usize,
+    words: Vocabulary,
     roster: &[u8],
     triples: &mut [u32],
     summary: &mut [u32],
@@ -221,8 +245,8 @@ fn take_in(
     work: &mut [u32],
     t: Triple,
 ) -> FedCounts
-    requires { ⌜ Ready (now roster) (now triples) (now summary) (now map) (now work) t ⌝ }
-    ensures { λ r. ⌜ Taken (now (roster .entry)) (stateWith (now (triples .entry)) (now (summary .entry)) (now (map .entry)) held summarised) (now (work .entry)) t (found (r .answer)) (stateWith (now (triples .exit)) (now (summary .exit)) (now (map .exit)) (r .held) (r .summarised)) (now (work .exit)) ⌝ }
+    requires { ⌜ Ready words (now roster) (now triples) (now summary) (now map) (now work) t ⌝ }
+    ensures { λ r. ⌜ Taken words (now (roster .entry)) (stateWith (now (triples .entry)) (now (summary .entry)) (now (map .entry)) held summarised) (now (work .entry)) t (found (r .answer)) (stateWith (now (triples .exit)) (now (summary .exit)) (now (map .exit)) (r .held) (r .summarised)) (now (work .exit)) ⌝ }
 {
     let slots = triples.len() / 3;
     if slots < held {
@@ -231,22 +255,64 @@ fn take_in(
     let i = lower_bound(triples, 0, held, t);
     if stands_at(triples, held, i, t) {
         clear(work, 0, work.len());
-        return FedCounts {
-            answer: Found::No,
-            held: held,
-            summarised: summarised,
-        };
+        return not_new(held, summarised);
     }
     if held < slots {
-        return add(held, summarised, roster, triples, summary, map, work, t, i);
+        return add(
+            held,
+            summarised,
+            words,
+            roster,
+            triples,
+            summary,
+            map,
+            work,
+            t,
+            i,
+        );
     }
     refuse(Refusal::Full, held, summarised)
+}
+
+// The checks 1, 10, 2, 3, 4 of a feed.
+fn feed_refusal(
+    words: Vocabulary,
+    roster: &[u8],
+    triples: &[u32],
+    summary: &[u32],
+    map: &[u32],
+    work: &[u32],
+    t: Triple,
+) -> Verdict
+    ensures { λ r. ⌜ FeedVerdict words (now (roster .entry)) (now (triples .entry)) (now (summary .entry)) (now (map .entry)) (now (work .entry)) t r ⌝ }
+{
+    let n = roster.len();
+    if lengths_wrong(n, triples.len(), summary.len(), map.len()) {
+        return Verdict::Refused(Refusal::Length);
+    }
+    if work_wrong(n, work.len()) {
+        return Verdict::Refused(Refusal::Length);
+    }
+    if words_wrong(words, n) {
+        return Verdict::Refused(Refusal::Words);
+    }
+    if roster_wrong(words, roster) {
+        return Verdict::Refused(Refusal::Roster);
+    }
+    if triple_wrong(words, t, n) {
+        return Verdict::Refused(Refusal::Code);
+    }
+    if !covers_triple(words, roster, t) {
+        return Verdict::Refused(Refusal::Cover);
+    }
+    Verdict::Passed
 }
 
 // Feeds a triple to an intake with two counts, over plain lists.
 pub fn feed_lists(
     held: usize,
     summarised: usize,
+    words: Vocabulary,
     roster: &[u8],
     triples: &mut [u32],
     summary: &mut [u32],
@@ -256,44 +322,42 @@ pub fn feed_lists(
     p: u32,
     o: u32,
 ) -> FedCounts
-    ensures { λ r. ⌜ Fed rdfs (now (roster .entry)) (stateWith (now (triples .entry)) (now (summary .entry)) (now (map .entry)) held summarised) (now (work .entry)) (triple s p o) (found (r .answer)) (stateWith (now (triples .exit)) (now (summary .exit)) (now (map .exit)) (r .held) (r .summarised)) (now (work .exit)) ⌝ }
+    ensures { λ r. ⌜ Fed words (now (roster .entry)) (stateWith (now (triples .entry)) (now (summary .entry)) (now (map .entry)) held summarised) (now (work .entry)) (triple s p o) (found (r .answer)) (stateWith (now (triples .exit)) (now (summary .exit)) (now (map .exit)) (r .held) (r .summarised)) (now (work .exit)) ⌝ }
 {
-    let n = roster.len();
     let t = Triple {
         subject: s,
         property: p,
         object: o,
     };
-    if lengths_wrong(n, triples.len(), summary.len(), map.len()) {
-        return refuse(Refusal::Length, held, summarised);
+    match feed_refusal(words, roster, triples, summary, map, work, t) {
+        Verdict::Refused(r) => refuse(r, held, summarised),
+        Verdict::Passed => take_in(
+            held,
+            summarised,
+            words,
+            roster,
+            triples,
+            summary,
+            map,
+            work,
+            t,
+        ),
     }
-    if work_wrong(n, work.len()) {
-        return refuse(Refusal::Length, held, summarised);
-    }
-    if roster_wrong(roster) {
-        return refuse(Refusal::Roster, held, summarised);
-    }
-    if triple_wrong(t, n) {
-        return refuse(Refusal::Code, held, summarised);
-    }
-    if !covers_triple(roster, t) {
-        return refuse(Refusal::Cover, held, summarised);
-    }
-    take_in(held, summarised, roster, triples, summary, map, work, t)
 }
 
 // Opens an intake with two counts, over plain lists.
 pub fn open_counts(
     held: usize,
     summarised: usize,
+    words: Vocabulary,
     roster: &[u8],
     triples: &mut [u32],
     summary: &mut [u32],
     map: &mut [u32],
 ) -> OpenedCounts
-    ensures { λ r. ⌜ Opens (now (roster .entry)) (stateWith (now (triples .entry)) (now (summary .entry)) (now (map .entry)) held summarised) (done (r .answer)) (stateWith (now (triples .exit)) (now (summary .exit)) (now (map .exit)) (r .held) (r .summarised)) ⌝ }
+    ensures { λ r. ⌜ Opens words (now (roster .entry)) (stateWith (now (triples .entry)) (now (summary .entry)) (now (map .entry)) held summarised) (done (r .answer)) (stateWith (now (triples .exit)) (now (summary .exit)) (now (map .exit)) (r .held) (r .summarised)) ⌝ }
 {
-    match open_lists(roster, triples, summary, map) {
+    match open_lists(words, roster, triples, summary, map) {
         Done::Refused(r) => OpenedCounts {
             answer: Done::Refused(r),
             held: held,
@@ -310,16 +374,18 @@ pub fn open_counts(
 // Opens an intake: it holds nothing.
 pub fn open(
     counts: &mut Counts,
+    words: Vocabulary,
     roster: &[u8],
     triples: &mut [u32],
     summary: &mut [u32],
     map: &mut [u32],
 ) -> Done
-    ensures { λ r. ⌜ Opens (now (roster .entry)) (stateWith (now (triples .entry)) (now (summary .entry)) (now (map .entry)) (now (counts .entry) .held) (now (counts .entry) .summarised)) (done r) (stateWith (now (triples .exit)) (now (summary .exit)) (now (map .exit)) (now (counts .exit) .held) (now (counts .exit) .summarised)) ⌝ }
+    ensures { λ r. ⌜ Opens words (now (roster .entry)) (stateWith (now (triples .entry)) (now (summary .entry)) (now (map .entry)) (now (counts .entry) .held) (now (counts .entry) .summarised)) (done r) (stateWith (now (triples .exit)) (now (summary .exit)) (now (map .exit)) (now (counts .exit) .held) (now (counts .exit) .summarised)) ⌝ }
 {
     let opened = open_counts(
         counts.held,
         counts.summarised,
+        words,
         roster,
         triples,
         summary,
@@ -333,6 +399,7 @@ pub fn open(
 // Feeds a triple to an intake: `Found::Yes` for a new triple, `Found::No` for one that is held.
 pub fn feed(
     counts: &mut Counts,
+    words: Vocabulary,
     roster: &[u8],
     triples: &mut [u32],
     summary: &mut [u32],
@@ -342,11 +409,12 @@ pub fn feed(
     p: u32,
     o: u32,
 ) -> Found
-    ensures { λ r. ⌜ Fed rdfs (now (roster .entry)) (stateWith (now (triples .entry)) (now (summary .entry)) (now (map .entry)) (now (counts .entry) .held) (now (counts .entry) .summarised)) (now (work .entry)) (triple s p o) (found r) (stateWith (now (triples .exit)) (now (summary .exit)) (now (map .exit)) (now (counts .exit) .held) (now (counts .exit) .summarised)) (now (work .exit)) ⌝ }
+    ensures { λ r. ⌜ Fed words (now (roster .entry)) (stateWith (now (triples .entry)) (now (summary .entry)) (now (map .entry)) (now (counts .entry) .held) (now (counts .entry) .summarised)) (now (work .entry)) (triple s p o) (found r) (stateWith (now (triples .exit)) (now (summary .exit)) (now (map .exit)) (now (counts .exit) .held) (now (counts .exit) .summarised)) (now (work .exit)) ⌝ }
 {
     let fed = feed_lists(
         counts.held,
         counts.summarised,
+        words,
         roster,
         triples,
         summary,

@@ -2,7 +2,7 @@
 -- Assumes nothing.
 use lib.Dec.{T}
 use Rattle.model.specs.Graphs.{graphs, allRight, right, equal, closures, allClosed, closed}
-use Rattle.model.specs.Codes.{kind, reserved}
+use Rattle.model.specs.Codes.{kind, reserved, repeated, wrongWords}
 use Rattle.model.specs.Lists.{any, all, collect, among, tabulate}
 use Rattle.model.specs.Triples.{triples, flat, isData, before, same, insert, sorted}
 use Rattle.model.specs.Roster.{isClass, isProperty, unmarked, classRoles, propertyRoles, classIn, propertyIn, coversTriple, covers, ownRoster, wrongRoster, wrongEnd, wrongTriple, wrongCodes, isNode}
@@ -16,7 +16,7 @@ use Rattle.model.specs.Outcomes.{wrongSize, wrongLength}
 use Rattle.model.specs.Calls.{tableChecks}
 
 pub graphs-right : T (allRight graphs)
-unfolding tableChecks wrongSize wrongLength wrongRoster wrongCodes wrongTriple wrongEnd covers coversTriple kind reserved any all collect among tabulate triples flat isData before same insert sorted isClass isProperty unmarked classRoles propertyRoles classIn propertyIn ownRoster isNode place fits gives conclusions round rounds saturation union merged pairs links shares hasClique cliques together cliqueOf placed mapOf summary equal right allRight
+unfolding tableChecks wrongWords repeated wrongSize wrongLength wrongRoster wrongCodes wrongTriple wrongEnd covers coversTriple kind reserved any all collect among tabulate triples flat isData before same insert sorted isClass isProperty unmarked classRoles propertyRoles classIn propertyIn ownRoster isNode place fits gives conclusions round rounds saturation union merged pairs links shares hasClique cliques together cliqueOf placed mapOf summary equal right allRight
 graphs-right = tt
 
 pub closures-right : T (allClosed closures)

@@ -1,6 +1,7 @@
 -- The calls on tables: own roster, saturate, cliques, summarise, look up. For each its outcome and the contents of every lent list
 -- after it, as functions of the contents before.
--- 01: "Own roster uses 1 and 3; cliques 1 to 4; saturation and summarise 1 to 5; .. look up 1"
+-- 01: "Own roster uses 1 and 3; cliques 1 to 4; saturation and summarise 1 to 5; .. look up 1"; 02: "It refuses with 10 a word table in which
+-- two codes are equal or one is not below N, straight after 1, with nothing altered."
 -- Assumes nothing.
 use Prim.Native.Nat.{ℕ}
 use mathlib.Core.Bool.{Bool, false, not, _||_}
@@ -8,7 +9,8 @@ use mathlib.Core.List.{List, [], _∷_, _++_}
 use lib.Dec.{eqb, ltb}
 use lib.ListN.{length}
 use Rattle.model.specs.declared.Triple.{Triple}
-use Rattle.model.specs.Codes.{Vocabulary}
+use Rattle.model.specs.declared.Vocabulary.{Vocabulary}
+use Rattle.model.specs.Codes.{wrongWords}
 use Rattle.model.specs.Lists.{zeros}
 use Rattle.model.specs.Triples.{triples, slots, holds, listed}
 use Rattle.model.specs.Roster.{covers, ownRoster, wrongRoster, wrongCodes}
@@ -19,10 +21,11 @@ use Rattle.model.specs.Summary.{summary}
 use Rattle.model.specs.Outcomes.{Outcome, Check, check, checked, Passes, left, wrongSize, wrongLength, wrongWork}
 
 module _ (v : Vocabulary) where
-  -- the checks 1 to 4 of a table with a roster; `lengths` says that another lent list has a wrong length
+  -- the checks 1, 10, 2, 3, 4 of a table with a word table and a roster; `lengths` says that another lent list has a wrong length
   unfoldable pub tableChecks : Bool → List ℕ → List ℕ → List Check
   tableChecks lengths table roster =
       check 1 (wrongSize (length roster) || (wrongLength (length table) || lengths))
+      ∷ check 10 (wrongWords v (length roster))
       ∷ check 2 (wrongRoster v roster)
       ∷ check 3 (wrongCodes v (length roster) (triples table))
       ∷ check 4 (not (covers v roster (triples table)))
@@ -37,6 +40,7 @@ module _ (v : Vocabulary) where
   ownRosterOutcome table roster =
       checked
       (check 1 (wrongSize (length roster) || wrongLength (length table))
+      ∷ check 10 (wrongWords v (length roster))
       ∷ check 3 (wrongCodes v (length roster) (triples table))
       ∷ [])
       tt

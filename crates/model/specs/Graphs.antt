@@ -1,11 +1,12 @@
 -- The small graphs of 01 that are marked to be proved, as one table: with the own roster, the saturation, the plain summary, the map and
--- both clique lists of each. Behind it, the saturations of small schemas, for the rules of 02.
+-- both clique lists of each; the last two have reserved codes of their own (02). Behind it, the saturations of small schemas, for the rules of 02.
 -- Assumes nothing.
 use Prim.Native.Nat.{ℕ}
 use mathlib.Core.Bool.{Bool, true, false, not, _&&_}
 use mathlib.Core.List.{List, [], _∷_}
 use lib.Dec.{eqb}
-use Rattle.model.specs.Codes.{absent, rdfs}
+use Rattle.model.specs.declared.Vocabulary.{Vocabulary}
+use Rattle.model.specs.Codes.{absent, rdfs, vocabulary}
 use Rattle.model.specs.Lists.{any, all}
 use Rattle.model.specs.Triples.{triples, flat}
 use Rattle.model.specs.Roster.{ownRoster}
@@ -22,8 +23,9 @@ equal [] (y ∷ ys) = false
 equal (x ∷ xs) [] = false
 equal (x ∷ xs) (y ∷ ys) = eqb x y && equal xs ys
 
--- a graph: the size, the table, and what is to come out with its own roster
+-- a graph: the reserved codes, the size, the table, and what is to come out with its own roster
 pub record Example : Type 0 where
+  pub words : Vocabulary
   pub size : ℕ
   pub table : List ℕ
   pub saturated : List ℕ
@@ -34,86 +36,101 @@ pub record Example : Type 0 where
 
 unfoldable pub right : Example → Bool
 right g =
+    let v = g .words in
     let ts = triples (g .table) in
-    let own = ownRoster rdfs (g .size) ts in
-    not (any (λ (c : Check). c .fails) (tableChecks rdfs false (g .table) own))
-    && (equal (flat (saturation rdfs (g .size) ts)) (g .saturated)
-    && (equal (flat (summary rdfs own ts)) (g .plain)
-    && (equal (mapOf rdfs own ts) (g .representatives)
-    && (equal (cliques rdfs own source ts) (g .sources)
-    && equal (cliques rdfs own target ts) (g .targets)))))
+    let own = ownRoster v (g .size) ts in
+    not (any (λ (c : Check). c .fails) (tableChecks v false (g .table) own))
+    && (equal (flat (saturation v (g .size) ts)) (g .saturated)
+    && (equal (flat (summary v own ts)) (g .plain)
+    && (equal (mapOf v own ts) (g .representatives)
+    && (equal (cliques v own source ts) (g .sources)
+    && equal (cliques v own target ts) (g .targets)))))
 
 unfoldable pub allRight : List Example → Bool
 allRight gs = all right gs
 
-abbrev pub graph : ℕ → List ℕ → List ℕ → List ℕ → List ℕ → List ℕ → List ℕ → Example
-graph n t s p m a b = record { size = n; table = t; saturated = s; plain = p; representatives = m; sources = a; targets = b }
+abbrev pub graph : Vocabulary → ℕ → List ℕ → List ℕ → List ℕ → List ℕ → List ℕ → List ℕ → Example
+graph v n t s p m a b = record { words = v; size = n; table = t; saturated = s; plain = p; representatives = m; sources = a; targets = b }
 
 abbrev pub graphs : List Example
 graphs =
     {- no triples -}
-    graph 5 []
+    graph rdfs 5 []
     []
     []
     (absent ∷ absent ∷ absent ∷ absent ∷ absent ∷ [])
     (absent ∷ absent ∷ absent ∷ absent ∷ absent ∷ [])
     (absent ∷ absent ∷ absent ∷ absent ∷ absent ∷ [])
     ∷ {- the six triples of the site form; 02: "the saturation of its six triples has 17" -}
-    graph 14 (5 ∷ 2 ∷ 7 ∷ 6 ∷ 2 ∷ 7 ∷ 7 ∷ 3 ∷ 8 ∷ 8 ∷ 1 ∷ 9 ∷ 10 ∷ 5 ∷ 12 ∷ 11 ∷ 6 ∷ 13 ∷ [])
+    graph rdfs 14 (5 ∷ 2 ∷ 7 ∷ 6 ∷ 2 ∷ 7 ∷ 7 ∷ 3 ∷ 8 ∷ 8 ∷ 1 ∷ 9 ∷ 10 ∷ 5 ∷ 12 ∷ 11 ∷ 6 ∷ 13 ∷ [])
     (5 ∷ 2 ∷ 7 ∷ 5 ∷ 3 ∷ 8 ∷ 5 ∷ 3 ∷ 9 ∷ 6 ∷ 2 ∷ 7 ∷ 6 ∷ 3 ∷ 8 ∷ 6 ∷ 3 ∷ 9 ∷ 7 ∷ 3 ∷ 8 ∷ 7 ∷ 3 ∷ 9 ∷ 8 ∷ 1 ∷ 9 ∷ 10 ∷ 0 ∷ 8 ∷ 10 ∷ 0 ∷ 9 ∷ 10 ∷ 5 ∷ 12 ∷ 10 ∷ 7 ∷ 12 ∷ 11 ∷ 0 ∷ 8 ∷ 11 ∷ 0 ∷ 9 ∷ 11 ∷ 6 ∷ 13 ∷ 11 ∷ 7 ∷ 13 ∷ [])
     (5 ∷ 2 ∷ 7 ∷ 6 ∷ 2 ∷ 7 ∷ 7 ∷ 3 ∷ 8 ∷ 8 ∷ 1 ∷ 9 ∷ 10 ∷ 5 ∷ 12 ∷ 11 ∷ 6 ∷ 13 ∷ [])
     (absent ∷ absent ∷ absent ∷ absent ∷ absent ∷ 5 ∷ 6 ∷ 7 ∷ 8 ∷ 9 ∷ 10 ∷ 11 ∷ 12 ∷ 13 ∷ [])
     (absent ∷ absent ∷ absent ∷ absent ∷ absent ∷ 5 ∷ 6 ∷ absent ∷ absent ∷ absent ∷ absent ∷ absent ∷ absent ∷ absent ∷ [])
     (absent ∷ absent ∷ absent ∷ absent ∷ absent ∷ 5 ∷ 6 ∷ absent ∷ absent ∷ absent ∷ absent ∷ absent ∷ absent ∷ absent ∷ [])
     ∷ {- a loop -}
-    graph 11 (10 ∷ 5 ∷ 10 ∷ [])
+    graph rdfs 11 (10 ∷ 5 ∷ 10 ∷ [])
     (10 ∷ 5 ∷ 10 ∷ [])
     (10 ∷ 5 ∷ 10 ∷ [])
     (absent ∷ absent ∷ absent ∷ absent ∷ absent ∷ absent ∷ absent ∷ absent ∷ absent ∷ absent ∷ 10 ∷ [])
     (absent ∷ absent ∷ absent ∷ absent ∷ absent ∷ 5 ∷ absent ∷ absent ∷ absent ∷ absent ∷ absent ∷ [])
     (absent ∷ absent ∷ absent ∷ absent ∷ absent ∷ 5 ∷ absent ∷ absent ∷ absent ∷ absent ∷ absent ∷ [])
     ∷ {- a chain -}
-    graph 13 (10 ∷ 5 ∷ 11 ∷ 11 ∷ 5 ∷ 12 ∷ [])
+    graph rdfs 13 (10 ∷ 5 ∷ 11 ∷ 11 ∷ 5 ∷ 12 ∷ [])
     (10 ∷ 5 ∷ 11 ∷ 11 ∷ 5 ∷ 12 ∷ [])
     (10 ∷ 5 ∷ 10 ∷ [])
     (absent ∷ absent ∷ absent ∷ absent ∷ absent ∷ absent ∷ absent ∷ absent ∷ absent ∷ absent ∷ 10 ∷ 10 ∷ 10 ∷ [])
     (absent ∷ absent ∷ absent ∷ absent ∷ absent ∷ 5 ∷ absent ∷ absent ∷ absent ∷ absent ∷ absent ∷ absent ∷ absent ∷ [])
     (absent ∷ absent ∷ absent ∷ absent ∷ absent ∷ 5 ∷ absent ∷ absent ∷ absent ∷ absent ∷ absent ∷ absent ∷ absent ∷ [])
     ∷ {- types only -}
-    graph 12 (10 ∷ 0 ∷ 8 ∷ 11 ∷ 0 ∷ 9 ∷ [])
+    graph rdfs 12 (10 ∷ 0 ∷ 8 ∷ 11 ∷ 0 ∷ 9 ∷ [])
     (10 ∷ 0 ∷ 8 ∷ 11 ∷ 0 ∷ 9 ∷ [])
     (10 ∷ 0 ∷ 8 ∷ 10 ∷ 0 ∷ 9 ∷ [])
     (absent ∷ absent ∷ absent ∷ absent ∷ absent ∷ absent ∷ absent ∷ absent ∷ 8 ∷ 9 ∷ 10 ∷ 10 ∷ [])
     (absent ∷ absent ∷ absent ∷ absent ∷ absent ∷ absent ∷ absent ∷ absent ∷ absent ∷ absent ∷ absent ∷ absent ∷ [])
     (absent ∷ absent ∷ absent ∷ absent ∷ absent ∷ absent ∷ absent ∷ absent ∷ absent ∷ absent ∷ absent ∷ absent ∷ [])
     ∷ {- types with a data triple -}
-    graph 13 (10 ∷ 0 ∷ 8 ∷ 11 ∷ 0 ∷ 9 ∷ 11 ∷ 5 ∷ 12 ∷ [])
+    graph rdfs 13 (10 ∷ 0 ∷ 8 ∷ 11 ∷ 0 ∷ 9 ∷ 11 ∷ 5 ∷ 12 ∷ [])
     (10 ∷ 0 ∷ 8 ∷ 11 ∷ 0 ∷ 9 ∷ 11 ∷ 5 ∷ 12 ∷ [])
     (10 ∷ 0 ∷ 8 ∷ 11 ∷ 0 ∷ 9 ∷ 11 ∷ 5 ∷ 12 ∷ [])
     (absent ∷ absent ∷ absent ∷ absent ∷ absent ∷ absent ∷ absent ∷ absent ∷ 8 ∷ 9 ∷ 10 ∷ 11 ∷ 12 ∷ [])
     (absent ∷ absent ∷ absent ∷ absent ∷ absent ∷ 5 ∷ absent ∷ absent ∷ absent ∷ absent ∷ absent ∷ absent ∷ absent ∷ [])
     (absent ∷ absent ∷ absent ∷ absent ∷ absent ∷ 5 ∷ absent ∷ absent ∷ absent ∷ absent ∷ absent ∷ absent ∷ absent ∷ [])
     ∷ {- one source clique -}
-    graph 24 (10 ∷ 5 ∷ 20 ∷ 10 ∷ 6 ∷ 21 ∷ 11 ∷ 6 ∷ 22 ∷ 11 ∷ 7 ∷ 23 ∷ [])
+    graph rdfs 24 (10 ∷ 5 ∷ 20 ∷ 10 ∷ 6 ∷ 21 ∷ 11 ∷ 6 ∷ 22 ∷ 11 ∷ 7 ∷ 23 ∷ [])
     (10 ∷ 5 ∷ 20 ∷ 10 ∷ 6 ∷ 21 ∷ 11 ∷ 6 ∷ 22 ∷ 11 ∷ 7 ∷ 23 ∷ [])
     (10 ∷ 5 ∷ 20 ∷ 10 ∷ 6 ∷ 21 ∷ 10 ∷ 7 ∷ 23 ∷ [])
     (absent ∷ absent ∷ absent ∷ absent ∷ absent ∷ absent ∷ absent ∷ absent ∷ absent ∷ absent ∷ 10 ∷ 10 ∷ absent ∷ absent ∷ absent ∷ absent ∷ absent ∷ absent ∷ absent ∷ absent ∷ 20 ∷ 21 ∷ 21 ∷ 23 ∷ [])
     (absent ∷ absent ∷ absent ∷ absent ∷ absent ∷ 5 ∷ 5 ∷ 5 ∷ absent ∷ absent ∷ absent ∷ absent ∷ absent ∷ absent ∷ absent ∷ absent ∷ absent ∷ absent ∷ absent ∷ absent ∷ absent ∷ absent ∷ absent ∷ absent ∷ [])
     (absent ∷ absent ∷ absent ∷ absent ∷ absent ∷ 5 ∷ 6 ∷ 7 ∷ absent ∷ absent ∷ absent ∷ absent ∷ absent ∷ absent ∷ absent ∷ absent ∷ absent ∷ absent ∷ absent ∷ absent ∷ absent ∷ absent ∷ absent ∷ absent ∷ [])
     ∷ {- a class links nothing -}
-    graph 14 (10 ∷ 0 ∷ 8 ∷ 8 ∷ 5 ∷ 12 ∷ 8 ∷ 6 ∷ 13 ∷ [])
+    graph rdfs 14 (10 ∷ 0 ∷ 8 ∷ 8 ∷ 5 ∷ 12 ∷ 8 ∷ 6 ∷ 13 ∷ [])
     (8 ∷ 5 ∷ 12 ∷ 8 ∷ 6 ∷ 13 ∷ 10 ∷ 0 ∷ 8 ∷ [])
     (8 ∷ 5 ∷ 12 ∷ 8 ∷ 6 ∷ 13 ∷ 10 ∷ 0 ∷ 8 ∷ [])
     (absent ∷ absent ∷ absent ∷ absent ∷ absent ∷ absent ∷ absent ∷ absent ∷ 8 ∷ absent ∷ 10 ∷ absent ∷ 12 ∷ 13 ∷ [])
     (absent ∷ absent ∷ absent ∷ absent ∷ absent ∷ absent ∷ absent ∷ absent ∷ absent ∷ absent ∷ absent ∷ absent ∷ absent ∷ absent ∷ [])
     (absent ∷ absent ∷ absent ∷ absent ∷ absent ∷ 5 ∷ 6 ∷ absent ∷ absent ∷ absent ∷ absent ∷ absent ∷ absent ∷ absent ∷ [])
     ∷ {- a cycle of subclasses -}
-    graph 10 (8 ∷ 1 ∷ 9 ∷ 9 ∷ 1 ∷ 8 ∷ [])
+    graph rdfs 10 (8 ∷ 1 ∷ 9 ∷ 9 ∷ 1 ∷ 8 ∷ [])
     (8 ∷ 1 ∷ 8 ∷ 8 ∷ 1 ∷ 9 ∷ 9 ∷ 1 ∷ 8 ∷ 9 ∷ 1 ∷ 9 ∷ [])
     (8 ∷ 1 ∷ 9 ∷ 9 ∷ 1 ∷ 8 ∷ [])
     (absent ∷ absent ∷ absent ∷ absent ∷ absent ∷ absent ∷ absent ∷ absent ∷ 8 ∷ 9 ∷ [])
     (absent ∷ absent ∷ absent ∷ absent ∷ absent ∷ absent ∷ absent ∷ absent ∷ absent ∷ absent ∷ [])
     (absent ∷ absent ∷ absent ∷ absent ∷ absent ∷ absent ∷ absent ∷ absent ∷ absent ∷ absent ∷ [])
+    ∷ {- 02: the same six triples under another word table, every code below 5 written 10 more and every other 5 less -}
+    graph (vocabulary 10 11 12 13 14) 24 (0 ∷ 12 ∷ 2 ∷ 1 ∷ 12 ∷ 2 ∷ 2 ∷ 13 ∷ 3 ∷ 3 ∷ 11 ∷ 4 ∷ 5 ∷ 0 ∷ 7 ∷ 6 ∷ 1 ∷ 8 ∷ [])
+    (0 ∷ 12 ∷ 2 ∷ 0 ∷ 13 ∷ 3 ∷ 0 ∷ 13 ∷ 4 ∷ 1 ∷ 12 ∷ 2 ∷ 1 ∷ 13 ∷ 3 ∷ 1 ∷ 13 ∷ 4 ∷ 2 ∷ 13 ∷ 3 ∷ 2 ∷ 13 ∷ 4 ∷ 3 ∷ 11 ∷ 4 ∷ 5 ∷ 0 ∷ 7 ∷ 5 ∷ 2 ∷ 7 ∷ 5 ∷ 10 ∷ 3 ∷ 5 ∷ 10 ∷ 4 ∷ 6 ∷ 1 ∷ 8 ∷ 6 ∷ 2 ∷ 8 ∷ 6 ∷ 10 ∷ 3 ∷ 6 ∷ 10 ∷ 4 ∷ [])
+    (0 ∷ 12 ∷ 2 ∷ 1 ∷ 12 ∷ 2 ∷ 2 ∷ 13 ∷ 3 ∷ 3 ∷ 11 ∷ 4 ∷ 5 ∷ 0 ∷ 7 ∷ 6 ∷ 1 ∷ 8 ∷ [])
+    (0 ∷ 1 ∷ 2 ∷ 3 ∷ 4 ∷ 5 ∷ 6 ∷ 7 ∷ 8 ∷ absent ∷ absent ∷ absent ∷ absent ∷ absent ∷ absent ∷ absent ∷ absent ∷ absent ∷ absent ∷ absent ∷ absent ∷ absent ∷ absent ∷ absent ∷ [])
+    (0 ∷ 1 ∷ absent ∷ absent ∷ absent ∷ absent ∷ absent ∷ absent ∷ absent ∷ absent ∷ absent ∷ absent ∷ absent ∷ absent ∷ absent ∷ absent ∷ absent ∷ absent ∷ absent ∷ absent ∷ absent ∷ absent ∷ absent ∷ absent ∷ [])
+    (0 ∷ 1 ∷ absent ∷ absent ∷ absent ∷ absent ∷ absent ∷ absent ∷ absent ∷ absent ∷ absent ∷ absent ∷ absent ∷ absent ∷ absent ∷ absent ∷ absent ∷ absent ∷ absent ∷ absent ∷ absent ∷ absent ∷ absent ∷ absent ∷ [])
+    ∷ {- a word table that falls; codes below 5 are nodes, a class and a property, and 0 represents -}
+    graph (vocabulary 9 8 7 6 5) 10 (3 ∷ 9 ∷ 1 ∷ 0 ∷ 2 ∷ 4 ∷ 4 ∷ 2 ∷ 3 ∷ [])
+    (0 ∷ 2 ∷ 4 ∷ 3 ∷ 9 ∷ 1 ∷ 4 ∷ 2 ∷ 3 ∷ [])
+    (0 ∷ 2 ∷ 0 ∷ 0 ∷ 9 ∷ 1 ∷ [])
+    (0 ∷ 1 ∷ absent ∷ 0 ∷ 0 ∷ absent ∷ absent ∷ absent ∷ absent ∷ absent ∷ [])
+    (absent ∷ absent ∷ 2 ∷ absent ∷ absent ∷ absent ∷ absent ∷ absent ∷ absent ∷ absent ∷ [])
+    (absent ∷ absent ∷ 2 ∷ absent ∷ absent ∷ absent ∷ absent ∷ absent ∷ absent ∷ absent ∷ [])
     ∷ []
 
 -- a schema: the size, the table, and its saturation

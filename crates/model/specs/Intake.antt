@@ -8,7 +8,8 @@ use mathlib.Core.List.{List, [], _∷_}
 use lib.Dec.{eqb, leb, ltb}
 use lib.ListN.{length, replicate}
 use Rattle.model.specs.declared.Triple.{Triple}
-use Rattle.model.specs.Codes.{Vocabulary, absent, mostTriples}
+use Rattle.model.specs.declared.Vocabulary.{Vocabulary}
+use Rattle.model.specs.Codes.{wrongWords, absent, mostTriples}
 use Rattle.model.specs.Lists.{any, zeros}
 use Rattle.model.specs.Triples.{slots, holds, insert, listed}
 use Rattle.model.specs.Order.{Rising}
@@ -83,9 +84,9 @@ module _ (v : Vocabulary) (roster : List ℕ) where
       || (not (eqb (length (s .map)) (length roster))
       || (not (eqb (slots (s .triples)) (slots (s .summary))) || ltb mostTriples (slots (s .triples))))
 
-  -- ── opening: 01, "opening 1 and 2" ──
+  -- ── opening: 01, "opening 1 and 2"; 02: 10 straight after 1 ──
   unfoldable pub openOutcome : State → Outcome (Unit {0})
-  openOutcome s = checked (check 1 (wrongLists s) ∷ check 2 (wrongRoster v roster) ∷ []) tt
+  openOutcome s = checked (check 1 (wrongLists s) ∷ check 10 (wrongWords v (length roster)) ∷ check 2 (wrongRoster v roster) ∷ []) tt
 
   -- 01: "Opening zeroes the lists and makes the map absent"
   unfoldable pub opened : State → State
@@ -102,16 +103,18 @@ module _ (v : Vocabulary) (roster : List ℕ) where
   openLeaves (refused r) s = s
   openLeaves (accepted x) s = opened s
 
-  -- ── feeding: 01, "feeding 1 to 4 and 7" ──
+  -- ── feeding: 01, "feeding 1 to 4 and 7"; 02: 10 straight after 1 ──
   unfoldable pub feedChecks : State → Feed → List Check
   feedChecks s f =
       check 1 (wrongLists s || wrongWork (length roster) (f .work))
+      ∷ check 10 (wrongWords v (length roster))
       ∷ check 2 (wrongRoster v roster)
       ∷ check 3 (wrongTriple v (length roster) (f .triple))
       ∷ check 4 (not (coversTriple v roster (f .triple)))
       ∷ []
 
-  -- the state is the one that opening with this roster and feeds leave, and it holds H
+  -- the state is the one that opening with this word table and roster and feeds leave, and it holds H; 02: another word table "than at
+  -- opening counts as altered state of an intake"
   pub record Valid (s : State) (H : List Triple) : Type 0 where
     pub rising : Rising H
     pub fits : length H ≤ slots (s .triples)
@@ -121,7 +124,7 @@ module _ (v : Vocabulary) (roster : List ℕ) where
 
   -- What a feed promises: of its outcome, the state after it and the work list after it.
   pub record Fed (s : State) (work : List ℕ) (t : Triple) (outcome : Outcome Bool) (after : State) (work-after : List ℕ) : Type 0 where
-    -- the refusals 1 to 4, for every state
+    -- the refusals 1, 10, 2, 3, 4, for every state
     pub refuses : any (λ (c : Check). c .fails) (feedChecks s (record { triple = t; work = length work })) ≡ true
         → (outcome ≡ decided (feedChecks s (record { triple = t; work = length work })) (accepted false)) × (after ≡ s) × (work-after ≡ work)
     -- where no check fails, for every state: no refusal but 7

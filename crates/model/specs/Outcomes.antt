@@ -7,7 +7,7 @@ use mathlib.Core.List.{List, [], _∷_}
 use lib.Dec.{eqb, ltb}
 use lib.ListN.{length}
 use Rattle.model.specs.declared.Refusal.{Refusal}
-use Rattle.model.specs.declared.Refusal.the-variants.{Length, Roster, Code, Cover, Slots, Query, Full, Form}
+use Rattle.model.specs.declared.Refusal.the-variants.{Length, Roster, Code, Cover, Slots, Query, Full, Form, Words}
 use Rattle.model.specs.declared.Done.{Done}
 use Rattle.model.specs.declared.Done.the-variants.{Accepted, Refused as done-refused}
 use Rattle.model.specs.declared.Counted.{Counted}
@@ -17,12 +17,12 @@ use Rattle.model.specs.declared.Found.the-variants.{Yes, No, Refused as 
 use Rattle.model.specs.Codes.{smallestSize, largestSize, mostTriples}
 use Rattle.model.specs.Lists.{any, zeros}
 
--- a refusal by its number in 01's table, or the values that an accepted call returns
+-- a refusal by its number in the papers, or the values that an accepted call returns
 pub data Outcome (A : Type 0) : Type 0 where
   refused : ℕ → Outcome A
   accepted : A → Outcome A
 
--- 01's number of each refusal that the code can give
+-- the papers' number of each refusal that the code can give
 unfoldable pub number : Refusal → ℕ
 number Length = 1
 number Roster = 2
@@ -32,6 +32,7 @@ number Slots = 5
 number Query = 6
 number Full = 7
 number Form = 8
+number Words = 10
 
 -- the outcome that each case of an answer stands for
 unfoldable pub done : Done → Outcome (Unit {0})

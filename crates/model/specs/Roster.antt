@@ -1,5 +1,6 @@
 -- Rosters: marks, what covers a table, the own roster, and nodes.
--- 01: "The roster holds one byte per code: 0 unmarked, 1 class, 2 property, 3 both; entries 0 to 4 are 0."
+-- 01: "The roster holds one byte per code: 0 unmarked, 1 class, 2 property, 3 both; entries 0 to 4 are 0."; 02: "Every place that named 0 to 4 reads
+-- the loaded five, the roster's zero entries .. too"
 -- Assumes nothing.
 use Prim.Native.Nat.{ℕ, _+_}
 use mathlib.Core.Bool.{Bool, cond, not, _&&_, _||_}
@@ -7,7 +8,8 @@ use mathlib.Core.List.{List, [], _∷_}
 use lib.Dec.{eqb, leb, ltb}
 use lib.ListN.{getD}
 use Rattle.model.specs.declared.Triple.{Triple}
-use Rattle.model.specs.Codes.{Vocabulary, codes, kind, reserved}
+use Rattle.model.specs.declared.Vocabulary.{Vocabulary}
+use Rattle.model.specs.Codes.{codes, kind, reserved}
 use Rattle.model.specs.Lists.{any, all, among, tabulate}
 
 abbrev pub mark : List ℕ → ℕ → ℕ

@@ -11,7 +11,8 @@ use lib.Dec.{eqb}
 use lib.ListN.{getD}
 use Rattle.model.specs.declared.Rule.{Rule}
 use Rattle.model.specs.declared.Triple.{Triple}
-use Rattle.model.specs.Codes.{Vocabulary, kind}
+use Rattle.model.specs.declared.Vocabulary.{Vocabulary}
+use Rattle.model.specs.Codes.{kind}
 use Rattle.model.specs.Triples.{triple}
 
 -- first premise's kind, second premise's kind (5: any), the two places that hold one code,
@@ -48,7 +49,7 @@ module _ (v : Vocabulary) where
   -- the code at a place: 0 1 2 are the first premise's subject, property, object, 3 4 5 the second's, 6 is the code of type
   unfoldable pub place : Triple → Triple → ℕ → ℕ
   place a b k =
-      getD (a .subject ∷ a .property ∷ a .object ∷ b .subject ∷ b .property ∷ b .object ∷ []) k (v .type)
+      getD (a .subject ∷ a .property ∷ a .object ∷ b .subject ∷ b .property ∷ b .object ∷ []) k (v .instance)
 
   -- the two triples are premises of the rule, in this order
   unfoldable pub fits : Rule → Triple → Triple → Bool

@@ -7,7 +7,7 @@ use lib.Dec.{eqb}
 use lib.ListN.{length}
 use Rattle.model.specs.declared.Rule.{Rule}
 use Rattle.model.specs.declared.Triple.{Triple}
-use Rattle.model.specs.Codes.{Vocabulary}
+use Rattle.model.specs.declared.Vocabulary.{Vocabulary}
 use Rattle.model.specs.Lists.{collect, when}
 use Rattle.model.specs.Triples.{sorted}
 use Rattle.model.specs.Rules.{rules, fits, gives}

@@ -5,7 +5,7 @@ use Prim.Native.Nat.{ℕ}
 use mathlib.Core.Path.{_≡_}
 use mathlib.Core.List.{List, map}
 use Rattle.model.specs.declared.Triple.{Triple}
-use Rattle.model.specs.Codes.{Vocabulary}
+use Rattle.model.specs.declared.Vocabulary.{Vocabulary}
 use Rattle.model.specs.Triples.{triple, sorted}
 use Rattle.model.specs.Partition.{label}
 use Rattle.model.specs.Cliques.{Graph}

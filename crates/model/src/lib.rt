@@ -5,6 +5,16 @@ ghost use mathlib.Core.Path.{_≡_};
 ghost use Rattle.model.specs.Outcomes.{number};
 ghost use Rattle.model.specs.Rules.{rules};
 
+// The reserved codes of a site, one for each of type, subclass, subproperty, domain and range: 02's "word table".
+// `instance` is the code of type, a word of the language.
+pub struct Vocabulary {
+    pub instance: u32,
+    pub subclass: u32,
+    pub subproperty: u32,
+    pub domain: u32,
+    pub range: u32,
+}
+
 // Subject, property, object.
 pub struct Triple {
     pub subject: u32,
@@ -137,7 +147,7 @@ pub fn rule_table() -> [Rule; 10]
     RULES
 }
 
-// The eight refusals; `number` in specs/Outcomes.antt gives the number of each.
+// The refusals; `number` in specs/Outcomes.antt gives the number of each.
 pub enum Refusal {
     Length,
     Roster,
@@ -147,6 +157,7 @@ pub enum Refusal {
     Query,
     Full,
     Form,
+    Words,
 }
 
 // A refusal's number.
@@ -162,6 +173,7 @@ pub fn refusal_number(refusal: Refusal) -> u32
         Refusal::Query => 6,
         Refusal::Full => 7,
         Refusal::Form => 8,
+        Refusal::Words => 10,
     }
 }
 

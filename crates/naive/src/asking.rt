@@ -1,5 +1,6 @@
 // Look up and ask.
 use super::flat::Answer;
+use super::flat::Words;
 use super::flat::accept;
 use super::flat::entry;
 use super::flat::holds;
@@ -7,8 +8,7 @@ use super::flat::number_at;
 use super::flat::refuse;
 use super::flat::triple_at;
 use super::flat::triple_of;
-use super::refusals::codes_wrong;
-use super::refusals::size_wrong;
+use super::refusals::codes_refusal;
 use super::refusals::table_wrong;
 
 pub fn look_up(list: &[u32], s: u32, p: u32, o: u32) -> Answer {
@@ -151,13 +151,11 @@ fn choose(table: &[u32], map: &[u32], query: &[u32], choice: [u32; 8], variable:
 }
 
 // A count of 1 is maybe, a count of 0 none.
-pub fn ask(table: &[u32], map: &[u32], query: &[u32]) -> Answer {
+pub fn ask(words: Words, table: &[u32], map: &[u32], query: &[u32]) -> Answer {
     let n = map.len();
-    if size_wrong(n) || table_wrong(table.len()) {
-        return refuse(1);
-    }
-    if codes_wrong(table, n) {
-        return refuse(3);
+    let number = codes_refusal(words, table, n);
+    if number != 0 {
+        return refuse(number);
     }
     if query_wrong(query, n) {
         return refuse(6);

@@ -1,16 +1,18 @@
 // Source and target cliques.
 use super::flat::ABSENT;
 use super::flat::Triple;
+use super::flat::Words;
 use super::flat::entry;
 use super::flat::fill;
+use super::flat::is_word;
 use super::flat::set_entry;
 use super::flat::triple_at;
 use super::refusals::mark;
 use super::refusals::table_refusal;
 
-// A data triple has a property of 5 or more.
-pub fn is_data(t: Triple) -> bool {
-    5 <= t.property
+// A data triple has a property that is none of the five.
+pub fn is_data(words: Words, t: Triple) -> bool {
+    !is_word(words, t.property)
 }
 
 // The subject for sources, the object for targets.
@@ -22,32 +24,32 @@ pub fn end_of(t: Triple, sources: bool) -> u32 {
 }
 
 // Whether t is a data triple with a data node, an unmarked one, at the end of that side.
-fn links(roster: &[u8], t: Triple, sources: bool) -> bool {
-    is_data(t) && mark(roster, end_of(t, sources)) == 0
+fn links(words: Words, roster: &[u8], t: Triple, sources: bool) -> bool {
+    mark(roster, end_of(t, sources)) == 0 && is_data(words, t)
 }
 
 // The property of such a triple is in its own clique at first.
-fn start_property(roster: &[u8], sources: bool, list: &mut [u32], t: Triple) {
-    if links(roster, t, sources) {
+fn start_property(words: Words, roster: &[u8], sources: bool, list: &mut [u32], t: Triple) {
+    if links(words, roster, t, sources) {
         set_entry(list, t.property, t.property);
     }
 }
 
-fn start(table: &[u32], roster: &[u8], sources: bool, list: &mut [u32]) {
+fn start(words: Words, table: &[u32], roster: &[u8], sources: bool, list: &mut [u32]) {
     fill(list, ABSENT);
     let count = table.len() / 3;
     let mut i = 0;
     while i < count {
-        start_property(roster, sources, list, triple_at(table, i));
+        start_property(words, roster, sources, list, triple_at(table, i));
         i += 1;
     }
 }
 
 // Whether two triples share a data node at that side.
-fn share(roster: &[u8], t: Triple, u: Triple, sources: bool) -> bool {
-    links(roster, t, sources)
-        && links(roster, u, sources)
-        && end_of(t, sources) == end_of(u, sources)
+fn share(words: Words, roster: &[u8], t: Triple, u: Triple, sources: bool) -> bool {
+    end_of(t, sources) == end_of(u, sources)
+        && links(words, roster, t, sources)
+        && links(words, roster, u, sources)
 }
 
 // Gives a the entry of b if that is smaller; whether it was.
@@ -61,21 +63,35 @@ pub fn lower(list: &mut [u32], a: u32, b: u32) -> bool {
 }
 
 // Lowers t's property by u's if they share a node.
-fn join_pair(roster: &[u8], sources: bool, list: &mut [u32], t: Triple, u: Triple) -> bool {
-    if share(roster, t, u, sources) {
+fn join_pair(
+    words: Words,
+    roster: &[u8],
+    sources: bool,
+    list: &mut [u32],
+    t: Triple,
+    u: Triple,
+) -> bool {
+    if share(words, roster, t, u, sources) {
         return lower(list, t.property, u.property);
     }
     false
 }
 
 // Lowers the property of the triple at place i by each triple that shares a node with it.
-fn join(table: &[u32], roster: &[u8], sources: bool, list: &mut [u32], i: usize) -> bool {
+fn join(
+    words: Words,
+    table: &[u32],
+    roster: &[u8],
+    sources: bool,
+    list: &mut [u32],
+    i: usize,
+) -> bool {
     let t = triple_at(table, i);
     let count = table.len() / 3;
     let mut changed = false;
     let mut j = 0;
     while j < count {
-        if join_pair(roster, sources, list, t, triple_at(table, j)) {
+        if join_pair(words, roster, sources, list, t, triple_at(table, j)) {
             changed = true;
         }
         j += 1;
@@ -83,12 +99,12 @@ fn join(table: &[u32], roster: &[u8], sources: bool, list: &mut [u32], i: usize)
     changed
 }
 
-fn join_all(table: &[u32], roster: &[u8], sources: bool, list: &mut [u32]) -> bool {
+fn join_all(words: Words, table: &[u32], roster: &[u8], sources: bool, list: &mut [u32]) -> bool {
     let count = table.len() / 3;
     let mut changed = false;
     let mut i = 0;
     while i < count {
-        if join(table, roster, sources, list, i) {
+        if join(words, table, roster, sources, list, i) {
             changed = true;
         }
         i += 1;
@@ -97,26 +113,32 @@ fn join_all(table: &[u32], roster: &[u8], sources: bool, list: &mut [u32]) -> bo
 }
 
 // The cliques of one side. A chain has no more steps than there are triples, so as many rounds are enough.
-pub fn side(table: &[u32], roster: &[u8], sources: bool, list: &mut [u32]) {
-    start(table, roster, sources, list);
+pub fn side(words: Words, table: &[u32], roster: &[u8], sources: bool, list: &mut [u32]) {
+    start(words, table, roster, sources, list);
     let count = table.len() / 3;
     let mut rounds = 0;
     while rounds < count {
-        if !join_all(table, roster, sources, list) {
+        if !join_all(words, table, roster, sources, list) {
             return;
         }
         rounds += 1;
     }
 }
 
-pub fn cliques(table: &[u32], roster: &[u8], sources: &mut [u32], targets: &mut [u32]) -> u32 {
+pub fn cliques(
+    words: Words,
+    table: &[u32],
+    roster: &[u8],
+    sources: &mut [u32],
+    targets: &mut [u32],
+) -> u32 {
     let n = roster.len();
     let others_wrong = sources.len() != n || targets.len() != n;
-    let number = table_refusal(others_wrong, table, roster);
+    let number = table_refusal(words, others_wrong, table, roster);
     if number != 0 {
         return number;
     }
-    side(table, roster, true, sources);
-    side(table, roster, false, targets);
+    side(words, table, roster, true, sources);
+    side(words, table, roster, false, targets);
     0
 }

@@ -18,6 +18,7 @@ pub use feeding::open;
 pub use feeding::plain_feed;
 pub use feeding::plain_lists;
 pub use flat::Answer;
+pub use flat::Words;
 pub use rosters::own_roster;
 pub use saturation::saturate;
 pub use summary::summarise;

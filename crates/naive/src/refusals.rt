@@ -1,10 +1,7 @@
 // The checks before a call, each over all its input.
-use super::flat::DOMAIN;
-use super::flat::RANGE;
-use super::flat::SUBCLASS;
-use super::flat::SUBPROPERTY;
-use super::flat::TYPE;
 use super::flat::Triple;
+use super::flat::Words;
+use super::flat::is_word;
 use super::flat::triple_at;
 
 // N is 5 to 65,536.
@@ -36,14 +33,40 @@ fn is_property(roster: &[u8], code: u32) -> bool {
     m == 2 || m == 3
 }
 
-// A roster value over 3, or a reserved code marked.
-pub fn roster_wrong(roster: &[u8]) -> bool {
+fn words_repeat(words: Words) -> bool {
+    let a = words.instance;
+    let b = words.subclass;
+    let c = words.subproperty;
+    let d = words.domain;
+    let e = words.range;
+    if a == b || a == c || a == d || a == e {
+        return true;
+    }
+    if b == c || b == d || b == e {
+        return true;
+    }
+    c == d || c == e || d == e
+}
+
+fn not_below(n: usize, code: u32) -> bool {
+    n <= code as usize
+}
+
+// Two of the five codes equal, or one not below N.
+pub fn words_wrong(words: Words, n: usize) -> bool {
+    if not_below(n, words.instance) || not_below(n, words.subclass) {
+        return true;
+    }
+    if not_below(n, words.subproperty) || not_below(n, words.domain) {
+        return true;
+    }
+    not_below(n, words.range) || words_repeat(words)
+}
+
+fn value_wrong(roster: &[u8]) -> bool {
     let mut i = 0;
     while i < roster.len() {
         if 3 < roster[i] {
-            return true;
-        }
-        if i < 5 && roster[i] != 0 {
             return true;
         }
         i += 1;
@@ -51,19 +74,33 @@ pub fn roster_wrong(roster: &[u8]) -> bool {
     false
 }
 
-// A code not below N, or reserved as subject or object.
-pub fn triple_wrong(t: Triple, n: usize) -> bool {
-    if n <= t.subject as usize || n <= t.property as usize || n <= t.object as usize {
+// A roster value over 3, or a reserved code marked.
+pub fn roster_wrong(words: Words, roster: &[u8]) -> bool {
+    if value_wrong(roster) {
         return true;
     }
-    t.subject < 5 || t.object < 5
+    if mark(roster, words.instance) != 0 || mark(roster, words.subclass) != 0 {
+        return true;
+    }
+    if mark(roster, words.subproperty) != 0 || mark(roster, words.domain) != 0 {
+        return true;
+    }
+    mark(roster, words.range) != 0
 }
 
-pub fn codes_wrong(table: &[u32], n: usize) -> bool {
+// A code not below N, or reserved as subject or object.
+pub fn triple_wrong(words: Words, t: Triple, n: usize) -> bool {
+    if not_below(n, t.subject) || not_below(n, t.property) || not_below(n, t.object) {
+        return true;
+    }
+    is_word(words, t.subject) || is_word(words, t.object)
+}
+
+fn codes_wrong(words: Words, table: &[u32], n: usize) -> bool {
     let count = table.len() / 3;
     let mut i = 0;
     while i < count {
-        if triple_wrong(triple_at(table, i), n) {
+        if triple_wrong(words, triple_at(table, i), n) {
             return true;
         }
         i += 1;
@@ -72,27 +109,27 @@ pub fn codes_wrong(table: &[u32], n: usize) -> bool {
 }
 
 // Whether each role of a triple is marked.
-pub fn covered(roster: &[u8], t: Triple) -> bool {
-    if t.property == TYPE {
+pub fn covered(words: Words, roster: &[u8], t: Triple) -> bool {
+    if t.property == words.instance {
         return is_class(roster, t.object);
     }
-    if t.property == SUBCLASS {
+    if t.property == words.subclass {
         return is_class(roster, t.subject) && is_class(roster, t.object);
     }
-    if t.property == SUBPROPERTY {
+    if t.property == words.subproperty {
         return is_property(roster, t.subject) && is_property(roster, t.object);
     }
-    if t.property == DOMAIN || t.property == RANGE {
+    if t.property == words.domain || t.property == words.range {
         return is_property(roster, t.subject) && is_class(roster, t.object);
     }
     is_property(roster, t.property)
 }
 
-fn uncovered(table: &[u32], roster: &[u8]) -> bool {
+fn uncovered(words: Words, table: &[u32], roster: &[u8]) -> bool {
     let count = table.len() / 3;
     let mut i = 0;
     while i < count {
-        if !covered(roster, triple_at(table, i)) {
+        if !covered(words, roster, triple_at(table, i)) {
             return true;
         }
         i += 1;
@@ -100,18 +137,35 @@ fn uncovered(table: &[u32], roster: &[u8]) -> bool {
     false
 }
 
-// Checks 1 to 4 of a table with its roster: the refusal's number, or 0. The caller has looked at its other lists.
-pub fn table_refusal(others_wrong: bool, table: &[u32], roster: &[u8]) -> u32 {
+// The checks 1, 10, 3 of a table with n codes: the refusal's number, or 0.
+pub fn codes_refusal(words: Words, table: &[u32], n: usize) -> u32 {
+    if size_wrong(n) || table_wrong(table.len()) {
+        return 1;
+    }
+    if words_wrong(words, n) {
+        return 10;
+    }
+    if codes_wrong(words, table, n) {
+        return 3;
+    }
+    0
+}
+
+// The checks 1, 10, 2, 3, 4 of a table with its roster: the refusal's number, or 0. The caller has looked at its other lists.
+pub fn table_refusal(words: Words, others_wrong: bool, table: &[u32], roster: &[u8]) -> u32 {
     if others_wrong || size_wrong(roster.len()) || table_wrong(table.len()) {
         return 1;
     }
-    if roster_wrong(roster) {
+    if words_wrong(words, roster.len()) {
+        return 10;
+    }
+    if roster_wrong(words, roster) {
         return 2;
     }
-    if codes_wrong(table, roster.len()) {
+    if codes_wrong(words, table, roster.len()) {
         return 3;
     }
-    if uncovered(table, roster) {
+    if uncovered(words, table, roster) {
         return 4;
     }
     0

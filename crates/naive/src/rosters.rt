@@ -1,15 +1,9 @@
 // The own roster of a table.
-use super::flat::DOMAIN;
-use super::flat::RANGE;
-use super::flat::SUBCLASS;
-use super::flat::SUBPROPERTY;
-use super::flat::TYPE;
 use super::flat::Triple;
+use super::flat::Words;
 use super::flat::triple_at;
-use super::refusals::codes_wrong;
+use super::refusals::codes_refusal;
 use super::refusals::mark;
-use super::refusals::size_wrong;
-use super::refusals::table_wrong;
 
 fn set_mark(roster: &mut [u8], code: u32, value: u8) {
     let i = code as usize;
@@ -43,22 +37,22 @@ fn mark_property(roster: &mut [u8], code: u32) {
 }
 
 // Marks each role of a triple.
-fn mark_triple(roster: &mut [u8], t: Triple) {
-    if t.property == TYPE {
+fn mark_triple(words: Words, roster: &mut [u8], t: Triple) {
+    if t.property == words.instance {
         mark_class(roster, t.object);
         return;
     }
-    if t.property == SUBCLASS {
+    if t.property == words.subclass {
         mark_class(roster, t.subject);
         mark_class(roster, t.object);
         return;
     }
-    if t.property == SUBPROPERTY {
+    if t.property == words.subproperty {
         mark_property(roster, t.subject);
         mark_property(roster, t.object);
         return;
     }
-    if t.property == DOMAIN || t.property == RANGE {
+    if t.property == words.domain || t.property == words.range {
         mark_property(roster, t.subject);
         mark_class(roster, t.object);
         return;
@@ -74,19 +68,22 @@ fn unmark_all(roster: &mut [u8]) {
     }
 }
 
-pub fn own_roster(table: &[u32], roster: &mut [u8]) -> u32 {
-    if size_wrong(roster.len()) || table_wrong(table.len()) {
-        return 1;
-    }
-    if codes_wrong(table, roster.len()) {
-        return 3;
-    }
-    unmark_all(roster);
+// Marks each role of each triple.
+fn mark_table(words: Words, table: &[u32], roster: &mut [u8]) {
     let count = table.len() / 3;
     let mut i = 0;
     while i < count {
-        mark_triple(roster, triple_at(table, i));
+        mark_triple(words, roster, triple_at(table, i));
         i += 1;
     }
+}
+
+pub fn own_roster(words: Words, table: &[u32], roster: &mut [u8]) -> u32 {
+    let number = codes_refusal(words, table, roster.len());
+    if number != 0 {
+        return number;
+    }
+    unmark_all(roster);
+    mark_table(words, table, roster);
     0
 }

@@ -6,6 +6,7 @@ use super::clique_lists::side;
 use super::flat::ABSENT;
 use super::flat::Answer;
 use super::flat::Triple;
+use super::flat::Words;
 use super::flat::accept;
 use super::flat::add;
 use super::flat::entry;
@@ -19,12 +20,12 @@ use super::refusals::mark;
 use super::refusals::table_refusal;
 
 // The clique of a data node: that of the property of any data triple that it stands in at that side, absent if there is none.
-fn clique_of(table: &[u32], cliques: &[u32], sources: bool, node: u32) -> u32 {
+fn clique_of(words: Words, table: &[u32], cliques: &[u32], sources: bool, node: u32) -> u32 {
     let count = table.len() / 3;
     let mut i = 0;
     while i < count {
         let t = triple_at(table, i);
-        if is_data(t) && end_of(t, sources) == node {
+        if end_of(t, sources) == node && is_data(words, t) {
             return entry(cliques, t.property);
         }
         i += 1;
@@ -33,11 +34,11 @@ fn clique_of(table: &[u32], cliques: &[u32], sources: bool, node: u32) -> u32 {
 }
 
 // Whether two data nodes have the same non-empty source or target clique, or both have no clique at all.
-fn alike(table: &[u32], sources: &[u32], targets: &[u32], a: u32, b: u32) -> bool {
-    let source_a = clique_of(table, sources, true, a);
-    let source_b = clique_of(table, sources, true, b);
-    let target_a = clique_of(table, targets, false, a);
-    let target_b = clique_of(table, targets, false, b);
+fn alike(words: Words, table: &[u32], sources: &[u32], targets: &[u32], a: u32, b: u32) -> bool {
+    let source_a = clique_of(words, table, sources, true, a);
+    let source_b = clique_of(words, table, sources, true, b);
+    let target_a = clique_of(words, table, targets, false, a);
+    let target_b = clique_of(words, table, targets, false, b);
     if source_a != ABSENT && source_a == source_b {
         return true;
     }
@@ -67,6 +68,7 @@ fn node_at(table: &[u32], e: usize) -> u32 {
 
 // Lowers a data node a by a data node b if they are alike.
 fn join_pair(
+    words: Words,
     table: &[u32],
     roster: &[u8],
     sources: &[u32],
@@ -81,7 +83,7 @@ fn join_pair(
     if entry(map, a) <= entry(map, b) {
         return false;
     }
-    if alike(table, sources, targets, a, b) {
+    if alike(words, table, sources, targets, a, b) {
         return lower(map, a, b);
     }
     false
@@ -89,6 +91,7 @@ fn join_pair(
 
 // Lowers the node a by each node that is alike.
 fn join(
+    words: Words,
     table: &[u32],
     roster: &[u8],
     sources: &[u32],
@@ -100,7 +103,16 @@ fn join(
     let mut changed = false;
     let mut e = 0;
     while e < ends {
-        if join_pair(table, roster, sources, targets, map, a, node_at(table, e)) {
+        if join_pair(
+            words,
+            table,
+            roster,
+            sources,
+            targets,
+            map,
+            a,
+            node_at(table, e),
+        ) {
             changed = true;
         }
         e += 1;
@@ -109,6 +121,7 @@ fn join(
 }
 
 fn join_all(
+    words: Words,
     table: &[u32],
     roster: &[u8],
     sources: &[u32],
@@ -119,7 +132,15 @@ fn join_all(
     let mut changed = false;
     let mut e = 0;
     while e < ends {
-        if join(table, roster, sources, targets, map, node_at(table, e)) {
+        if join(
+            words,
+            table,
+            roster,
+            sources,
+            targets,
+            map,
+            node_at(table, e),
+        ) {
             changed = true;
         }
         e += 1;
@@ -128,12 +149,19 @@ fn join_all(
 }
 
 // The smallest code of each class. A chain has no more steps than there are nodes, so as many rounds are enough.
-fn represent(table: &[u32], roster: &[u8], sources: &[u32], targets: &[u32], map: &mut [u32]) {
+fn represent(
+    words: Words,
+    table: &[u32],
+    roster: &[u8],
+    sources: &[u32],
+    targets: &[u32],
+    map: &mut [u32],
+) {
     start(table, map);
     let ends = table.len() / 3 * 2;
     let mut rounds = 0;
     while rounds < ends {
-        if !join_all(table, roster, sources, targets, map) {
+        if !join_all(words, table, roster, sources, targets, map) {
             return;
         }
         rounds += 1;
@@ -141,15 +169,15 @@ fn represent(table: &[u32], roster: &[u8], sources: &[u32], targets: &[u32], map
 }
 
 // The work list holds the source cliques, then the target cliques.
-fn both_sides(table: &[u32], roster: &[u8], work: &mut [u32]) {
+fn both_sides(words: Words, table: &[u32], roster: &[u8], work: &mut [u32]) {
     let half = work.len() / 2;
-    side(table, roster, true, &mut work[..half]);
-    side(table, roster, false, &mut work[half..]);
+    side(words, table, roster, true, &mut work[..half]);
+    side(words, table, roster, false, &mut work[half..]);
 }
 
-fn represent_by(table: &[u32], roster: &[u8], work: &[u32], map: &mut [u32]) {
+fn represent_by(words: Words, table: &[u32], roster: &[u8], work: &[u32], map: &mut [u32]) {
     let half = work.len() / 2;
-    represent(table, roster, &work[..half], &work[half..], map);
+    represent(words, table, roster, &work[..half], &work[half..], map);
 }
 
 // The triples with each subject and object replaced by its representative, each once.
@@ -170,6 +198,7 @@ fn replaced(table: &[u32], map: &[u32], list: &mut [u32]) -> Answer {
 }
 
 pub fn summarise(
+    words: Words,
     table: &[u32],
     roster: &[u8],
     result: &mut [u32],
@@ -178,12 +207,12 @@ pub fn summarise(
 ) -> Answer {
     let n = roster.len();
     let others_wrong = map.len() != n || work.len() / 2 != n || work.len() % 2 != 0;
-    let number = table_refusal(others_wrong, table, roster);
+    let number = table_refusal(words, others_wrong, table, roster);
     if number != 0 {
         return refuse(number);
     }
-    both_sides(table, roster, work);
-    represent_by(table, roster, work, map);
+    both_sides(words, table, roster, work);
+    represent_by(words, table, roster, work, map);
     fill(work, 0);
     fill(result, 0);
     let answer = replaced(table, map, result);

@@ -9,7 +9,7 @@ use lib.ListN.{length, getD, set, length-set, replicate}
 use lib.Seq.{getD-set-same, getD-set-other}
 use Rattle.model.specs.declared.Refusal.{Refusal}
 use Rattle.model.specs.declared.Triple.{Triple}
-use Rattle.model.specs.Codes.{rdfs}
+use Rattle.model.specs.declared.Vocabulary.{Vocabulary}
 use Rattle.model.specs.Lists.{any, tabulate}
 use Rattle.model.specs.Triples.{flat}
 use Rattle.model.specs.Outcomes.{Outcome}
@@ -66,42 +66,6 @@ module _ (answers : List Asked) where
       let w = tabulate-mem (answerAt answers) 0 n m in
       ap isRefused (w .3) ∙ f .none (w .0) (omega (arith, w .2))))
 
--- ── all answers ──
-module _ (table map : List ℕ) (queries : List Query) where
-  abbrev pub outcomeAt : ℕ → Outcome Bool
-  outcomeAt i = askOutcome rdfs table map (getD queries i noQuery)
-
-  pub record Asking (answers : List Asked) (i : ℕ) : Type 0 where
-    pub size : length answers ≡ 16
-    pub same : (j : ℕ) → j < i → answerAt answers j ≡ outcomeAt j
-
-  pub asks-start : Asking (replicate 16 Maybe) 0
-  asks-start = record { size = refl; same = λ j h. absurd (omega arith) }
-
-  pub asks-step : (answers : List Asked) (i : ℕ) → Asking answers i → i < 16 → (a : Asked) → asked a ≡ outcomeAt i → Asking (set answers i a) (i + 1)
-  asks-step answers i h k a e = record {
-    size = length-set answers i a ∙ h .size;
-    same = λ j m. go j m (cmp j i);
-  }
-    where
-      go : (j : ℕ) → j < i + 1 → Cmp j i → answerAt (set answers i a) j ≡ outcomeAt j
-      go j m (lt x) = ap asked (getD-set-other answers i j a Maybe (omega arith)) ∙ h .same j x
-      go j m (eq x) =
-          ap (λ (z : ℕ). answerAt (set answers i a) z) x
-          ∙ ap asked (getD-set-same answers i a Maybe (omega (arith, h .size)))
-          ∙ e
-          ∙ ap outcomeAt (sym x)
-      go j m (gt x) = absurd (omega arith)
-
-  same-table : {A : Type 0} (f g : ℕ → A) (i n : ℕ) → ((j : ℕ) → j < i + n → f j ≡ g j) → tabulate f i n ≡ tabulate g i n
-  unfolding tabulate
-  same-table f g i zero h = refl
-  same-table f g i (suc n) h = λ k. h i (omega arith) k ∷ same-table f g (suc i) n (λ j l. h j (omega arith)) k
-
-  pub asks-end : (answers : List Asked) (i n : ℕ) → Asking answers i → n ≤ i → answersIn answers n ≡ askedOf table map queries n
-  unfolding answersIn askedOf
-  asks-end answers i n h k = same-table (answerAt answers) outcomeAt 0 n (λ j l. h .same j (omega arith))
-
 -- ── the queries that were read ──
 shift : {A : Type 0} (f : ℕ → A) (i n : ℕ) → tabulate f (suc i) n ≡ tabulate (λ k. f (suc k)) i n
 unfolding tabulate
@@ -115,6 +79,43 @@ tabulated f d (q ∷ qs) rest =
     ap (λ xs. f (queryOf q) ∷ xs)
     (tabulated f d qs rest ∙ sym (shift (λ i. f (getD (queryOf q ∷ (map queryOf qs ++ rest)) i d)) 0 (length qs)))
 
-pub asked-are : (ts : List Triple) (m : List ℕ) (qs : List (List Pattern)) → askedForms ts m qs ≡ askedOf (flat ts) m (queriesOf qs) (length qs)
-unfolding askedForms askedOf queriesOf
-asked-are ts m qs = tabulated (askOutcome rdfs (flat ts) m) noQuery qs _
+module _ (v : Vocabulary) where
+  -- ── all answers ──
+  module _ (table map : List ℕ) (queries : List Query) where
+    abbrev pub outcomeAt : ℕ → Outcome Bool
+    outcomeAt i = askOutcome v table map (getD queries i noQuery)
+
+    pub record Asking (answers : List Asked) (i : ℕ) : Type 0 where
+      pub size : length answers ≡ 16
+      pub same : (j : ℕ) → j < i → answerAt answers j ≡ outcomeAt j
+
+    pub asks-start : Asking (replicate 16 Maybe) 0
+    asks-start = record { size = refl; same = λ j h. absurd (omega arith) }
+
+    pub asks-step : (answers : List Asked) (i : ℕ) → Asking answers i → i < 16 → (a : Asked) → asked a ≡ outcomeAt i → Asking (set answers i a) (i + 1)
+    asks-step answers i h k a e = record {
+      size = length-set answers i a ∙ h .size;
+      same = λ j m. go j m (cmp j i);
+    }
+      where
+        go : (j : ℕ) → j < i + 1 → Cmp j i → answerAt (set answers i a) j ≡ outcomeAt j
+        go j m (lt x) = ap asked (getD-set-other answers i j a Maybe (omega arith)) ∙ h .same j x
+        go j m (eq x) =
+            ap (λ (z : ℕ). answerAt (set answers i a) z) x
+            ∙ ap asked (getD-set-same answers i a Maybe (omega (arith, h .size)))
+            ∙ e
+            ∙ ap outcomeAt (sym x)
+        go j m (gt x) = absurd (omega arith)
+
+    same-table : {A : Type 0} (f g : ℕ → A) (i n : ℕ) → ((j : ℕ) → j < i + n → f j ≡ g j) → tabulate f i n ≡ tabulate g i n
+    unfolding tabulate
+    same-table f g i zero h = refl
+    same-table f g i (suc n) h = λ k. h i (omega arith) k ∷ same-table f g (suc i) n (λ j l. h j (omega arith)) k
+
+    pub asks-end : (answers : List Asked) (i n : ℕ) → Asking answers i → n ≤ i → answersIn answers n ≡ askedOf v table map queries n
+    unfolding answersIn askedOf
+    asks-end answers i n h k = same-table (answerAt answers) outcomeAt 0 n (λ j l. h .same j (omega arith))
+
+  pub asked-are : (ts : List Triple) (m : List ℕ) (qs : List (List Pattern)) → askedForms v ts m qs ≡ askedOf v (flat ts) m (queriesOf qs) (length qs)
+  unfolding askedForms askedOf queriesOf
+  asked-are ts m qs = tabulated (askOutcome v (flat ts) m) noQuery qs _

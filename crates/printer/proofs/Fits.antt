@@ -11,7 +11,8 @@ use lib.Dec.{ltb}
 use lib.ListN.{length, getD, length-append}
 use borrow.Author.Tests.{eq-eqb, ne-eqb, ltb-false}
 use Rattle.model.specs.declared.Triple.{Triple}
-use Rattle.model.specs.Codes.{rdfs, absent}
+use Rattle.model.specs.declared.Vocabulary.{Vocabulary}
+use Rattle.model.specs.Codes.{wrongWords, absent}
 use Rattle.model.specs.Lists.{any, collect, tabulate}
 use Rattle.model.specs.Roster.{ownRoster, wrongCodes}
 use Rattle.model.specs.Saturation.{saturation}
@@ -22,14 +23,14 @@ use Rattle.model.specs.Outcomes.{Outcome, refused, accepted, decided, wrongSize
 use Rattle.theory.proofs.Tests.{cond-cases, or-false}
 use Rattle.theory.proofs.Lists.{length-tabulate}
 use Rattle.theory.proofs.Covered.{AllBelow}
-use Rattle.theory.proofs.Accepted.{Right, room, below, size-bounds, saturation-right, summary-right}
+use Rattle.theory.proofs.Accepted.{Right, room, below, saturation-right, summary-right}
 use Rattle.theory.proofs.Feeding.{summary-length}
 use Rattle.theory.proofs.Mapped.{node-or, node-below, map-absent, map-node, length-map-of}
 use Rattle.theory.proofs.Theorems.{own-roster-least}
 use Rattle.query.specs.declared.Query.{Query}
 use Rattle.query.specs.Ask.{askOutcome}
 use Rattle.site_form.specs.Text.{bytes, numeral, tripleLine}
-use Rattle.site_form.specs.Reading.{Forms, readForms, queriesOf}
+use Rattle.site_form.specs.Reading.{Forms, loaded, readForms, queriesOf}
 use Rattle.site_form.specs.Printing.{mostBytes, largestPrinted, printerSlots, isRefused, summaryLine, nodeLine, nodeLines, answerLine, report, shown, printChecked, printForms, printRead, printOutcome, printed}
 use Rattle.site_form.proofs.Whole.{read-says}
 use Rattle.site_writer.proofs.Numerals.{three-digits, five-digits}
@@ -111,24 +112,6 @@ report-fits ts m answers h b k e l =
       answers-short answers,
     )
 
-module _ (roster : List ℕ) (ts : List Triple) (r : Right rdfs roster ts) (size : length roster ≤ 512) where
-  entries : (c : ℕ) → Entry (mapOf rdfs roster ts) c
-  unfolding Entry
-  entries c =
-      ⊎-elim
-      (λ x. let z = node-below (length roster) ts (below rdfs roster ts r) _ (map-node rdfs roster ts (below rdfs roster ts r) (room rdfs roster ts r) c x) in inr (omega arith))
-      (λ f. inl (map-absent rdfs roster ts (below rdfs roster ts r) (room rdfs roster ts r) c f))
-      (node-or ts c)
-
-  -- the report of a summary with codes below 512
-  pub summary-fits : (answers : List (Outcome Bool)) → length ts ≤ 2048 → length answers ≤ 16 → length (report (summary rdfs roster ts) (mapOf rdfs roster ts) answers) ≤ 49152
-  summary-fits answers h l =
-      let s = summary-right rdfs roster ts r in
-      let b = below rdfs roster (summary rdfs roster ts) s in
-      report-fits (summary rdfs roster ts) (mapOf rdfs roster ts) answers (omega (arith, summary-length rdfs roster ts))
-      (λ t m. let x = b t m in record { subject = omega (arith, x .subject); property = omega (arith, x .property); object = omega (arith, x .object) })
-      (omega (arith, length-map-of rdfs roster ts)) entries l
-
 -- ── the outcomes ──
 abbrev Fits : Outcome (List ℕ) → Type 0
 Fits o = length (shown o) ≤ 49152
@@ -136,65 +119,87 @@ Fits o = length (shown o) ≤ 49152
 refused-fits : (n : ℕ) → n < 100000 → Fits (refused n)
 refused-fits n h = let z : length (shown (refused n)) ≡ length (refusedLine n) = ap length (shown-refused n) in omega (arith, refused-short n h)
 
--- the own roster passes, and so does the saturation with it
-pub own-right : (n : ℕ) (ts : List Triple) → wrongSize n ≡ false → wrongCodes rdfs n ts ≡ false → Right rdfs (ownRoster rdfs n ts) ts
-own-right n ts w h =
-    let O = own-roster-least n ts h in
-    record {
-      size = subst (λ (z : ℕ). wrongSize z ≡ false) (sym (O .size)) w;
-      marks = O .right;
-      codes = subst (λ (z : ℕ). wrongCodes rdfs z ts ≡ false) (sym (O .size)) h;
-      cover = O .covering;
-      type-below = omega (arith, O .size, size-bounds n w);
-    }
+module _ (v : Vocabulary) where
+  module _ (roster : List ℕ) (ts : List Triple) (r : Right v roster ts) (size : length roster ≤ 512) where
+    entries : (c : ℕ) → Entry (mapOf v roster ts) c
+    unfolding Entry
+    entries c =
+        ⊎-elim
+        (λ x. let z = node-below (length roster) ts (below v roster ts r) _ (map-node v roster ts (below v roster ts r) (room v roster ts r) c x) in inr (omega arith))
+        (λ f. inl (map-absent v roster ts (below v roster ts r) (room v roster ts r) c f))
+        (node-or ts c)
 
-pub own-size : (n : ℕ) (ts : List Triple) → wrongCodes rdfs n ts ≡ false → length (ownRoster rdfs n ts) ≡ n
-own-size n ts h = (own-roster-least n ts h) .size
+    -- the report of a summary with codes below 512
+    pub summary-fits : (answers : List (Outcome Bool)) → length ts ≤ 2048 → length answers ≤ 16 → length (report (summary v roster ts) (mapOf v roster ts) answers) ≤ 49152
+    summary-fits answers h l =
+        let s = summary-right v roster ts r in
+        let b = below v roster (summary v roster ts) s in
+        report-fits (summary v roster ts) (mapOf v roster ts) answers (omega (arith, summary-length v roster ts))
+        (λ t m. let x = b t m in record { subject = omega (arith, x .subject); property = omega (arith, x .property); object = omega (arith, x .object) })
+        (omega (arith, length-map-of v roster ts)) entries l
 
-pub sat-right : (n : ℕ) (ts : List Triple) → wrongSize n ≡ false → wrongCodes rdfs n ts ≡ false → Right rdfs (ownRoster rdfs n ts) (saturation rdfs n ts)
-sat-right n ts w h =
-    let own = ownRoster rdfs n ts in
-    subst (λ (z : ℕ). Right rdfs own (saturation rdfs z ts)) (own-size n ts h) (saturation-right rdfs own ts (own-right n ts w h))
+  -- the own roster passes, and so does the saturation with it
+  pub own-right : (n : ℕ) (ts : List Triple) → wrongSize n ≡ false → wrongWords v n ≡ false → wrongCodes v n ts ≡ false → Right v (ownRoster v n ts) ts
+  own-right n ts w k h =
+      let O = own-roster-least v n ts h in
+      record {
+        size = subst (λ (z : ℕ). wrongSize z ≡ false) (sym (O .size)) w;
+        words = subst (λ (z : ℕ). wrongWords v z ≡ false) (sym (O .size)) k;
+        marks = O .right;
+        codes = subst (λ (z : ℕ). wrongCodes v z ts ≡ false) (sym (O .size)) h;
+        cover = O .covering;
+      }
 
-module _ (queries : List Query) (k : ℕ) (few : k ≤ 16) where
-  pub asked-few : (table m : List ℕ) → length (askedOf table m queries k) ≤ 16
-  unfolding askedOf
-  asked-few table m = omega (arith, length-tabulate (λ i. askOutcome rdfs table m (getD queries i noQuery)) 0 k)
+  pub own-size : (n : ℕ) (ts : List Triple) → wrongCodes v n ts ≡ false → length (ownRoster v n ts) ≡ n
+  own-size n ts h = (own-roster-least v n ts h) .size
 
-  summary-outcome-fits : (roster : List ℕ) (ts : List Triple) → Right rdfs roster ts → length roster ≤ 512 → length ts ≤ 2048 → Fits (summaryOutcome roster ts queries k)
-  unfolding summaryOutcome asksOutcome decided shown
-  summary-outcome-fits roster ts r s h =
-      cond-cases Fits (any isRefused _) (λ e. refused-fits 6 (omega arith))
-      (λ e. summary-fits roster ts r s _ h (asked-few _ _))
+  pub sat-right : (n : ℕ) (ts : List Triple) → wrongSize n ≡ false → wrongWords v n ≡ false → wrongCodes v n ts ≡ false → Right v (ownRoster v n ts) (saturation v n ts)
+  sat-right n ts w k h =
+      let own = ownRoster v n ts in
+      subst (λ (z : ℕ). Right v own (saturation v z ts)) (own-size n ts h) (saturation-right v own ts (own-right n ts w k h))
 
-  site-fits : (n : ℕ) (ts : List Triple) → Fits (siteOutcome n ts queries k)
-  unfolding siteOutcome saturationOutcome decided
-  site-fits n ts =
-      cond-cases Fits (wrongSize n || ltb largestPrinted n) (λ e. refused-fits 1 (omega arith)) (λ e.
-      let w = or-false (wrongSize n) (ltb largestPrinted n) e in
-      cond-cases Fits (wrongCodes rdfs n ts) (λ f. refused-fits 3 (omega arith)) (λ f.
-      cond-cases Fits (ltb printerSlots (length (saturation rdfs n ts))) (λ g. refused-fits 5 (omega arith)) (λ g.
-      summary-outcome-fits (ownRoster rdfs n ts) (saturation rdfs n ts) (sat-right n ts (w .0) f)
-      (omega (arith, own-size n ts f, ltb-false largestPrinted n (w .1))) (ltb-false printerSlots (length (saturation rdfs n ts)) g))))
+  module _ (queries : List Query) (k : ℕ) (few : k ≤ 16) where
+    pub asked-few : (table m : List ℕ) → length (askedOf v table m queries k) ≤ 16
+    unfolding askedOf
+    asked-few table m = omega (arith, length-tabulate (λ i. askOutcome v table m (getD queries i noQuery)) 0 k)
+
+    summary-outcome-fits : (roster : List ℕ) (ts : List Triple) → Right v roster ts → length roster ≤ 512 → length ts ≤ 2048 → Fits (summaryOutcome v roster ts queries k)
+    unfolding summaryOutcome asksOutcome decided shown
+    summary-outcome-fits roster ts r s h =
+        cond-cases Fits (any isRefused _) (λ e. refused-fits 6 (omega arith))
+        (λ e. summary-fits roster ts r s _ h (asked-few _ _))
+
+    site-fits : (n : ℕ) (ts : List Triple) → Fits (siteOutcome v n ts queries k)
+    unfolding siteOutcome saturationOutcome decided
+    site-fits n ts =
+        cond-cases Fits (wrongSize n || ltb largestPrinted n) (λ e. refused-fits 1 (omega arith)) (λ e.
+        let w = or-false (wrongSize n) (ltb largestPrinted n) e in
+        cond-cases Fits (wrongWords v n) (λ y. refused-fits 10 (omega arith)) (λ y.
+        cond-cases Fits (wrongCodes v n ts) (λ f. refused-fits 3 (omega arith)) (λ f.
+        cond-cases Fits (ltb printerSlots (length (saturation v n ts))) (λ g. refused-fits 5 (omega arith)) (λ g.
+        summary-outcome-fits (ownRoster v n ts) (saturation v n ts) (sat-right n ts (w .0) y f)
+        (omega (arith, own-size n ts f, ltb-false largestPrinted n (w .1))) (ltb-false printerSlots (length (saturation v n ts)) g)))))
 
 -- what is printed of forms, with the queries answers they were read
-pub forms-are : (f : Forms) → printForms f ≡ siteOutcome (f .size) (f .triples) (queriesOf (f .asks)) (length (f .asks))
+pub forms-are : (f : Forms) → printForms f ≡ siteOutcome (loaded (f .words)) (f .size) (f .triples) (queriesOf (f .asks)) (length (f .asks))
 unfolding printForms printChecked siteOutcome saturationOutcome summaryOutcome asksOutcome decided
 forms-are f =
-    let own = ownRoster rdfs (f .size) (f .triples) in
-    let sat = saturation rdfs (f .size) (f .triples) in
+    let v = loaded (f .words) in
+    let own = ownRoster v (f .size) (f .triples) in
+    let sat = saturation v (f .size) (f .triples) in
     ap
     (λ (answers : List (Outcome Bool)).
     cond (wrongSize (f .size) || ltb largestPrinted (f .size)) (refused 1)
-    (cond (wrongCodes rdfs (f .size) (f .triples)) (refused 3)
+    (cond (wrongWords v (f .size)) (refused 10)
+    (cond (wrongCodes v (f .size) (f .triples)) (refused 3)
     (cond (ltb printerSlots (length sat)) (refused 5)
-    (cond (any isRefused answers) (refused 6) (accepted (report (summary rdfs own sat) (mapOf rdfs own sat) answers))))))
-    (asked-are (summary rdfs own sat) (mapOf rdfs own sat) (f .asks))
+    (cond (any isRefused answers) (refused 6) (accepted (report (summary v own sat) (mapOf v own sat) answers)))))))
+    (asked-are v (summary v own sat) (mapOf v own sat) (f .asks))
 
 read-fits : (text : List ℕ) (o : Option Forms) → readForms text ≡ o → Fits (printRead o)
 read-fits text none e = refused-fits 8 (omega arith)
 read-fits text (some f) e =
-    subst Fits (sym (forms-are f)) (site-fits (queriesOf (f .asks)) (length (f .asks)) ((read-says text f e) .few-asks) (f .size) (f .triples))
+    subst Fits (sym (forms-are f)) (site-fits (loaded (f .words)) (queriesOf (f .asks)) (length (f .asks)) ((read-says text f e) .few-asks) (f .size) (f .triples))
 
 -- its list is always long enough
 pub printed-fits : (text : List ℕ) → length (printed text) ≤ 49152

@@ -11,12 +11,13 @@ use lib.ListN.{length, take}
 use lib.Seq.{take-append-seam, length-take-le}
 use borrow.Author.Tests.{eq-eqb, lt-ltb, le-ltb, ltb-false, ltb-true}
 use Rattle.model.specs.declared.Refusal.{Refusal}
-use Rattle.model.specs.declared.Refusal.the-variants.{Length, Code, Slots}
+use Rattle.model.specs.declared.Refusal.the-variants.{Length, Words, Code, Slots}
 use Rattle.model.specs.declared.Counted.{Counted}
 use Rattle.model.specs.declared.Counted.the-variants.{Count, Refused as counted-refused}
 use Rattle.model.specs.declared.Done.{Done}
 use Rattle.model.specs.declared.Triple.{Triple}
-use Rattle.model.specs.Codes.{rdfs, mostTriples}
+use Rattle.model.specs.declared.Vocabulary.{Vocabulary}
+use Rattle.model.specs.Codes.{wrongWords, mostTriples}
 use Rattle.model.specs.Lists.{padded}
 use Rattle.model.specs.Triples.{triples, flat, slots, listed}
 use Rattle.model.specs.Roster.{ownRoster, wrongCodes}
@@ -56,220 +57,225 @@ pub same-value : {A : Type 0} (x y : A) → _≡_ {A = Outcome A} (accepted x) (
 unfolding decided
 same-value x y e = passed-all x y e
 
-flat-accepted : (table roster : List ℕ) → Right rdfs roster (triples table) → length table % 3 ≡ 0 → length table ≤ 6144 → Accepted rdfs table roster
-flat-accepted table roster R m l =
-    subst (λ (t : List ℕ). Accepted rdfs t roster) (flat-triples table m) (right-accepted rdfs roster (triples table) R (omega (arith, length-triples table)))
+module _ (words : Vocabulary) where
+  flat-accepted : (table roster : List ℕ) → Right words roster (triples table) → length table % 3 ≡ 0 → length table ≤ 6144 → Accepted words table roster
+  flat-accepted table roster R m l =
+      subst (λ (t : List ℕ). Accepted words t roster) (flat-triples table m) (right-accepted words roster (triples table) R (omega (arith, length-triples table)))
 
--- ── summarise ──
-module _ (table roster result map work : List ℕ) (W : Whole table roster) (hr : length result ≡ 6144) (hm : length map ≡ length roster) (hw : length work ≡ 2 * length roster) where
-  abbrev sum : List Triple
-  sum = summary rdfs roster (triples table)
+  -- ── summarise ──
+  module _ (table roster result map work : List ℕ) (W : Whole words table roster) (hr : length result ≡ 6144) (hm : length map ≡ length roster) (hw : length work ≡ 2 * length roster) where
+    abbrev sum : List Triple
+    sum = summary words roster (triples table)
 
-  abbrev lengths : Bool
-  lengths = not (eqb (length map) (length roster)) || wrongWork (length roster) (length work)
+    abbrev lengths : Bool
+    lengths = not (eqb (length map) (length roster)) || wrongWork (length roster) (length work)
 
-  lengths-right : lengths ≡ false
-  unfolding wrongWork
-  lengths-right = or-neither (not (eqb (length map) (length roster))) _ (ap not (eq-eqb _ _ hm)) (ap not (eq-eqb _ _ hw))
+    lengths-right : lengths ≡ false
+    unfolding wrongWork
+    lengths-right = or-neither (not (eqb (length map) (length roster))) _ (ap not (eq-eqb _ _ hm)) (ap not (eq-eqb _ _ hw))
 
-  passes : Passes (tableChecks rdfs lengths table roster)
-  passes = subst (λ (b : Bool). Passes (tableChecks rdfs b table roster)) (sym lengths-right) (flat-accepted table roster (W .right) (W .flat) (W .slots))
+    passes : Passes (tableChecks words lengths table roster)
+    passes = subst (λ (b : Bool). Passes (tableChecks words b table roster)) (sym lengths-right) (flat-accepted table roster (W .right) (W .flat) (W .slots))
 
-  few : length (triples table) ≤ 2048
-  few = omega (arith, length-triples table, W .slots)
+    few : length (triples table) ≤ 2048
+    few = omega (arith, length-triples table, W .slots)
 
-  outcome : summariseOutcome rdfs table roster result map work ≡ accepted (length sum)
-  unfolding summariseOutcome slots
-  outcome =
-      let f = few in
-      enough (tableChecks rdfs lengths table roster) (length result / 3) (length sum) passes (omega (arith, summary-length rdfs roster (triples table)))
+    outcome : summariseOutcome words table roster result map work ≡ accepted (length sum)
+    unfolding summariseOutcome slots
+    outcome =
+        let f = few in
+        enough (tableChecks words lengths table roster) (length result / 3) (length sum) passes (omega (arith, summary-length words roster (triples table)))
 
-  module _ (r : Counted) (result′ map′ work′ : List ℕ) (S : SummariseCall table roster result map work r result′ map′ work′) where
-    pub never-refused : (x : Refusal) → r ≡ counted-refused x → ⊥
-    unfolding counted
-    never-refused x e = not-accepted (sym (ap counted e) ∙ S .answer ∙ outcome)
-
-    result-is : result′ ≡ listed (length result) sum
-    unfolding summariseLeaves
-    result-is = ap (λ (s : Summarised rdfs). s .result) (S .leaves) ∙ left-after _ _ _ _ outcome
-
-    map-is : map′ ≡ mapOf rdfs roster (triples table)
-    unfolding summariseLeaves
-    map-is = ap (λ (s : Summarised rdfs). s .map) (S .leaves) ∙ left-after _ _ _ _ outcome
-
-    module _ (k : ℕ) (e : r ≡ Count k) where
-      count-is : length sum ≡ k
+    module _ (r : Counted) (result′ map′ work′ : List ℕ) (S : SummariseCall words table roster result map work r result′ map′ work′) where
+      pub never-refused : (x : Refusal) → r ≡ counted-refused x → ⊥
       unfolding counted
-      count-is = same-value _ _ (sym outcome ∙ sym (S .answer) ∙ ap counted e)
+      never-refused x e = not-accepted (sym (ap counted e) ∙ S .answer ∙ outcome)
 
-      pub sum-few : 3 * k ≤ 6144
-      sum-few = let f = few in omega (arith, count-is, summary-length rdfs roster (triples table))
+      result-is : result′ ≡ listed (length result) sum
+      unfolding summariseLeaves
+      result-is = ap (λ (s : Summarised words). s .result) (S .leaves) ∙ left-after _ _ _ _ outcome
 
-      pub sum-end : 3 * k ≤ length result′
-      sum-end =
-          let f = sum-few in
-          let l : length result′ ≡ length result = ap length result-is ∙ length-listed (length result) sum (omega (arith, count-is)) in
-          omega arith
+      map-is : map′ ≡ mapOf words roster (triples table)
+      unfolding summariseLeaves
+      map-is = ap (λ (s : Summarised words). s .map) (S .leaves) ∙ left-after _ _ _ _ outcome
 
-      part-is : take (3 * k - 0) result′ ≡ flat sum
-      part-is = ap (take (3 * k - 0)) result-is ∙ front (length result) sum k count-is
+      module _ (k : ℕ) (e : r ≡ Count k) where
+        count-is : length sum ≡ k
+        unfolding counted
+        count-is = same-value _ _ (sym outcome ∙ sym (S .answer) ∙ ap counted e)
 
-      pub sum-table : length (take (3 * k - 0) result′) ≤ 6144
-      sum-table = let l : length (take (3 * k - 0) result′) ≡ length (flat sum) = ap length part-is in omega (arith, length-flat sum, count-is, sum-few)
+        pub sum-few : 3 * k ≤ 6144
+        sum-few = let f = few in omega (arith, count-is, summary-length words roster (triples table))
 
-      pub sum-map : length map′ ≤ 512
-      sum-map = let l : length map′ ≡ length (mapOf rdfs roster (triples table)) = ap length map-is in omega (arith, length-map-of rdfs roster (triples table), W .size)
+        pub sum-end : 3 * k ≤ length result′
+        sum-end =
+            let f = sum-few in
+            let l : length result′ ≡ length result = ap length result-is ∙ length-listed (length result) sum (omega (arith, count-is)) in
+            omega arith
 
-      triples-are : triples (take (3 * k - 0) result′) ≡ sum
-      triples-are = ap triples part-is ∙ triples-flat sum
+        part-is : take (3 * k - 0) result′ ≡ flat sum
+        part-is = ap (take (3 * k - 0)) result-is ∙ front (length result) sum k count-is
 
-      module _ (queries : List Query) (count : ℕ) (few-asks : count ≤ 16) where
-        pub sum-room : Room 0 (report (triples (take (3 * k - 0) result′)) map′ (askedOf (take (3 * k - 0) result′) map′ queries count))
-        sum-room =
-            let b = summary-fits roster (triples table) (W .right) (W .size) (askedOf (flat sum) (mapOf rdfs roster (triples table)) queries count) few (asked-few queries count few-asks _ _) in
-            room-as 0 (λ i. report (sym triples-are i) (sym map-is i) (askedOf (sym part-is i) (sym map-is i) queries count)) (omega arith)
+        pub sum-table : length (take (3 * k - 0) result′) ≤ 6144
+        sum-table = let l : length (take (3 * k - 0) result′) ≡ length (flat sum) = ap length part-is in omega (arith, length-flat sum, count-is, sum-few)
 
-        pub sum-put : (l out : List ℕ) (x : ℕ) → Put l 0 (shown (asksOutcome (triples (take (3 * k - 0) result′)) map′ (askedOf (take (3 * k - 0) result′) map′ queries count))) out x → Put l 0 (shown (summaryOutcome roster (triples table) queries count)) out x
-        unfolding summaryOutcome
-        sum-put l out x p = shows l _ _ (λ i. asksOutcome (sym triples-are i) (sym map-is i) (askedOf (sym part-is i) (sym map-is i) queries count)) out x p
+        pub sum-map : length map′ ≤ 512
+        sum-map = let l : length map′ ≡ length (mapOf words roster (triples table)) = ap length map-is in omega (arith, length-map-of words roster (triples table), W .size)
 
--- ── saturate ──
-module _ (table roster list : List ℕ) (given : Valid table (length roster)) (hl : length list ≡ 6144) (d : Done) (own : List ℕ) (O : OwnRosterCall table roster d own) where
-  abbrev ts : List Triple
-  ts = triples table
+        triples-are : triples (take (3 * k - 0) result′) ≡ sum
+        triples-are = ap triples part-is ∙ triples-flat sum
 
-  abbrev sat : List Triple
-  sat = saturation rdfs (length roster) ts
+        module _ (queries : List Query) (count : ℕ) (few-asks : count ≤ 16) where
+          pub sum-room : Room 0 (report (triples (take (3 * k - 0) result′)) map′ (askedOf words (take (3 * k - 0) result′) map′ queries count))
+          sum-room =
+              let b = summary-fits words roster (triples table) (W .right) (W .size) (askedOf words (flat sum) (mapOf words roster (triples table)) queries count) few (asked-few words queries count few-asks _ _) in
+              room-as 0 (λ i. report (sym triples-are i) (sym map-is i) (askedOf words (sym part-is i) (sym map-is i) queries count)) (omega arith)
 
-  table-right : wrongLength (length table) ≡ false
-  unfolding wrongLength
-  table-right = or-neither (not (eqb (length table % 3) 0)) _ (ap not (eq-eqb _ _ (given .flat))) (le-ltb (3 * mostTriples) (length table) (omega (arith, given .few)))
+          pub sum-put : (l out : List ℕ) (x : ℕ) → Put l 0 (shown (asksOutcome (triples (take (3 * k - 0) result′)) map′ (askedOf words (take (3 * k - 0) result′) map′ queries count))) out x → Put l 0 (shown (summaryOutcome words roster (triples table) queries count)) out x
+          unfolding summaryOutcome
+          sum-put l out x p = shows l _ _ (λ i. asksOutcome (sym triples-are i) (sym map-is i) (askedOf words (sym part-is i) (sym map-is i) queries count)) out x p
 
-  own-accepted : ownRosterOutcome rdfs table roster ≡ accepted tt
-  unfolding ownRosterOutcome
-  own-accepted = decided-passes _ _ (first-passes _ _ (or-neither (wrongSize (length roster)) _ (given .size) table-right) (first-passes _ _ (given .codes) no-checks))
+  -- ── saturate ──
+  module _ (table roster list : List ℕ) (given : Valid words table (length roster)) (hl : length list ≡ 6144) (d : Done) (own : List ℕ) (O : OwnRosterCall words table roster d own) where
+    abbrev ts : List Triple
+    ts = triples table
 
-  own-is : own ≡ ownRoster rdfs (length roster) ts
-  unfolding ownRosterLeaves
-  own-is = O .leaves ∙ left-after _ _ _ _ own-accepted
+    abbrev sat : List Triple
+    sat = saturation words (length roster) ts
 
-  own-long : length own ≡ length roster
-  own-long = ap length own-is ∙ own-size (length roster) ts (given .codes)
+    table-right : wrongLength (length table) ≡ false
+    unfolding wrongLength
+    table-right = or-neither (not (eqb (length table % 3) 0)) _ (ap not (eq-eqb _ _ (given .flat))) (le-ltb (3 * mostTriples) (length table) (omega (arith, given .few)))
 
-  own-passes : Accepted rdfs table own
-  own-passes = flat-accepted table own (subst (λ (z : List ℕ). Right rdfs z ts) (sym own-is) (own-right (length roster) ts (given .size) (given .codes))) (given .flat) (omega (arith, given .few))
+    own-accepted : ownRosterOutcome words table roster ≡ accepted tt
+    unfolding ownRosterOutcome
+    own-accepted = decided-passes _ _ (first-passes _ _ (or-neither (wrongSize (length roster)) _ (given .size) table-right) (first-passes _ _ (given .words) (first-passes _ _ (given .codes) no-checks)))
 
-  sat-as : saturated rdfs table own ≡ sat
-  unfolding saturated
-  sat-as = ap (λ (z : ℕ). saturation rdfs z ts) own-long
+    own-is : own ≡ ownRoster words (length roster) ts
+    unfolding ownRosterLeaves
+    own-is = O .leaves ∙ left-after _ _ _ _ own-accepted
 
-  sat-count : length (saturated rdfs table own) ≡ length sat
-  sat-count = ap {B = ℕ} (λ (x : List Triple). length x) sat-as
+    own-long : length own ≡ length roster
+    own-long = ap length own-is ∙ own-size words (length roster) ts (given .codes)
 
-  over : 2048 < length sat → saturateOutcome rdfs table own list ≡ refused 5
-  unfolding saturateOutcome slots
-  over h = let c = sat-count in too-few (tableChecks rdfs false table own) (length list / 3) _ own-passes (omega arith)
+    own-passes : Accepted words table own
+    own-passes = flat-accepted table own (subst (λ (z : List ℕ). Right words z ts) (sym own-is) (own-right words (length roster) ts (given .size) (given .words) (given .codes))) (given .flat) (omega (arith, given .few))
 
-  within : length sat ≤ 2048 → saturateOutcome rdfs table own list ≡ accepted (length (saturated rdfs table own))
-  unfolding saturateOutcome slots
-  within h = let c = sat-count in enough (tableChecks rdfs false table own) (length list / 3) _ own-passes (omega arith)
+    sat-as : saturated words table own ≡ sat
+    unfolding saturated
+    sat-as = ap (λ (z : ℕ). saturation words z ts) own-long
 
-  outcome-is : (queries : List Query) (count : ℕ) (b : Bool) → ltb printerSlots (length sat) ≡ b → saturationOutcome (length roster) ts queries count ≡ cond b (refused 5) (summaryOutcome (ownRoster rdfs (length roster) ts) sat queries count)
-  unfolding saturationOutcome decided
-  outcome-is queries count b e = ap (λ (x : Bool). cond x (refused 5) (summaryOutcome (ownRoster rdfs (length roster) ts) sat queries count)) e
+    sat-count : length (saturated words table own) ≡ length sat
+    sat-count = ap {B = ℕ} (λ (x : List Triple). length x) sat-as
 
-  module _ (r : Counted) (list′ : List ℕ) (S : (counted r ≡ saturateOutcome rdfs table own list) × (list′ ≡ saturateLeaves rdfs table own list)) where
-    pub sat-refused : (x : Refusal) → r ≡ counted-refused x → (queries : List Query) (count : ℕ) → saturationOutcome (length roster) ts queries count ≡ refused (number Slots)
-    unfolding counted number
-    sat-refused x e queries count =
-        ⊎-elim
-        (λ t. outcome-is queries count true t)
-        (λ f. absurd (not-accepted (sym (ap counted e) ∙ S .0 ∙ within (ltb-false printerSlots (length sat) f))))
-        (bool-cases (ltb printerSlots (length sat)))
+    over : 2048 < length sat → saturateOutcome words table own list ≡ refused 5
+    unfolding saturateOutcome slots
+    over h = let c = sat-count in too-few (tableChecks words false table own) (length list / 3) _ own-passes (omega arith)
 
-    module _ (k : ℕ) (e : r ≡ Count k) where
-      fits : ltb printerSlots (length sat) ≡ false
-      unfolding counted
-      fits =
+    within : length sat ≤ 2048 → saturateOutcome words table own list ≡ accepted (length (saturated words table own))
+    unfolding saturateOutcome slots
+    within h = let c = sat-count in enough (tableChecks words false table own) (length list / 3) _ own-passes (omega arith)
+
+    outcome-is : (queries : List Query) (count : ℕ) (b : Bool) → ltb printerSlots (length sat) ≡ b → saturationOutcome words (length roster) ts queries count ≡ cond b (refused 5) (summaryOutcome words (ownRoster words (length roster) ts) sat queries count)
+    unfolding saturationOutcome decided
+    outcome-is queries count b e = ap (λ (x : Bool). cond x (refused 5) (summaryOutcome words (ownRoster words (length roster) ts) sat queries count)) e
+
+    module _ (r : Counted) (list′ : List ℕ) (S : (counted r ≡ saturateOutcome words table own list) × (list′ ≡ saturateLeaves words table own list)) where
+      pub sat-refused : (x : Refusal) → r ≡ counted-refused x → (queries : List Query) (count : ℕ) → saturationOutcome words (length roster) ts queries count ≡ refused (number Slots)
+      unfolding counted number
+      sat-refused x e queries count =
           ⊎-elim
-          (λ t. absurd (not-accepted (sym (over (ltb-true printerSlots (length sat) t)) ∙ sym (S .0) ∙ ap counted e)))
-          (λ f. f)
+          (λ t. outcome-is queries count true t)
+          (λ f. absurd (not-accepted (sym (ap counted e) ∙ S .0 ∙ within (ltb-false printerSlots (length sat) f))))
           (bool-cases (ltb printerSlots (length sat)))
 
-      few-sat : length sat ≤ 2048
-      few-sat = ltb-false printerSlots (length sat) fits
+      module _ (k : ℕ) (e : r ≡ Count k) where
+        fits : ltb printerSlots (length sat) ≡ false
+        unfolding counted
+        fits =
+            ⊎-elim
+            (λ t. absurd (not-accepted (sym (over (ltb-true printerSlots (length sat) t)) ∙ sym (S .0) ∙ ap counted e)))
+            (λ f. f)
+            (bool-cases (ltb printerSlots (length sat)))
 
-      count-sat : length sat ≡ k
-      unfolding counted
-      count-sat = sym sat-count ∙ same-value _ _ (sym (within few-sat) ∙ sym (S .0) ∙ ap counted e)
+        few-sat : length sat ≤ 2048
+        few-sat = ltb-false printerSlots (length sat) fits
 
-      list-is : list′ ≡ listed (length list) sat
-      unfolding saturateLeaves
-      list-is = S .1 ∙ left-after _ _ _ _ (within few-sat) ∙ ap (listed (length list)) sat-as
+        count-sat : length sat ≡ k
+        unfolding counted
+        count-sat = sym sat-count ∙ same-value _ _ (sym (within few-sat) ∙ sym (S .0) ∙ ap counted e)
 
-      pub sat-few : 3 * k ≤ 6144
-      sat-few = omega (arith, count-sat, few-sat)
+        list-is : list′ ≡ listed (length list) sat
+        unfolding saturateLeaves
+        list-is = S .1 ∙ left-after _ _ _ _ (within few-sat) ∙ ap (listed (length list)) sat-as
 
-      pub sat-end : 3 * k ≤ length list′
-      sat-end =
-          let f = sat-few in
-          let l : length list′ ≡ length list = ap length list-is ∙ length-listed (length list) sat (omega (arith, count-sat)) in
-          omega arith
+        pub sat-few : 3 * k ≤ 6144
+        sat-few = omega (arith, count-sat, few-sat)
 
-      sat-part : take (3 * k - 0) list′ ≡ flat sat
-      sat-part = ap (take (3 * k - 0)) list-is ∙ front (length list) sat k count-sat
+        pub sat-end : 3 * k ≤ length list′
+        sat-end =
+            let f = sat-few in
+            let l : length list′ ≡ length list = ap length list-is ∙ length-listed (length list) sat (omega (arith, count-sat)) in
+            omega arith
 
-      sat-triples : triples (take (3 * k - 0) list′) ≡ sat
-      sat-triples = ap triples sat-part ∙ triples-flat sat
+        sat-part : take (3 * k - 0) list′ ≡ flat sat
+        sat-part = ap (take (3 * k - 0)) list-is ∙ front (length list) sat k count-sat
 
-      pub sat-whole : Whole (take (3 * k - 0) list′) own
-      sat-whole =
-          let l : length (take (3 * k - 0) list′) ≡ length (flat sat) = ap length sat-part in
-          let m = length-flat sat in
-          let c = count-sat in
-          let f = sat-few in
-          let o = own-long in
-          record {
-            right = subst (λ (z : List ℕ). Right rdfs z (triples (take (3 * k - 0) list′))) (sym own-is) (subst (λ (z : List Triple). Right rdfs (ownRoster rdfs (length roster) ts) z) (sym sat-triples) (sat-right (length roster) ts (given .size) (given .codes)));
-            flat = omega arith;
-            slots = omega arith;
-            size = omega (arith, given .printed);
-          }
+        sat-triples : triples (take (3 * k - 0) list′) ≡ sat
+        sat-triples = ap triples sat-part ∙ triples-flat sat
 
-      pub sat-put : (queries : List Query) (count : ℕ) (l out : List ℕ) (x : ℕ) → Put l 0 (shown (summaryOutcome own (triples (take (3 * k - 0) list′)) queries count)) out x → Put l 0 (shown (saturationOutcome (length roster) ts queries count)) out x
-      sat-put queries count l out x p =
-          shows l _ _ (outcome-is queries count false fits ∙ (λ i. summaryOutcome (sym own-is i) (sym sat-triples i) queries count)) out x p
+        pub sat-whole : Whole words (take (3 * k - 0) list′) own
+        sat-whole =
+            let l : length (take (3 * k - 0) list′) ≡ length (flat sat) = ap length sat-part in
+            let m = length-flat sat in
+            let c = count-sat in
+            let f = sat-few in
+            let o = own-long in
+            record {
+              right = subst (λ (z : List ℕ). Right words z (triples (take (3 * k - 0) list′))) (sym own-is) (subst (λ (z : List Triple). Right words (ownRoster words (length roster) ts) z) (sym sat-triples) (sat-right words (length roster) ts (given .size) (given .words) (given .codes)));
+              flat = omega arith;
+              slots = omega arith;
+              size = omega (arith, given .printed);
+            }
 
-pub valid-as : (table : List ℕ) (n k : ℕ) → k ≡ n → Valid table n → Valid table k
-valid-as table n k e v = subst (Valid table) (sym e) v
+        pub sat-put : (queries : List Query) (count : ℕ) (l out : List ℕ) (x : ℕ) → Put l 0 (shown (summaryOutcome words own (triples (take (3 * k - 0) list′)) queries count)) out x → Put l 0 (shown (saturationOutcome words (length roster) ts queries count)) out x
+        sat-put queries count l out x p =
+            shows l _ _ (outcome-is queries count false fits ∙ (λ i. summaryOutcome words (sym own-is i) (sym sat-triples i) queries count)) out x p
 
-pub sat-as-put : (n k : ℕ) → k ≡ n → (ts : List Triple) (queries : List Query) (count : ℕ) (l out : List ℕ) (x : ℕ) → Put l 0 (shown (saturationOutcome k ts queries count)) out x → Put l 0 (shown (saturationOutcome n ts queries count)) out x
-sat-as-put n k e ts queries count l out x p = shows l _ _ (ap (λ (z : ℕ). saturationOutcome z ts queries count) (sym e)) out x p
+  pub valid-as : (table : List ℕ) (n k : ℕ) → k ≡ n → Valid words table n → Valid words table k
+  valid-as table n k e g = subst (Valid words table) (sym e) g
 
--- ── the checks 1 and 3 ──
-module _ (size n : ℕ) (e : n ≡ size) (table : List ℕ) (queries : List Query) (count : ℕ) where
-  site-is : (a b : Bool) → (wrongSize n || ltb largestPrinted n) ≡ a → wrongCodes rdfs n (triples table) ≡ b → siteOutcome size (triples table) queries count ≡ cond a (refused 1) (cond b (refused 3) (saturationOutcome n (triples table) queries count))
-  unfolding siteOutcome decided
-  site-is a b p q = ap (λ (z : ℕ). siteOutcome z (triples table) queries count) (sym e) ∙ (λ i. cond (p i) (refused 1) (cond (q i) (refused 3) (saturationOutcome n (triples table) queries count)))
+  pub sat-as-put : (n k : ℕ) → k ≡ n → (ts : List Triple) (queries : List Query) (count : ℕ) (l out : List ℕ) (x : ℕ) → Put l 0 (shown (saturationOutcome words k ts queries count)) out x → Put l 0 (shown (saturationOutcome words n ts queries count)) out x
+  sat-as-put n k e ts queries count l out x p = shows l _ _ (ap (λ (z : ℕ). saturationOutcome words z ts queries count) (sym e)) out x p
 
-  pub site-small : wrongSize n ≡ true → siteOutcome size (triples table) queries count ≡ refused (number Length)
-  unfolding number
-  site-small p = site-is true _ (or-left (wrongSize n) _ p) refl
+  -- ── the checks 1, 10 and 3 ──
+  module _ (size n : ℕ) (e : n ≡ size) (table : List ℕ) (queries : List Query) (count : ℕ) where
+    site-is : (a k b : Bool) → (wrongSize n || ltb largestPrinted n) ≡ a → wrongWords words n ≡ k → wrongCodes words n (triples table) ≡ b → siteOutcome words size (triples table) queries count ≡ cond a (refused 1) (cond k (refused 10) (cond b (refused 3) (saturationOutcome words n (triples table) queries count)))
+    unfolding siteOutcome decided
+    site-is a k b p y q = ap (λ (z : ℕ). siteOutcome words z (triples table) queries count) (sym e) ∙ (λ i. cond (p i) (refused 1) (cond (y i) (refused 10) (cond (q i) (refused 3) (saturationOutcome words n (triples table) queries count))))
 
-  pub site-large : 512 < n → siteOutcome size (triples table) queries count ≡ refused (number Length)
-  unfolding number
-  site-large p = site-is true _ (or-right (wrongSize n) _ (lt-ltb largestPrinted n p)) refl
-
-  module _ (s : wrongSize n ≡ false) (l : n ≤ 512) where
-    right-size : (wrongSize n || ltb largestPrinted n) ≡ false
-    right-size = or-neither (wrongSize n) _ s (le-ltb largestPrinted n l)
-
-    pub site-codes : wrongCodes rdfs n (triples table) ≡ true → siteOutcome size (triples table) queries count ≡ refused (number Code)
+    pub site-small : wrongSize n ≡ true → siteOutcome words size (triples table) queries count ≡ refused (number Length)
     unfolding number
-    site-codes q = site-is false true right-size q
+    site-small p = site-is true _ _ (or-left (wrongSize n) _ p) refl refl
 
-    pub site-valid : wrongCodes rdfs n (triples table) ≡ false → siteOutcome size (triples table) queries count ≡ saturationOutcome n (triples table) queries count
-    site-valid q = site-is false false right-size q
+    pub site-large : 512 < n → siteOutcome words size (triples table) queries count ≡ refused (number Length)
+    unfolding number
+    site-large p = site-is true _ _ (or-right (wrongSize n) _ (lt-ltb largestPrinted n p)) refl refl
 
-    pub is-valid : wrongCodes rdfs n (triples table) ≡ false → length table % 3 ≡ 0 → length table ≤ 3000 → Valid table n
-    is-valid q m f = record { size = s; printed = l; codes = q; flat = m; few = f }
+    module _ (s : wrongSize n ≡ false) (l : n ≤ 512) where
+      right-size : (wrongSize n || ltb largestPrinted n) ≡ false
+      right-size = or-neither (wrongSize n) _ s (le-ltb largestPrinted n l)
+
+      pub site-words : wrongWords words n ≡ true → siteOutcome words size (triples table) queries count ≡ refused (number Words)
+      unfolding number
+      site-words y = site-is false true _ right-size y refl
+
+      pub site-codes : wrongWords words n ≡ false → wrongCodes words n (triples table) ≡ true → siteOutcome words size (triples table) queries count ≡ refused (number Code)
+      unfolding number
+      site-codes y q = site-is false false true right-size y q
+
+      pub site-valid : wrongWords words n ≡ false → wrongCodes words n (triples table) ≡ false → siteOutcome words size (triples table) queries count ≡ saturationOutcome words n (triples table) queries count
+      site-valid y q = site-is false false false right-size y q
+
+      pub is-valid : wrongWords words n ≡ false → wrongCodes words n (triples table) ≡ false → length table % 3 ≡ 0 → length table ≤ 3000 → Valid words table n
+      is-valid y q m f = record { size = s; printed = l; words = y; codes = q; flat = m; few = f }

@@ -123,12 +123,12 @@ module _ (text list : List ℕ) (size : length list ≡ 3000) (short : length te
     pub asks-few : r .site .asks ≤ 16
     asks-few = omega (arith, asks-are, (read-says text f (taken .1 .says)) .few-asks)
 
-    printed-as : printed text ≡ shown (siteOutcome (r .site .size) (triples part) (r .site .queries) (r .site .asks))
+    printed-as : printed text ≡ shown (siteOutcome (r .site .words) (r .site .size) (triples part) (r .site .queries) (r .site .asks))
     unfolding siteOf
     printed-as =
         printed-is text short (some f) (taken .1 .says)
         ∙ ap shown (forms-are f)
-        ∙ (λ i. shown (siteOutcome (sym (taken .1 .is-site) i .size) (sym (ap triples part-is ∙ triples-flat (f .triples)) i) (sym (taken .1 .is-site) i .queries) (sym (taken .1 .is-site) i .asks)))
+        ∙ (λ i. shown (siteOutcome (sym (taken .1 .is-site) i .words) (sym (taken .1 .is-site) i .size) (sym (ap triples part-is ∙ triples-flat (f .triples)) i) (sym (taken .1 .is-site) i .queries) (sym (taken .1 .is-site) i .asks)))
 
-    pub text-put : (l out : List ℕ) (x : ℕ) → Put l 0 (shown (siteOutcome (r .site .size) (triples part) (r .site .queries) (r .site .asks))) out x → Put l 0 (printed text) out x
+    pub text-put : (l out : List ℕ) (x : ℕ) → Put l 0 (shown (siteOutcome (r .site .words) (r .site .size) (triples part) (r .site .queries) (r .site .asks))) out x → Put l 0 (printed text) out x
     text-put l out x p = put-as 0 printed-as l out x p

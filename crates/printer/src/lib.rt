@@ -16,6 +16,7 @@ use lists::narrow;
 use lists::wide;
 use model::Counted;
 use model::Refusal;
+use model::Vocabulary;
 use model::refusal_number;
 use query::Asked;
 use query::Query;
@@ -145,14 +146,20 @@ fn any_refused(answers: [Asked; 16], count: usize) -> bool
 }
 
 // The answers to the first `count` queries.
-fn ask_all(table: &[u32], map: &[u32], queries: [Query; 16], count: usize) -> [Asked; 16]
+fn ask_all(
+    words: Vocabulary,
+    table: &[u32],
+    map: &[u32],
+    queries: [Query; 16],
+    count: usize,
+) -> [Asked; 16]
     requires { ⌜ count ≤ 16 ⌝ }
-    ensures { λ r. ⌜ answersIn r count ≡ askedOf (now (table .entry)) (now (map .entry)) queries count ⌝ }
+    ensures { λ r. ⌜ answersIn r count ≡ askedOf words (now (table .entry)) (now (map .entry)) queries count ⌝ }
 {
     let mut answers = [Asked::Maybe; 16];
     let mut i = 0;
     while i < count {
-        answers[i] = ask(table, map, queries[i]);
+        answers[i] = ask(words, table, map, queries[i]);
         i += 1;
     }
     answers
@@ -177,16 +184,17 @@ fn put_report(
 
 // Asks the queries of a summary and its map: 6 where one is refused, else the report.
 fn print_answers(
+    words: Vocabulary,
     out: &mut [u8],
     table: &[u32],
     map: &[u32],
     queries: [Query; 16],
     count: usize,
 ) -> usize
-    requires { ⌜ (count ≤ 16) × (length (now table) ≤ 6144) × (length (now map) ≤ 512) × Room 0 (report (triples (now table)) (now map) (askedOf (now table) (now map) queries count)) ⌝ }
-    ensures { λ r. ⌜ Put (now (out .entry)) 0 (shown (asksOutcome (triples (now (table .entry))) (now (map .entry)) (askedOf (now (table .entry)) (now (map .entry)) queries count))) (now (out .exit)) r ⌝ }
+    requires { ⌜ (count ≤ 16) × (length (now table) ≤ 6144) × (length (now map) ≤ 512) × Room 0 (report (triples (now table)) (now map) (askedOf words (now table) (now map) queries count)) ⌝ }
+    ensures { λ r. ⌜ Put (now (out .entry)) 0 (shown (asksOutcome (triples (now (table .entry))) (now (map .entry)) (askedOf words (now (table .entry)) (now (map .entry)) queries count))) (now (out .exit)) r ⌝ }
 {
-    let answers = ask_all(table, map, queries, count);
+    let answers = ask_all(words, table, map, queries, count);
     if any_refused(answers, count) {
         return refuse(out, Refusal::Query);
     }
@@ -195,6 +203,7 @@ fn print_answers(
 
 // Summarises a saturated table into lent lists, then prints.
 fn print_summary(
+    words: Vocabulary,
     out: &mut [u8],
     table: &[u32],
     roster: &[u8],
@@ -204,31 +213,33 @@ fn print_summary(
     queries: [Query; 16],
     count: usize,
 ) -> usize
-    requires { ⌜ (count ≤ 16) × Whole (now table) (now roster) × (length (now result) ≡ 6144) × (length (now map) ≡ length (now roster)) × (length (now work) ≡ 2 * length (now roster)) ⌝ }
-    ensures { λ r. ⌜ Put (now (out .entry)) 0 (shown (summaryOutcome (now (roster .entry)) (triples (now (table .entry))) queries count)) (now (out .exit)) r ⌝ }
+    requires { ⌜ (count ≤ 16) × Whole words (now table) (now roster) × (length (now result) ≡ 6144) × (length (now map) ≡ length (now roster)) × (length (now work) ≡ 2 * length (now roster)) ⌝ }
+    ensures { λ r. ⌜ Put (now (out .entry)) 0 (shown (summaryOutcome words (now (roster .entry)) (triples (now (table .entry))) queries count)) (now (out .exit)) r ⌝ }
 {
-    let Counted::Count(k) = summarise(table, roster, result, map, work) else {
+    let Counted::Count(k) = summarise(words, table, roster, result, map, work) else {
         return refuse(out, Refusal::Slots); // cannot be: the summary has no more triples than the table
     };
-    print_answers(out, &result[0..3 * k], map, queries, count)
+    print_answers(words, out, &result[0..3 * k], map, queries, count)
 }
 
 // Prints the summary of a saturated table.
 fn print_saturated(
+    words: Vocabulary,
     out: &mut [u8],
     table: &[u32],
     roster: &[u8],
     queries: [Query; 16],
     count: usize,
 ) -> usize
-    requires { ⌜ (count ≤ 16) × Whole (now table) (now roster) ⌝ }
-    ensures { λ r. ⌜ Put (now (out .entry)) 0 (shown (summaryOutcome (now (roster .entry)) (triples (now (table .entry))) queries count)) (now (out .exit)) r ⌝ }
+    requires { ⌜ (count ≤ 16) × Whole words (now table) (now roster) ⌝ }
+    ensures { λ r. ⌜ Put (now (out .entry)) 0 (shown (summaryOutcome words (now (roster .entry)) (triples (now (table .entry))) queries count)) (now (out .exit)) r ⌝ }
 {
     let n = roster.len();
     let mut result: [u32; 6144] = [0; 6144];
     let mut map: [u32; 512] = [0; 512];
     let mut work: [u32; 1024] = [0; 1024];
     print_summary(
+        words,
         out,
         table,
         roster,
@@ -242,6 +253,7 @@ fn print_saturated(
 
 // Saturates a table with its own roster in lent lists, then prints.
 fn print_saturation(
+    words: Vocabulary,
     out: &mut [u8],
     table: &[u32],
     roster: &mut [u8],
@@ -249,28 +261,44 @@ fn print_saturation(
     queries: [Query; 16],
     count: usize,
 ) -> usize
-    requires { ⌜ (count ≤ 16) × Valid (now table) (length (now roster)) × (length (now list) ≡ 6144) ⌝ }
-    ensures { λ r. ⌜ Put (now (out .entry)) 0 (shown (saturationOutcome (length (now (roster .entry))) (triples (now (table .entry))) queries count)) (now (out .exit)) r ⌝ }
+    requires { ⌜ (count ≤ 16) × Valid words (now table) (length (now roster)) × (length (now list) ≡ 6144) ⌝ }
+    ensures { λ r. ⌜ Put (now (out .entry)) 0 (shown (saturationOutcome words (length (now (roster .entry))) (triples (now (table .entry))) queries count)) (now (out .exit)) r ⌝ }
 {
-    own_roster(table, roster);
-    let Counted::Count(k) = saturate(table, roster, list) else {
+    own_roster(words, table, roster);
+    let Counted::Count(k) = saturate(words, table, roster, list) else {
         return refuse(out, Refusal::Slots);
     };
-    print_saturated(out, &list[0..3 * k], roster, queries, count)
+    print_saturated(words, out, &list[0..3 * k], roster, queries, count)
 }
 
-// Prints a table that the checks 1 and 3 pass.
-fn print_valid(out: &mut [u8], table: &[u32], n: usize, queries: [Query; 16], count: usize) -> usize
-    requires { ⌜ (count ≤ 16) × Valid (now table) n ⌝ }
-    ensures { λ r. ⌜ Put (now (out .entry)) 0 (shown (saturationOutcome n (triples (now (table .entry))) queries count)) (now (out .exit)) r ⌝ }
+// Prints a table that the checks 1, 10 and 3 pass.
+fn print_valid(
+    words: Vocabulary,
+    out: &mut [u8],
+    table: &[u32],
+    n: usize,
+    queries: [Query; 16],
+    count: usize,
+) -> usize
+    requires { ⌜ (count ≤ 16) × Valid words (now table) n ⌝ }
+    ensures { λ r. ⌜ Put (now (out .entry)) 0 (shown (saturationOutcome words n (triples (now (table .entry))) queries count)) (now (out .exit)) r ⌝ }
 {
     let mut roster: [u8; 512] = [0; 512];
     let mut list: [u32; 6144] = [0; 6144];
-    print_saturation(out, table, &mut roster[0..n], &mut list, queries, count)
+    print_saturation(
+        words,
+        out,
+        table,
+        &mut roster[0..n],
+        &mut list,
+        queries,
+        count,
+    )
 }
 
 // Prints a table as it was read.
 fn print_table(
+    words: Vocabulary,
     out: &mut [u8],
     table: &[u32],
     size: u32,
@@ -278,7 +306,7 @@ fn print_table(
     count: usize,
 ) -> usize
     requires { ⌜ (count ≤ 16) × (length (now table) % 3 ≡ 0) × (length (now table) ≤ 3000) ⌝ }
-    ensures { λ r. ⌜ Put (now (out .entry)) 0 (shown (siteOutcome size (triples (now (table .entry))) queries count)) (now (out .exit)) r ⌝ }
+    ensures { λ r. ⌜ Put (now (out .entry)) 0 (shown (siteOutcome words size (triples (now (table .entry))) queries count)) (now (out .exit)) r ⌝ }
 {
     let n = wide(size);
     if checks::size_wrong(n) {
@@ -287,10 +315,13 @@ fn print_table(
     if LARGEST_PRINTED < n {
         return refuse(out, Refusal::Length);
     }
-    if checks::codes_wrong(table, n) {
+    if checks::words_wrong(words, n) {
+        return refuse(out, Refusal::Words);
+    }
+    if checks::codes_wrong(words, table, n) {
         return refuse(out, Refusal::Code);
     }
-    print_valid(out, table, n, queries, count)
+    print_valid(words, out, table, n, queries, count)
 }
 
 // Stores what the site printer prints of a text; the number of bytes.
@@ -308,6 +339,14 @@ pub fn print_site(text: &[u8], out: &mut [u8]) -> usize
     let Form::Read = form else {
         return refuse(out, Refusal::Form);
     };
+    let words = site.words;
     let queries = site.queries;
-    print_table(out, &list[0..3 * site.count], site.size, queries, site.asks)
+    print_table(
+        words,
+        out,
+        &list[0..3 * site.count],
+        site.size,
+        queries,
+        site.asks,
+    )
 }

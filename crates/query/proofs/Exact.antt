@@ -11,7 +11,8 @@ use lib.ListN.{length, getD, length-replicate, getD-replicate}
 use lib.Dec.{eqb, leb, ltb}
 use borrow.Author.Tests.{ne-eqb, eqb-false, ltb-false, leb-false}
 use Rattle.model.specs.declared.Triple.{Triple}
-use Rattle.model.specs.Codes.{Vocabulary, absent}
+use Rattle.model.specs.declared.Vocabulary.{Vocabulary}
+use Rattle.model.specs.Codes.{wrongWords, absent}
 use Rattle.model.specs.Lists.{any}
 use Rattle.model.specs.Triples.{triples}
 use Rattle.model.specs.Roster.{wrongCodes, wrongTriple, wrongEnd as wrongCode}
@@ -21,6 +22,7 @@ use Rattle.model.specs.Outcomes.{Outcome, accepted, decided, wrongSize, wrongLe
 use Rattle.query.specs.declared.Pattern.{Pattern}
 use Rattle.query.specs.declared.Query.{Query}
 use Rattle.query.specs.declared.Fit.{Fit}
+use Rattle.theory.proofs.Checks.{passes-first}
 use Rattle.query.specs.Ask.{pattern, unbound, fitTriple, tried, search, stepOf, wrongQuery, askChecks, askOutcome}
 use Rattle.query.specs.Match.{NodeOf, put, Choice, Accepted, Exact, AskExact}
 use Rattle.theory.proofs.Tests.{and-left, and-right, neither-left, neither-right, not-true-false}
@@ -92,20 +94,18 @@ some-triple ts map ps (suc left) k b l y = let w = any-found (stepOf ts map ps l
 -- no check of ask fails
 record Passed (v : Vocabulary) (table map : List ℕ) (q : Query) : Type 0 where
   pub lengths : (wrongSize (length map) || wrongLength (length table)) ≡ false
+  pub words : wrongWords v (length map) ≡ false
   pub codes : wrongCodes v (length map) (triples table) ≡ false
   pub query : wrongQuery (length map) q ≡ false
 
 passed : (v : Vocabulary) (table map : List ℕ) (q : Query) → Accepted v table map q → Passed v table map q
-unfolding any askChecks
+unfolding askChecks
 passed v table map q a =
-    let one : Bool = wrongSize (length map) || wrongLength (length table) in
-    let three : Bool = wrongCodes v (length map) (triples table) in
-    let six : Bool = wrongQuery (length map) q in
-    record {
-      lengths = neither-left one (three || (six || false)) a;
-      codes = neither-left three (six || false) (neither-right one (three || (six || false)) a);
-      query = neither-left six false (neither-right three (six || false) (neither-right one (three || (six || false)) a));
-    }
+    let w = passes-first _ _ a in
+    let x = passes-first _ _ (w .1) in
+    let y = passes-first _ _ (x .1) in
+    let z = passes-first _ _ (y .1) in
+    record { lengths = w .0; words = x .0; codes = y .0; query = z .0 }
 
 below : (v : Vocabulary) (n c : ℕ) → wrongCode v n c ≡ false → c < n
 unfolding wrongCode
@@ -132,7 +132,7 @@ module _ (v : Vocabulary) (table map : List ℕ) (q : Query) (a : Passed v table
 
   answered : askOutcome v table map q ≡ accepted answer
   unfolding askOutcome askChecks decided answer ts
-  answered = simp (a .lengths, a .codes, a .query)
+  answered = simp (a .lengths, a .words, a .codes, a .query)
 
   at-start : (w : ℕ) → w < 8 → getD unbound w 0 ≡ absent
   at-start w l = getD-replicate 8 w absent 0 l

@@ -4,7 +4,6 @@ ghost use mathlib.Core.Path.{_≡_};
 ghost use mathlib.Core.Bool.{false};
 ghost use Prim.Native.Nat.{_+_, _-_, _*_, _<_, _≤_};
 ghost use lib.ListN.{length};
-ghost use Rattle.model.specs.Codes.{rdfs};
 ghost use Rattle.model.specs.Lists.{any, tabulate};
 ghost use Rattle.lists.specs.Flat.{at, RisingPart};
 ghost use Rattle.query.specs.Ask.{pattern, fitEnd, wrongEnd, wrongPattern, wrongQuery, asked, askOutcome};
@@ -14,6 +13,7 @@ use lists::lower_bound;
 use lists::rises;
 use model::Refusal;
 use model::Triple;
+use model::Vocabulary;
 
 // An end of a pattern: a variable 0 to 7, or a code.
 pub enum End {
@@ -293,8 +293,8 @@ fn known_rising(table: &[u32], count: u32) -> bool
 }
 
 // Whether some choice of nodes for the variables puts every counted pattern in the table.
-pub fn ask(table: &[u32], map: &[u32], q: Query) -> Asked
-    ensures { λ r. ⌜ asked r ≡ askOutcome rdfs (now (table .entry)) (now (map .entry)) q ⌝ }
+pub fn ask(words: Vocabulary, table: &[u32], map: &[u32], q: Query) -> Asked
+    ensures { λ r. ⌜ asked r ≡ askOutcome words (now (table .entry)) (now (map .entry)) q ⌝ }
 {
     if checks::size_wrong(map.len()) {
         return Asked::Refused(Refusal::Length);
@@ -302,7 +302,10 @@ pub fn ask(table: &[u32], map: &[u32], q: Query) -> Asked
     if checks::length_wrong(table.len()) {
         return Asked::Refused(Refusal::Length);
     }
-    if checks::codes_wrong(table, map.len()) {
+    if checks::words_wrong(words, map.len()) {
+        return Asked::Refused(Refusal::Words);
+    }
+    if checks::codes_wrong(words, table, map.len()) {
         return Asked::Refused(Refusal::Code);
     }
     if query_wrong(q, map.len()) {

@@ -1,10 +1,8 @@
 // Asks the summary and map of the papers' example its two queries, shows each refusal of ask, and asks a large table.
 
-ghost use mathlib.Core.Path.{_≡_};
-ghost use Prim.Native.Nat.{_+_};
-ghost use Rattle.model.specs.Outcomes.{number};
 use libc::STDOUT_FILENO;
-use model::Refusal;
+use model::Vocabulary;
+use model::refusal_number;
 use query::Asked;
 use query::End;
 use query::Pattern;
@@ -56,22 +54,6 @@ const SUMMARY: [u32; 42] = [
     12,
 ];
 
-// The refusal's number as a digit.
-fn digit(r: Refusal) -> u8
-    ensures { λ d. ⌜ d ≡ 48 + number r ⌝ }
-{
-    match r {
-        Refusal::Length => 49,
-        Refusal::Roster => 50,
-        Refusal::Code => 51,
-        Refusal::Cover => 52,
-        Refusal::Slots => 53,
-        Refusal::Query => 54,
-        Refusal::Full => 55,
-        Refusal::Form => 56,
-    }
-}
-
 fn show(a: Asked) {
     match a {
         Asked::Maybe => {
@@ -81,11 +63,21 @@ fn show(a: Asked) {
             io::write_all(STDOUT_FILENO, b"(ask none)\n");
         }
         Asked::Refused(r) => {
-            let d = [digit(r)];
             io::write_all(STDOUT_FILENO, b"(refused ");
-            io::write_all(STDOUT_FILENO, &d);
+            io::print_decimal(STDOUT_FILENO, refusal_number(r) as u64);
             io::write_all(STDOUT_FILENO, b")\n");
         }
+    }
+}
+
+// The reserved codes 0 to 3 and one more.
+fn words(range: u32) -> Vocabulary {
+    Vocabulary {
+        instance: 0,
+        subclass: 1,
+        subproperty: 2,
+        domain: 3,
+        range: range,
     }
 }
 
@@ -109,19 +101,32 @@ fn pair(a: Pattern, b: Pattern, count: u32) -> Query {
 fn example() {
     let a: u32 = 4294967295;
     let map: [u32; 14] = [a, a, a, a, a, 5, 6, 7, 8, 9, 10, 10, 12, 12];
-    show(query::ask(&SUMMARY, &map, pair(vars(0, 5, 1), vars(0, 6, 2), 2)));
-    show(query::ask(&SUMMARY, &map, pair(vars(0, 7, 1), vars(1, 7, 2), 2)));
+    show(query::ask(
+        words(4),
+        &SUMMARY,
+        &map,
+        pair(vars(0, 5, 1), vars(0, 6, 2), 2),
+    ));
+    show(query::ask(
+        words(4),
+        &SUMMARY,
+        &map,
+        pair(vars(0, 7, 1), vars(1, 7, 2), 2),
+    ));
 }
 
-// A map that is too short, a reserved code as an object, a query without patterns.
+// A map that is too short, a word table with a code twice, one with a code that is too large, a reserved code as an object, a query
+// without patterns.
 fn refusals() {
     let four = [0u32; 4];
     let five = [0u32; 5];
     let table = [5u32, 5, 0];
     let q = pair(vars(0, 5, 1), vars(0, 5, 1), 0);
-    show(query::ask(&table, &four, q));
-    show(query::ask(&table, &five, q));
-    show(query::ask(&[], &five, q));
+    show(query::ask(words(4), &table, &four, q));
+    show(query::ask(words(3), &table, &five, q));
+    show(query::ask(words(5), &table, &five, q));
+    show(query::ask(words(4), &table, &five, q));
+    show(query::ask(words(4), &[], &five, q));
 }
 
 // 100,000 triples 5 5 5, of which none has the object 6.
@@ -133,7 +138,7 @@ fn large() {
         property: 5,
         object: End::Code(6),
     };
-    show(query::ask(&table, &map, pair(p, p, 1)));
+    show(query::ask(words(4), &table, &map, pair(p, p, 1)));
 }
 
 fn main() {

@@ -8,7 +8,8 @@ use native.Mathlib.Omega.{arith}
 use lib.Dec.{eqb}
 use borrow.Author.Tests.{eq-eqb, ne-eqb}
 use Rattle.model.specs.declared.Triple.{Triple}
-use Rattle.model.specs.Codes.{rdfs, kind}
+use Rattle.model.specs.declared.Vocabulary.{Vocabulary}
+use Rattle.model.specs.Codes.{kind}
 use Rattle.model.specs.Lists.{all}
 use Rattle.model.specs.Roster.{mark, isClass, isProperty, classRow, propertyRow, classRoles, propertyRoles, coversTriple}
 use Rattle.theory.proofs.Covered.{kind-top}
@@ -58,48 +59,49 @@ both-true a b r e h = h ∙ ap (λ (x : Bool). x && b) (sym e)
 pub both-false : (a b : Bool) → a ≡ false → false ≡ (a && b)
 both-false a b e = ap (λ (x : Bool). x && b) (sym e)
 
-module _ (roster : List ℕ) (t : Triple) where
-  abbrev rows : ℕ → Bool
-  rows k = all (λ c. isClass (mark roster c)) (classRow t k) && all (λ c. isProperty (mark roster c)) (propertyRow t k)
+module _ (v : Vocabulary) where
+  module _ (roster : List ℕ) (t : Triple) where
+    abbrev rows : ℕ → Bool
+    rows k = all (λ c. isClass (mark roster c)) (classRow t k) && all (λ c. isProperty (mark roster c)) (propertyRow t k)
 
-  by-kind : (k : ℕ) → kind rdfs (t .property) ≡ k → coversTriple rdfs roster t ≡ rows k
-  unfolding coversTriple classRoles propertyRoles
-  by-kind k e = ap rows e
+    by-kind : (k : ℕ) → kind v (t .property) ≡ k → coversTriple v roster t ≡ rows k
+    unfolding coversTriple classRoles propertyRoles
+    by-kind k e = ap rows e
 
-  -- type: the object is a class
-  pub covers-type : (k : ℕ) → k ≡ kind rdfs (t .property) → k ≡ 0 → (r : Bool) → r ≡ isClass (mark roster (t .object)) → r ≡ coversTriple rdfs roster t
-  unfolding all
-  covers-type k q e r h = h ∙ sym (by-kind 0 (sym q ∙ e) ∙ last-two (isClass (mark roster (t .object))))
+    -- type: the object is a class
+    pub covers-type : (k : ℕ) → k ≡ kind v (t .property) → k ≡ 0 → (r : Bool) → r ≡ isClass (mark roster (t .object)) → r ≡ coversTriple v roster t
+    unfolding all
+    covers-type k q e r h = h ∙ sym (by-kind 0 (sym q ∙ e) ∙ last-two (isClass (mark roster (t .object))))
 
-  -- subclass: both ends are classes
-  pub covers-subclass : (k : ℕ) → k ≡ kind rdfs (t .property) → k ≡ 1 → (r : Bool) → r ≡ (isClass (mark roster (t .subject)) && isClass (mark roster (t .object))) → r ≡ coversTriple rdfs roster t
-  unfolding all
-  covers-subclass k q e r h = h ∙ sym (by-kind 1 (sym q ∙ e) ∙ pair-first (isClass (mark roster (t .subject))) (isClass (mark roster (t .object))))
+    -- subclass: both ends are classes
+    pub covers-subclass : (k : ℕ) → k ≡ kind v (t .property) → k ≡ 1 → (r : Bool) → r ≡ (isClass (mark roster (t .subject)) && isClass (mark roster (t .object))) → r ≡ coversTriple v roster t
+    unfolding all
+    covers-subclass k q e r h = h ∙ sym (by-kind 1 (sym q ∙ e) ∙ pair-first (isClass (mark roster (t .subject))) (isClass (mark roster (t .object))))
 
-  -- subproperty: both ends are properties
-  pub covers-subproperty : (k : ℕ) → k ≡ kind rdfs (t .property) → k ≡ 2 → (r : Bool) → r ≡ (isProperty (mark roster (t .subject)) && isProperty (mark roster (t .object))) → r ≡ coversTriple rdfs roster t
-  unfolding all
-  covers-subproperty k q e r h = h ∙ sym (by-kind 2 (sym q ∙ e) ∙ pair-last (isProperty (mark roster (t .subject))) (isProperty (mark roster (t .object))))
+    -- subproperty: both ends are properties
+    pub covers-subproperty : (k : ℕ) → k ≡ kind v (t .property) → k ≡ 2 → (r : Bool) → r ≡ (isProperty (mark roster (t .subject)) && isProperty (mark roster (t .object))) → r ≡ coversTriple v roster t
+    unfolding all
+    covers-subproperty k q e r h = h ∙ sym (by-kind 2 (sym q ∙ e) ∙ pair-last (isProperty (mark roster (t .subject))) (isProperty (mark roster (t .object))))
 
-  -- data: the property is marked
-  pub covers-data : (k : ℕ) → k ≡ kind rdfs (t .property) → k ≡ 5 → (r : Bool) → r ≡ isProperty (mark roster (t .property)) → r ≡ coversTriple rdfs roster t
-  unfolding all
-  covers-data k q e r h = h ∙ sym (by-kind 5 (sym q ∙ e) ∙ last-one (isProperty (mark roster (t .property))))
+    -- data: the property is marked
+    pub covers-data : (k : ℕ) → k ≡ kind v (t .property) → k ≡ 5 → (r : Bool) → r ≡ isProperty (mark roster (t .property)) → r ≡ coversTriple v roster t
+    unfolding all
+    covers-data k q e r h = h ∙ sym (by-kind 5 (sym q ∙ e) ∙ last-one (isProperty (mark roster (t .property))))
 
-  -- domain and range: the object is a class, the subject a property
-  rest-kind : (k : ℕ) → k ≤ 5 → (k ≡ 5 → ⊥) → (k ≡ 0 → ⊥) → (k ≡ 1 → ⊥) → (k ≡ 2 → ⊥)
-      → rows k ≡ ((isClass (mark roster (t .object)) && true) && (isProperty (mark roster (t .subject)) && true))
-  unfolding all
-  rest-kind zero u e a b d = absurd (a refl)
-  rest-kind (suc zero) u e a b d = absurd (b refl)
-  rest-kind (suc (suc zero)) u e a b d = absurd (d refl)
-  rest-kind (suc (suc (suc zero))) u e a b d = refl
-  rest-kind (suc (suc (suc (suc zero)))) u e a b d = refl
-  rest-kind (suc (suc (suc (suc (suc zero))))) u e a b d = absurd (e refl)
-  rest-kind (suc (suc (suc (suc (suc (suc k)))))) u e a b d = absurd (omega arith)
+    -- domain and range: the object is a class, the subject a property
+    rest-kind : (k : ℕ) → k ≤ 5 → (k ≡ 5 → ⊥) → (k ≡ 0 → ⊥) → (k ≡ 1 → ⊥) → (k ≡ 2 → ⊥)
+        → rows k ≡ ((isClass (mark roster (t .object)) && true) && (isProperty (mark roster (t .subject)) && true))
+    unfolding all
+    rest-kind zero u e a b d = absurd (a refl)
+    rest-kind (suc zero) u e a b d = absurd (b refl)
+    rest-kind (suc (suc zero)) u e a b d = absurd (d refl)
+    rest-kind (suc (suc (suc zero))) u e a b d = refl
+    rest-kind (suc (suc (suc (suc zero)))) u e a b d = refl
+    rest-kind (suc (suc (suc (suc (suc zero))))) u e a b d = absurd (e refl)
+    rest-kind (suc (suc (suc (suc (suc (suc k)))))) u e a b d = absurd (omega arith)
 
-  pub covers-rest : (k : ℕ) → k ≡ kind rdfs (t .property) → (k ≡ 5 → ⊥) → (k ≡ 0 → ⊥) → (k ≡ 1 → ⊥) → (k ≡ 2 → ⊥) → (r : Bool)
-      → r ≡ (isClass (mark roster (t .object)) && isProperty (mark roster (t .subject))) → r ≡ coversTriple rdfs roster t
-  covers-rest k q e a b d r h =
-      let u = kind-top rdfs (t .property) in
-      h ∙ sym (by-kind k (sym q) ∙ rest-kind k (omega arith) e a b d ∙ pair-both (isClass (mark roster (t .object))) (isProperty (mark roster (t .subject))))
+    pub covers-rest : (k : ℕ) → k ≡ kind v (t .property) → (k ≡ 5 → ⊥) → (k ≡ 0 → ⊥) → (k ≡ 1 → ⊥) → (k ≡ 2 → ⊥) → (r : Bool)
+        → r ≡ (isClass (mark roster (t .object)) && isProperty (mark roster (t .subject))) → r ≡ coversTriple v roster t
+    covers-rest k q e a b d r h =
+        let u = kind-top v (t .property) in
+        h ∙ sym (by-kind k (sym q) ∙ rest-kind k (omega arith) e a b d ∙ pair-both (isClass (mark roster (t .object))) (isProperty (mark roster (t .subject))))

@@ -13,7 +13,8 @@ use lib.ListN.{length, getD, set, length-set, replicate, length-replicate, getD-
 use lib.Seq.{getD-set-same, getD-set-other, ext-getD}
 use borrow.Author.Tests.{eq-eqb, ne-eqb, eqb-true, eqb-false}
 use Rattle.model.specs.declared.Triple.{Triple}
-use Rattle.model.specs.Codes.{rdfs, kind}
+use Rattle.model.specs.declared.Vocabulary.{Vocabulary}
+use Rattle.model.specs.Codes.{kind}
 use Rattle.model.specs.Lists.{any, among, tabulate, zeros}
 use Rattle.model.specs.Triples.{triples}
 use Rattle.model.specs.Roster.{classRow, propertyRow, classRoles, propertyRoles, classIn, propertyIn, ownRoster}
@@ -42,73 +43,6 @@ pub property-stored : (l : List ℕ) (c i m : ℕ) → i ≡ c → m ≡ withPro
 unfolding propertyMarked
 property-stored l c i m e h = λ k. set l (e k) ((h ∙ ap (λ (j : ℕ). withProperty (getD l j 0)) e) k)
 
--- ── the roles of a triple, by its kind ──
-module _ (l : List ℕ) (t : Triple) where
-  abbrev rows : ℕ → List ℕ
-  rows k = allMarked propertyMarked (allMarked classMarked l (classRow t k)) (propertyRow t k)
-
-  by-kind : (k : ℕ) → kind rdfs (t .property) ≡ k → rolesMarked l t ≡ rows k
-  unfolding rolesMarked classRoles propertyRoles
-  by-kind k e = ap rows e
-
-  pub roles-data : (k : ℕ) → k ≡ kind rdfs (t .property) → k ≡ 5 → (m : List ℕ) → m ≡ propertyMarked l (t .property) → m ≡ rolesMarked l t
-  unfolding allMarked
-  roles-data k q e m h = h ∙ sym (by-kind 5 (sym q ∙ e))
-
-  pub roles-type : (k : ℕ) → k ≡ kind rdfs (t .property) → k ≡ 0 → (m : List ℕ) → m ≡ classMarked l (t .object) → m ≡ rolesMarked l t
-  unfolding allMarked
-  roles-type k q e m h = h ∙ sym (by-kind 0 (sym q ∙ e))
-
-  pub roles-subproperty : (k : ℕ) → k ≡ kind rdfs (t .property) → k ≡ 2 → (m m′ : List ℕ) → m ≡ propertyMarked l (t .object) → m′ ≡ propertyMarked m (t .subject) → m′ ≡ rolesMarked l t
-  unfolding allMarked
-  roles-subproperty k q e m m′ h g = g ∙ ap (λ (x : List ℕ). propertyMarked x (t .subject)) h ∙ sym (by-kind 2 (sym q ∙ e))
-
-  pub roles-subclass : (k : ℕ) → k ≡ kind rdfs (t .property) → k ≡ 1 → (m m′ : List ℕ) → m ≡ classMarked l (t .object) → m′ ≡ classMarked m (t .subject) → m′ ≡ rolesMarked l t
-  unfolding allMarked
-  roles-subclass k q e m m′ h g = g ∙ ap (λ (x : List ℕ). classMarked x (t .subject)) h ∙ sym (by-kind 1 (sym q ∙ e))
-
-  rest-kind : (k : ℕ) → k ≤ 5 → (k ≡ 5 → ⊥) → (k ≡ 2 → ⊥) → (k ≡ 0 → ⊥) → (k ≡ 1 → ⊥) → rows k ≡ propertyMarked (classMarked l (t .object)) (t .subject)
-  unfolding allMarked
-  rest-kind zero u e d a b = absurd (a refl)
-  rest-kind (suc zero) u e d a b = absurd (b refl)
-  rest-kind (suc (suc zero)) u e d a b = absurd (d refl)
-  rest-kind (suc (suc (suc zero))) u e d a b = refl
-  rest-kind (suc (suc (suc (suc zero)))) u e d a b = refl
-  rest-kind (suc (suc (suc (suc (suc zero))))) u e d a b = absurd (e refl)
-  rest-kind (suc (suc (suc (suc (suc (suc k)))))) u e d a b = absurd (omega arith)
-
-  pub roles-rest : (k : ℕ) → k ≡ kind rdfs (t .property) → (k ≡ 5 → ⊥) → (k ≡ 2 → ⊥) → (k ≡ 0 → ⊥) → (k ≡ 1 → ⊥) → (m m′ : List ℕ)
-      → m ≡ classMarked l (t .object) → m′ ≡ propertyMarked m (t .subject) → m′ ≡ rolesMarked l t
-  roles-rest k q e d a b m m′ h g =
-      let u = kind-top rdfs (t .property) in
-      g ∙ ap (λ (x : List ℕ). propertyMarked x (t .subject)) h ∙ sym (by-kind k (sym q) ∙ rest-kind k (omega arith) e d a b)
-
--- ── all triples, one after the other ──
--- what is left to mark from place i on ends where marking all from the start ends
-abbrev pub Left : List ℕ → List ℕ → ℕ → ℕ → List ℕ → Type 0
-Left table roster n i now = tableMarked now (tabulate (at table) i (n - i)) ≡ tableMarked roster (triples table)
-
-pub left-start : (table roster : List ℕ) → Left table roster (length table / 3) 0 roster
-left-start table roster = ap (tableMarked roster) ((λ k. tabulate (at table) 0 (sub-zero (length table / 3) k)) ∙ sym (triples-table table))
-  where
-    sub-zero : (n : ℕ) → n - 0 ≡ n
-    sub-zero n = omega arith
-
-pub left-step : (table roster : List ℕ) (n i : ℕ) (now next : List ℕ) (t : Triple) → i < n → t ≡ at table i → next ≡ rolesMarked now t → Left table roster n i now → Left table roster n (i + 1) next
-unfolding tableMarked tabulate
-left-step table roster n i now next t h e q l =
-    let m : n - i ≡ suc (n - (i + 1)) = omega arith in
-    let s : i + 1 ≡ suc i = add-one i in
-    (λ k. tableMarked ((q ∙ ap (rolesMarked now) e) k) (tabulate (at table) (s k) (n - (i + 1))))
-    ∙ (λ k. tableMarked now (tabulate (at table) i (sym m k))) ∙ l
-
-pub left-end : (table roster : List ℕ) (n i : ℕ) (now : List ℕ) → n ≤ i → Left table roster n i now → now ≡ tableMarked roster (triples table)
-unfolding tableMarked tabulate
-left-end table roster n i now h l = (λ k. tableMarked now (tabulate (at table) i (none k))) ∙ l
-  where
-    none : 0 ≡ n - i
-    none = omega arith
-
 class-length : (l : List ℕ) (c : ℕ) → length (classMarked l c) ≡ length l
 unfolding classMarked
 class-length l c = length-set l c _
@@ -121,10 +55,6 @@ all-length : (f : List ℕ → ℕ → List ℕ) → ((l : List ℕ) (c : ℕ) �
 unfolding allMarked
 all-length f h [] l = refl
 all-length f h (c ∷ cs) l = h (allMarked f l cs) c ∙ all-length f h cs l
-
-pub roles-length : (l : List ℕ) (t : Triple) → length (rolesMarked l t) ≡ length l
-unfolding rolesMarked
-roles-length l t = all-length propertyMarked property-length (propertyRoles rdfs t) _ ∙ all-length classMarked class-length (classRoles rdfs t) l
 
 -- ── the roster stands for two predicates ──
 abbrev bits : Bool → Bool → ℕ
@@ -198,18 +128,6 @@ properties-stand n (d ∷ cs) l P Q h s =
     stands-same n (propertyMarked (allMarked propertyMarked l cs) d) P (λ c. eqb c d || (among c cs || Q c)) P (λ c. among c (d ∷ cs) || Q c) (λ c. refl) (λ c. or-assoc (eqb c d) (among c cs) (Q c))
     (property-stands n (allMarked propertyMarked l cs) P (λ c. among c cs || Q c) d (h d (here refl)) (properties-stand n cs l P Q (λ c m. h c (there m)) s))
 
-role-inside : (n c : ℕ) (t : Triple) → Below n t → Role rdfs t c → c < n
-role-inside n c t b (as-subject e) = omega (arith, b .subject)
-role-inside n c t b (as-object e) = omega (arith, b .object)
-role-inside n c t b (as-property h e) = omega (arith, b .property)
-
-roles-stand : (n : ℕ) (t : Triple) (l : List ℕ) (P Q : ℕ → Bool) → Below n t → Stands n l P Q
-    → Stands n (rolesMarked l t) (λ c. among c (classRoles rdfs t) || P c) (λ c. among c (propertyRoles rdfs t) || Q c)
-unfolding rolesMarked
-roles-stand n t l P Q b s =
-    properties-stand n (propertyRoles rdfs t) (allMarked classMarked l (classRoles rdfs t)) (λ c. among c (classRoles rdfs t) || P c) Q
-    (λ c m. role-inside n c t b (property-role rdfs t c m)) (classes-stand n (classRoles rdfs t) l P Q (λ c m. role-inside n c t b (class-role rdfs t c m)) s)
-
 -- (b or (a or p)) is ((a or b) or p)
 or-swap : (a b p : Bool) → (b || (a || p)) ≡ ((a || b) || p)
 or-swap true true p = refl
@@ -217,27 +135,111 @@ or-swap true false p = refl
 or-swap false true p = refl
 or-swap false false p = refl
 
-table-stands : (n : ℕ) (ts : List Triple) (l : List ℕ) (P Q : ℕ → Bool) → AllBelow n ts → Stands n l P Q → Stands n (tableMarked l ts) (λ c. classIn rdfs ts c || P c) (λ c. propertyIn rdfs ts c || Q c)
-unfolding tableMarked classIn propertyIn any
-table-stands n [] l P Q b s = s
-table-stands n (t ∷ ts) l P Q b s =
-    stands-same n (tableMarked (rolesMarked l t) ts) (λ c. classIn rdfs ts c || (among c (classRoles rdfs t) || P c)) (λ c. propertyIn rdfs ts c || (among c (propertyRoles rdfs t) || Q c))
-    (λ c. classIn rdfs (t ∷ ts) c || P c) (λ c. propertyIn rdfs (t ∷ ts) c || Q c)
-    (λ c. or-swap (among c (classRoles rdfs t)) (classIn rdfs ts c) (P c)) (λ c. or-swap (among c (propertyRoles rdfs t)) (propertyIn rdfs ts c) (Q c))
-    (table-stands n ts (rolesMarked l t) (λ c. among c (classRoles rdfs t) || P c) (λ c. among c (propertyRoles rdfs t) || Q c) (λ u m. b u (there m)) (roles-stand n t l P Q (b t (here refl)) s))
-
 or-none : (a : Bool) → (a || false) ≡ a
 or-none true = refl
 or-none false = refl
 
--- marking all roles in a roster of zeros makes the own roster
-pub marked-own : (n : ℕ) (ts : List Triple) → AllBelow n ts → tableMarked (zeros n) ts ≡ ownRoster rdfs n ts
-unfolding ownRoster zeros
-marked-own n ts b =
-    let z : Stands n (replicate n 0) (λ c. false) (λ c. false) = record { size = length-replicate n 0; entry = λ c h. getD-replicate n c 0 0 h } in
-    let s = table-stands n ts (replicate n 0) (λ c. false) (λ c. false) b z in
-    ext-getD 0 (tableMarked (replicate n 0) ts) (tabulate (λ c. bits (classIn rdfs ts c) (propertyIn rdfs ts c)) 0 n) (s .size ∙ sym (length-tabulate _ 0 n))
-    (λ c h.
-    let k : c < n = omega (arith, s .size) in
-    s .entry c k ∙ (λ i. bits (or-none (classIn rdfs ts c) i) (or-none (propertyIn rdfs ts c) i))
-    ∙ sym (tabulate-at (λ c. bits (classIn rdfs ts c) (propertyIn rdfs ts c)) 0 0 n c k ∙ ap (λ (d : ℕ). bits (classIn rdfs ts d) (propertyIn rdfs ts d)) (zero-add c)))
+module _ (v : Vocabulary) where
+  -- ── the roles of a triple, by its kind ──
+  module _ (l : List ℕ) (t : Triple) where
+    abbrev rows : ℕ → List ℕ
+    rows k = allMarked propertyMarked (allMarked classMarked l (classRow t k)) (propertyRow t k)
+
+    by-kind : (k : ℕ) → kind v (t .property) ≡ k → rolesMarked v l t ≡ rows k
+    unfolding rolesMarked classRoles propertyRoles
+    by-kind k e = ap rows e
+
+    pub roles-data : (k : ℕ) → k ≡ kind v (t .property) → k ≡ 5 → (m : List ℕ) → m ≡ propertyMarked l (t .property) → m ≡ rolesMarked v l t
+    unfolding allMarked
+    roles-data k q e m h = h ∙ sym (by-kind 5 (sym q ∙ e))
+
+    pub roles-type : (k : ℕ) → k ≡ kind v (t .property) → k ≡ 0 → (m : List ℕ) → m ≡ classMarked l (t .object) → m ≡ rolesMarked v l t
+    unfolding allMarked
+    roles-type k q e m h = h ∙ sym (by-kind 0 (sym q ∙ e))
+
+    pub roles-subproperty : (k : ℕ) → k ≡ kind v (t .property) → k ≡ 2 → (m m′ : List ℕ) → m ≡ propertyMarked l (t .object) → m′ ≡ propertyMarked m (t .subject) → m′ ≡ rolesMarked v l t
+    unfolding allMarked
+    roles-subproperty k q e m m′ h g = g ∙ ap (λ (x : List ℕ). propertyMarked x (t .subject)) h ∙ sym (by-kind 2 (sym q ∙ e))
+
+    pub roles-subclass : (k : ℕ) → k ≡ kind v (t .property) → k ≡ 1 → (m m′ : List ℕ) → m ≡ classMarked l (t .object) → m′ ≡ classMarked m (t .subject) → m′ ≡ rolesMarked v l t
+    unfolding allMarked
+    roles-subclass k q e m m′ h g = g ∙ ap (λ (x : List ℕ). classMarked x (t .subject)) h ∙ sym (by-kind 1 (sym q ∙ e))
+
+    rest-kind : (k : ℕ) → k ≤ 5 → (k ≡ 5 → ⊥) → (k ≡ 2 → ⊥) → (k ≡ 0 → ⊥) → (k ≡ 1 → ⊥) → rows k ≡ propertyMarked (classMarked l (t .object)) (t .subject)
+    unfolding allMarked
+    rest-kind zero u e d a b = absurd (a refl)
+    rest-kind (suc zero) u e d a b = absurd (b refl)
+    rest-kind (suc (suc zero)) u e d a b = absurd (d refl)
+    rest-kind (suc (suc (suc zero))) u e d a b = refl
+    rest-kind (suc (suc (suc (suc zero)))) u e d a b = refl
+    rest-kind (suc (suc (suc (suc (suc zero))))) u e d a b = absurd (e refl)
+    rest-kind (suc (suc (suc (suc (suc (suc k)))))) u e d a b = absurd (omega arith)
+
+    pub roles-rest : (k : ℕ) → k ≡ kind v (t .property) → (k ≡ 5 → ⊥) → (k ≡ 2 → ⊥) → (k ≡ 0 → ⊥) → (k ≡ 1 → ⊥) → (m m′ : List ℕ)
+        → m ≡ classMarked l (t .object) → m′ ≡ propertyMarked m (t .subject) → m′ ≡ rolesMarked v l t
+    roles-rest k q e d a b m m′ h g =
+        let u = kind-top v (t .property) in
+        g ∙ ap (λ (x : List ℕ). propertyMarked x (t .subject)) h ∙ sym (by-kind k (sym q) ∙ rest-kind k (omega arith) e d a b)
+
+  -- ── all triples, one after the other ──
+  -- what is left to mark from place i on ends where marking all from the start ends
+  abbrev pub Left : List ℕ → List ℕ → ℕ → ℕ → List ℕ → Type 0
+  Left table roster n i now = tableMarked v now (tabulate (at table) i (n - i)) ≡ tableMarked v roster (triples table)
+
+  pub left-start : (table roster : List ℕ) → Left table roster (length table / 3) 0 roster
+  left-start table roster = ap (tableMarked v roster) ((λ k. tabulate (at table) 0 (sub-zero (length table / 3) k)) ∙ sym (triples-table table))
+    where
+      sub-zero : (n : ℕ) → n - 0 ≡ n
+      sub-zero n = omega arith
+
+  pub left-step : (table roster : List ℕ) (n i : ℕ) (now next : List ℕ) (t : Triple) → i < n → t ≡ at table i → next ≡ rolesMarked v now t → Left table roster n i now → Left table roster n (i + 1) next
+  unfolding tableMarked tabulate
+  left-step table roster n i now next t h e q l =
+      let m : n - i ≡ suc (n - (i + 1)) = omega arith in
+      let s : i + 1 ≡ suc i = add-one i in
+      (λ k. tableMarked v ((q ∙ ap (rolesMarked v now) e) k) (tabulate (at table) (s k) (n - (i + 1))))
+      ∙ (λ k. tableMarked v now (tabulate (at table) i (sym m k))) ∙ l
+
+  pub left-end : (table roster : List ℕ) (n i : ℕ) (now : List ℕ) → n ≤ i → Left table roster n i now → now ≡ tableMarked v roster (triples table)
+  unfolding tableMarked tabulate
+  left-end table roster n i now h l = (λ k. tableMarked v now (tabulate (at table) i (none k))) ∙ l
+    where
+      none : 0 ≡ n - i
+      none = omega arith
+
+  pub roles-length : (l : List ℕ) (t : Triple) → length (rolesMarked v l t) ≡ length l
+  unfolding rolesMarked
+  roles-length l t = all-length propertyMarked property-length (propertyRoles v t) _ ∙ all-length classMarked class-length (classRoles v t) l
+
+  role-inside : (n c : ℕ) (t : Triple) → Below n t → Role v t c → c < n
+  role-inside n c t b (as-subject e) = omega (arith, b .subject)
+  role-inside n c t b (as-object e) = omega (arith, b .object)
+  role-inside n c t b (as-property h e) = omega (arith, b .property)
+
+  roles-stand : (n : ℕ) (t : Triple) (l : List ℕ) (P Q : ℕ → Bool) → Below n t → Stands n l P Q
+      → Stands n (rolesMarked v l t) (λ c. among c (classRoles v t) || P c) (λ c. among c (propertyRoles v t) || Q c)
+  unfolding rolesMarked
+  roles-stand n t l P Q b s =
+      properties-stand n (propertyRoles v t) (allMarked classMarked l (classRoles v t)) (λ c. among c (classRoles v t) || P c) Q
+      (λ c m. role-inside n c t b (property-role v t c m)) (classes-stand n (classRoles v t) l P Q (λ c m. role-inside n c t b (class-role v t c m)) s)
+
+  table-stands : (n : ℕ) (ts : List Triple) (l : List ℕ) (P Q : ℕ → Bool) → AllBelow n ts → Stands n l P Q → Stands n (tableMarked v l ts) (λ c. classIn v ts c || P c) (λ c. propertyIn v ts c || Q c)
+  unfolding tableMarked classIn propertyIn any
+  table-stands n [] l P Q b s = s
+  table-stands n (t ∷ ts) l P Q b s =
+      stands-same n (tableMarked v (rolesMarked v l t) ts) (λ c. classIn v ts c || (among c (classRoles v t) || P c)) (λ c. propertyIn v ts c || (among c (propertyRoles v t) || Q c))
+      (λ c. classIn v (t ∷ ts) c || P c) (λ c. propertyIn v (t ∷ ts) c || Q c)
+      (λ c. or-swap (among c (classRoles v t)) (classIn v ts c) (P c)) (λ c. or-swap (among c (propertyRoles v t)) (propertyIn v ts c) (Q c))
+      (table-stands n ts (rolesMarked v l t) (λ c. among c (classRoles v t) || P c) (λ c. among c (propertyRoles v t) || Q c) (λ u m. b u (there m)) (roles-stand n t l P Q (b t (here refl)) s))
+
+  -- marking all roles in a roster of zeros makes the own roster
+  pub marked-own : (n : ℕ) (ts : List Triple) → AllBelow n ts → tableMarked v (zeros n) ts ≡ ownRoster v n ts
+  unfolding ownRoster zeros
+  marked-own n ts b =
+      let z : Stands n (replicate n 0) (λ c. false) (λ c. false) = record { size = length-replicate n 0; entry = λ c h. getD-replicate n c 0 0 h } in
+      let s = table-stands n ts (replicate n 0) (λ c. false) (λ c. false) b z in
+      ext-getD 0 (tableMarked v (replicate n 0) ts) (tabulate (λ c. bits (classIn v ts c) (propertyIn v ts c)) 0 n) (s .size ∙ sym (length-tabulate _ 0 n))
+      (λ c h.
+      let k : c < n = omega (arith, s .size) in
+      s .entry c k ∙ (λ i. bits (or-none (classIn v ts c) i) (or-none (propertyIn v ts c) i))
+      ∙ sym (tabulate-at (λ c. bits (classIn v ts c) (propertyIn v ts c)) 0 0 n c k ∙ ap (λ (d : ℕ). bits (classIn v ts d) (propertyIn v ts d)) (zero-add c)))

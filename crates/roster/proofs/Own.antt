@@ -6,8 +6,9 @@ use mathlib.Core.Bool.{Bool, true, false, cond, _||_}
 use mathlib.Core.List.{List}
 use lib.ListN.{length, length-replicate}
 use Rattle.model.specs.declared.Done.the-variants.{Accepted, Refused}
-use Rattle.model.specs.declared.Refusal.the-variants.{Length, Code}
-use Rattle.model.specs.Codes.{rdfs}
+use Rattle.model.specs.declared.Refusal.the-variants.{Length, Code, Words}
+use Rattle.model.specs.declared.Vocabulary.{Vocabulary}
+use Rattle.model.specs.Codes.{wrongWords}
 use Rattle.model.specs.Lists.{zeros}
 use Rattle.model.specs.Triples.{triples}
 use Rattle.model.specs.Roster.{ownRoster, wrongCodes}
@@ -19,54 +20,59 @@ use Rattle.roster.specs.Calls.{OwnRosterCall}
 use Rattle.roster.specs.Marks.{tableMarked}
 use Rattle.roster.proofs.Marking.{marked-own}
 
-module _ (table roster : List ℕ) where
-  abbrev first : Bool
-  first = wrongSize (length roster) || wrongLength (length table)
+module _ (v : Vocabulary) where
+  module _ (table roster : List ℕ) where
+    abbrev first : Bool
+    first = wrongSize (length roster) || wrongLength (length table)
 
-  abbrev third : Bool
-  third = wrongCodes rdfs (length roster) (triples table)
+    abbrev third : Bool
+    third = wrongCodes v (length roster) (triples table)
 
-  outcome-is : {a b : Bool} → first ≡ a → third ≡ b → ownRosterOutcome rdfs table roster ≡ cond a (refused 1) (cond b (refused 3) (accepted tt))
-  unfolding ownRosterOutcome decided
-  outcome-is p q = λ i. cond (p i) (refused 1) (cond (q i) (refused 3) (accepted tt))
+    outcome-is : {a w b : Bool} → first ≡ a → wrongWords v (length roster) ≡ w → third ≡ b → ownRosterOutcome v table roster ≡ cond a (refused 1) (cond w (refused 10) (cond b (refused 3) (accepted tt)))
+    unfolding ownRosterOutcome decided
+    outcome-is p w q = λ i. cond (p i) (refused 1) (cond (w i) (refused 10) (cond (q i) (refused 3) (accepted tt)))
 
-  leaves-is : {o : Outcome (Unit {0})} → ownRosterOutcome rdfs table roster ≡ o → ownRosterLeaves rdfs table roster ≡ left o roster (ownRoster rdfs (length roster) (triples table))
-  unfolding ownRosterLeaves
-  leaves-is e = ap (λ (o : Outcome (Unit {0})). left o roster (ownRoster rdfs (length roster) (triples table))) e
+    leaves-is : {o : Outcome (Unit {0})} → ownRosterOutcome v table roster ≡ o → ownRosterLeaves v table roster ≡ left o roster (ownRoster v (length roster) (triples table))
+    unfolding ownRosterLeaves
+    leaves-is e = ap (λ (o : Outcome (Unit {0})). left o roster (ownRoster v (length roster) (triples table))) e
 
-  by-length : first ≡ true → OwnRosterCall table roster (Refused Length) roster
-  unfolding done number left zeroed
-  by-length p = let e = outcome-is p refl in record { answer = sym e; leaves = sym (leaves-is e) }
-
-  pub by-size : wrongSize (length roster) ≡ true → OwnRosterCall table roster (Refused Length) roster
-  by-size p = by-length (or-left (wrongSize (length roster)) _ p)
-
-  pub by-table : wrongLength (length table) ≡ true → OwnRosterCall table roster (Refused Length) roster
-  by-table p = by-length (or-right (wrongSize (length roster)) _ p)
-
-  module _ (p : wrongSize (length roster) ≡ false) (q : wrongLength (length table) ≡ false) where
-    passed : first ≡ false
-    passed = or-neither (wrongSize (length roster)) _ p q
-
-    pub by-codes : third ≡ true → OwnRosterCall table roster (Refused Code) roster
+    by-length : first ≡ true → OwnRosterCall v table roster (Refused Length) roster
     unfolding done number left zeroed
-    by-codes h = let e = outcome-is passed h in record { answer = sym e; leaves = sym (leaves-is e) }
+    by-length p = let e = outcome-is p refl refl in record { answer = sym e; leaves = sym (leaves-is e) }
 
-    pub by-marking : third ≡ false → (a b : List ℕ) → a ≡ zeros (length roster) → b ≡ tableMarked a (triples table) → OwnRosterCall table roster Accepted b
-    unfolding done left
-    by-marking h a b x y =
-        let e = outcome-is passed h in
-        record {
-          answer = sym e;
-          leaves = y ∙ ap (λ (l : List ℕ). tableMarked l (triples table)) x ∙ marked-own (length roster) (triples table) (below h) ∙ sym (leaves-is e);
-        }
-      where
-        below : third ≡ false → AllBelow (length roster) (triples table)
-        below h t m = (all-codes rdfs (length roster) (triples table) h t m) .below
+    pub by-size : wrongSize (length roster) ≡ true → OwnRosterCall v table roster (Refused Length) roster
+    by-size p = by-length (or-left (wrongSize (length roster)) _ p)
 
-  -- a cleared roster has the same length
-  pub codes-below : third ≡ false → (a : List ℕ) → a ≡ zeros (length roster) → AllBelow (length a) (triples table)
-  unfolding zeros
-  codes-below h a e =
-      let l : length roster ≡ length a = sym (ap {B = ℕ} (λ (x : List ℕ). length x) e ∙ length-replicate (length roster) 0) in
-      subst (λ (n : ℕ). AllBelow n (triples table)) l (λ t m. (all-codes rdfs (length roster) (triples table) h t m) .below)
+    pub by-table : wrongLength (length table) ≡ true → OwnRosterCall v table roster (Refused Length) roster
+    by-table p = by-length (or-right (wrongSize (length roster)) _ p)
+
+    module _ (p : wrongSize (length roster) ≡ false) (q : wrongLength (length table) ≡ false) where
+      passed : first ≡ false
+      passed = or-neither (wrongSize (length roster)) _ p q
+
+      pub by-words : wrongWords v (length roster) ≡ true → OwnRosterCall v table roster (Refused Words) roster
+      unfolding done number left zeroed
+      by-words h = let e = outcome-is passed h refl in record { answer = sym e; leaves = sym (leaves-is e) }
+
+      pub by-codes : wrongWords v (length roster) ≡ false → third ≡ true → OwnRosterCall v table roster (Refused Code) roster
+      unfolding done number left zeroed
+      by-codes w h = let e = outcome-is passed w h in record { answer = sym e; leaves = sym (leaves-is e) }
+
+      pub by-marking : wrongWords v (length roster) ≡ false → third ≡ false → (a b : List ℕ) → a ≡ zeros (length roster) → b ≡ tableMarked v a (triples table) → OwnRosterCall v table roster Accepted b
+      unfolding done left
+      by-marking w h a b x y =
+          let e = outcome-is passed w h in
+          record {
+            answer = sym e;
+            leaves = y ∙ ap (λ (l : List ℕ). tableMarked v l (triples table)) x ∙ marked-own v (length roster) (triples table) (below h) ∙ sym (leaves-is e);
+          }
+        where
+          below : third ≡ false → AllBelow (length roster) (triples table)
+          below h t m = (all-codes v (length roster) (triples table) h t m) .below
+
+    -- a cleared roster has the same length
+    pub codes-below : third ≡ false → (a : List ℕ) → a ≡ zeros (length roster) → AllBelow (length a) (triples table)
+    unfolding zeros
+    codes-below h a e =
+        let l : length roster ≡ length a = sym (ap {B = ℕ} (λ (x : List ℕ). length x) e ∙ length-replicate (length roster) 0) in
+        subst (λ (n : ℕ). AllBelow n (triples table)) l (λ t m. (all-codes v (length roster) (triples table) h t m) .below)

@@ -7,7 +7,7 @@ use mathlib.Core.List.{List, List·Memᴰ as Mem}
 use native.Mathlib.Omega.{arith}
 use lib.ListN.{length}
 use Rattle.model.specs.declared.Triple.{Triple}
-use Rattle.model.specs.Codes.{rdfs}
+use Rattle.model.specs.declared.Vocabulary.{Vocabulary}
 use Rattle.model.specs.Triples.{triples}
 use Rattle.model.specs.Roster.{coversTriple, covers}
 use Rattle.theory.proofs.Lists.{all-at, at-all, mem-tabulate, tabulate-mem}
@@ -23,17 +23,18 @@ at-in l i h = subst (Mem (at l i)) (sym (triples-table l)) (mem-tabulate (at l) 
 pub below-at : (n : ℕ) (l : List ℕ) (i : ℕ) (t : Triple) → AllBelow n (triples l) → i < length l / 3 → t ≡ at l i → Below n t
 below-at n l i t b h e = subst (Below n) (sym e) (b (at l i) (at-in l i h))
 
-module _ (roster l : List ℕ) where
-  pub uncovered-at : (i : ℕ) → i < length l / 3 → coversTriple rdfs roster (at l i) ≡ false → true ≡ not (covers rdfs roster (triples l))
-  unfolding covers
-  uncovered-at i h e =
-      ap not (sym (not-true-false (covers rdfs roster (triples l)) (λ k. mathlib.Core.Bool.true≢false (sym (all-at (coversTriple rdfs roster) (triples l) k (at l i) (at-in l i h)) ∙ e))))
-
-  pub covered-all : (i : ℕ) → length l / 3 ≤ i → ((k : ℕ) → k < i → coversTriple rdfs roster (at l k) ≡ true) → false ≡ not (covers rdfs roster (triples l))
-  unfolding covers
-  covered-all i h e =
-      ap not (sym (at-all (coversTriple rdfs roster) (triples l)
-      (λ t m. let w = tabulate-mem (at l) 0 (length l / 3) (subst (Mem t) (triples-table l) m) in ap (coversTriple rdfs roster) (w .3) ∙ e (w .0) (omega (arith, w .2)))))
-
 pub below-size : (n m : ℕ) (t : Triple) → n ≡ m → Below n t → Below m t
 below-size n m t e b = subst (λ (k : ℕ). Below k t) e b
+
+module _ (v : Vocabulary) where
+  module _ (roster l : List ℕ) where
+    pub uncovered-at : (i : ℕ) → i < length l / 3 → coversTriple v roster (at l i) ≡ false → true ≡ not (covers v roster (triples l))
+    unfolding covers
+    uncovered-at i h e =
+        ap not (sym (not-true-false (covers v roster (triples l)) (λ k. mathlib.Core.Bool.true≢false (sym (all-at (coversTriple v roster) (triples l) k (at l i) (at-in l i h)) ∙ e))))
+
+    pub covered-all : (i : ℕ) → length l / 3 ≤ i → ((k : ℕ) → k < i → coversTriple v roster (at l k) ≡ true) → false ≡ not (covers v roster (triples l))
+    unfolding covers
+    covered-all i h e =
+        ap not (sym (at-all (coversTriple v roster) (triples l)
+        (λ t m. let w = tabulate-mem (at l) 0 (length l / 3) (subst (Mem t) (triples-table l) m) in ap (coversTriple v roster) (w .3) ∙ e (w .0) (omega (arith, w .2)))))

@@ -2,7 +2,7 @@
 -- Assumes nothing.
 use Prim.Native.Nat.{ℕ, zero, suc, _<_, _≤_}
 use mathlib.Core.Path.{_≡_, refl, sym, _∙_, ap}
-use mathlib.Core.Bool.{Bool, true, false, not, _||_}
+use mathlib.Core.Bool.{Bool, true, false, not, _||_, or-false}
 use mathlib.Core.List.{List, [], _∷_, List·Memᴰ as Mem, List·Memᴰ·head as here, List·Memᴰ·tail as there, List·Memᴰ·not-nil as no-mem}
 use native.Mathlib.Omega.{arith}
 use lib.Dec.{ltb}
@@ -10,7 +10,8 @@ use lib.ListN.{length, getD}
 use borrow.Author.Tests.{lt-ltb, eq-eqb, ne-eqb}
 use Rattle.model.specs.Lists.{any}
 use Rattle.roster.specs.Marks.{overThree, marked}
-use Rattle.model.specs.Codes.{rdfs, codes}
+use Rattle.model.specs.declared.Vocabulary.{Vocabulary}
+use Rattle.model.specs.Codes.{codes}
 use Rattle.model.specs.Roster.{unmarked, wrongRoster}
 use Rattle.theory.proofs.Lists.{any-holds, none-any}
 use Rattle.theory.proofs.Tests.{or-left, or-right, or-neither}
@@ -31,35 +32,40 @@ over-nowhere [] i h e = refl
 over-nowhere (x ∷ l) zero h e = absurd (omega arith)
 over-nowhere (x ∷ l) (suc i) h e = sym (or-neither (ltb 3 x) _ (e 0 (omega arith)) (sym (over-nowhere l i (omega arith) (λ k q. e (suc k) (omega arith)))))
 
--- ── the reserved codes ──
-pub some-marked : (l : List ℕ) (i : ℕ) → i < 5 → (getD l i 0 ≡ 0 → ⊥) → true ≡ marked rdfs l
-unfolding marked
-some-marked l i h e = sym (any-holds (λ c. not (unmarked l c)) (codes rdfs) i (reserved-in i h) (unmarked-not l i e))
-  where
-    reserved-in : (i : ℕ) → i < 5 → Mem i (codes rdfs)
-    reserved-in zero h = here refl
-    reserved-in (suc zero) h = there (here refl)
-    reserved-in (suc (suc zero)) h = there (there (here refl))
-    reserved-in (suc (suc (suc zero))) h = there (there (there (here refl)))
-    reserved-in (suc (suc (suc (suc zero)))) h = there (there (there (there (here refl))))
-    reserved-in (suc (suc (suc (suc (suc i))))) h = absurd (omega arith)
+module _ (v : Vocabulary) where
+  -- ── the reserved codes, one after the other ──
+  module _ (l : List ℕ) where
+    abbrev is-marked : ℕ → Bool
+    is-marked c = not (unmarked l c)
 
-pub none-marked : (l : List ℕ) (i : ℕ) → 5 ≤ i → ((k : ℕ) → k < i → getD l k 0 ≡ 0) → false ≡ marked rdfs l
-unfolding marked unmarked
-none-marked l i h e = sym (none-any (λ c. not (unmarked l c)) (codes rdfs) (λ c m. ap not (eq-eqb _ _ (e c (omega (arith, low c m))))))
-  where
-    low : (c : ℕ) → Mem c (codes rdfs) → c < 5
-    low c (here q) = omega arith
-    low c (there (here q)) = omega arith
-    low c (there (there (here q))) = omega arith
-    low c (there (there (there (here q)))) = omega arith
-    low c (there (there (there (there (here q))))) = omega arith
-    low c (there (there (there (there (there q))))) = absurd (no-mem q)
+    pub marked-0 : is-marked (v .instance) ≡ true → true ≡ marked v l
+    unfolding marked any
+    marked-0 e = rw (e)
 
-pub wrong-value : (l : List ℕ) → overThree l ≡ true → true ≡ wrongRoster rdfs l
-unfolding wrongRoster overThree
-wrong-value l e = sym (or-left (any (λ m. ltb 3 m) l) _ e)
+    module _ (n0 : is-marked (v .instance) ≡ false) where
+      pub marked-1 : is-marked (v .subclass) ≡ true → true ≡ marked v l
+      unfolding marked any
+      marked-1 e = rw (n0, e)
 
-pub wrong-mark : (l : List ℕ) → overThree l ≡ false → (r : Bool) → r ≡ marked rdfs l → r ≡ wrongRoster rdfs l
-unfolding wrongRoster overThree marked
-wrong-mark l e r h = h ∙ ap (λ (b : Bool). b || any (λ c. not (unmarked l c)) (codes rdfs)) (sym e)
+      module _ (n1 : is-marked (v .subclass) ≡ false) where
+        pub marked-2 : is-marked (v .subproperty) ≡ true → true ≡ marked v l
+        unfolding marked any
+        marked-2 e = rw (n0, n1, e)
+
+        module _ (n2 : is-marked (v .subproperty) ≡ false) where
+          pub marked-3 : is-marked (v .domain) ≡ true → true ≡ marked v l
+          unfolding marked any
+          marked-3 e = rw (n0, n1, n2, e)
+
+          module _ (n3 : is-marked (v .domain) ≡ false) where
+            pub marked-4 : (r : Bool) → r ≡ is-marked (v .range) → r ≡ marked v l
+            unfolding marked any
+            marked-4 r e = rw (n0, n1, n2, n3) (e ∙ sym (or-false (is-marked (v .range))))
+
+  pub wrong-value : (l : List ℕ) → overThree l ≡ true → true ≡ wrongRoster v l
+  unfolding wrongRoster overThree
+  wrong-value l e = sym (or-left (any (λ m. ltb 3 m) l) _ e)
+
+  pub wrong-mark : (l : List ℕ) → overThree l ≡ false → (r : Bool) → r ≡ marked v l → r ≡ wrongRoster v l
+  unfolding wrongRoster overThree marked
+  wrong-mark l e r h = h ∙ ap (λ (b : Bool). b || any (λ c. not (unmarked l c)) (codes v)) (sym e)

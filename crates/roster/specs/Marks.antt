@@ -6,7 +6,8 @@ use mathlib.Core.List.{List, [], _∷_}
 use lib.Dec.{eqb, ltb}
 use lib.ListN.{getD, set}
 use Rattle.model.specs.declared.Triple.{Triple}
-use Rattle.model.specs.Codes.{Vocabulary, rdfs, codes}
+use Rattle.model.specs.declared.Vocabulary.{Vocabulary}
+use Rattle.model.specs.Codes.{codes}
 use Rattle.model.specs.Lists.{any}
 use Rattle.model.specs.Roster.{unmarked, classRoles, propertyRoles}
 
@@ -36,10 +37,11 @@ unfoldable pub allMarked : (List ℕ → ℕ → List ℕ) → List ℕ → List
 allMarked mark roster [] = roster
 allMarked mark roster (c ∷ cs) = mark (allMarked mark roster cs) c
 
--- with each role of a triple, and of a list of triples
-unfoldable pub rolesMarked : List ℕ → Triple → List ℕ
-rolesMarked roster t = allMarked propertyMarked (allMarked classMarked roster (classRoles rdfs t)) (propertyRoles rdfs t)
+module _ (v : Vocabulary) where
+  -- with each role of a triple, and of a list of triples
+  unfoldable pub rolesMarked : List ℕ → Triple → List ℕ
+  rolesMarked roster t = allMarked propertyMarked (allMarked classMarked roster (classRoles v t)) (propertyRoles v t)
 
-unfoldable pub tableMarked : List ℕ → List Triple → List ℕ
-tableMarked roster [] = roster
-tableMarked roster (t ∷ ts) = tableMarked (rolesMarked roster t) ts
+  unfoldable pub tableMarked : List ℕ → List Triple → List ℕ
+  tableMarked roster [] = roster
+  tableMarked roster (t ∷ ts) = tableMarked (rolesMarked roster t) ts

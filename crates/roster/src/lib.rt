@@ -1,25 +1,31 @@
 // Rosters: the checks 2 and 4, and the own roster of a table.
 
 ghost use mathlib.Core.Path.{_≡_};
-ghost use mathlib.Core.Bool.{not, _&&_};
+ghost use mathlib.Core.Bool.{false, not, _&&_};
+ghost use Rattle.model.specs.Codes.{wrongWords};
 ghost use Prim.Native.Nat.{ℕ, _+_, _*_, _<_, _≤_};
 ghost use lib.ListN.{length, getD, set};
-ghost use Rattle.model.specs.Codes.{rdfs};
 ghost use Rattle.model.specs.Lists.{zeros};
 ghost use Rattle.model.specs.Triples.{triples};
 ghost use Rattle.theory.proofs.Covered.{Below, AllBelow};
-ghost use Rattle.model.specs.Roster.{isClass, isProperty, wrongRoster, coversTriple, covers};
+ghost use Rattle.model.specs.Roster.{isClass, isProperty, unmarked, wrongRoster, coversTriple, covers};
 ghost use Rattle.roster.specs.Calls.{OwnRosterCall};
 ghost use Rattle.roster.specs.Marks.{withClass, withProperty, classMarked, propertyMarked, rolesMarked, tableMarked, overThree, marked};
 use checks::codes_wrong;
 use checks::length_wrong;
 use checks::size_wrong;
+use checks::words_wrong;
 use lists::Code;
+use lists::DATA;
+use lists::SUBCLASS;
+use lists::SUBPROPERTY;
+use lists::TYPE;
 use lists::triple_at;
 use lists::wide;
 use model::Done;
 use model::Refusal;
 use model::Triple;
+use model::Vocabulary;
 
 // Whether a mark says class.
 pub fn is_class(mark: u8) -> bool
@@ -91,36 +97,36 @@ fn property_to_class(roster: &[u8], t: Triple) -> bool
 }
 
 // Whether the roster marks each role of a triple.
-pub fn covers_triple(roster: &[u8], t: Triple) -> bool
+pub fn covers_triple(words: Vocabulary, roster: &[u8], t: Triple) -> bool
     requires { ⌜ Below (length (now roster)) t ⌝ }
-    ensures { λ r. ⌜ r ≡ coversTriple rdfs (now (roster .entry)) t ⌝ }
+    ensures { λ r. ⌜ r ≡ coversTriple words (now (roster .entry)) t ⌝ }
 {
-    let kind = Code(t.property).kind();
-    if kind == Code::DATA {
+    let kind = Code(t.property).kind(words);
+    if kind == DATA {
         return property_at(roster, t.property);
     }
-    if kind == Code::TYPE {
+    if kind == TYPE {
         return class_at(roster, t.object);
     }
-    if kind == Code::SUBCLASS {
+    if kind == SUBCLASS {
         return both_classes(roster, t);
     }
-    if kind == Code::SUBPROPERTY {
+    if kind == SUBPROPERTY {
         return both_properties(roster, t);
     }
     property_to_class(roster, t)
 }
 
 // Check 4: some triple of the table is not covered.
-pub fn uncovered(table: &[u32], roster: &[u8]) -> bool
+pub fn uncovered(words: Vocabulary, table: &[u32], roster: &[u8]) -> bool
     requires { ⌜ AllBelow (length (now roster)) (triples (now table)) ⌝ }
-    ensures { λ r. ⌜ r ≡ not (covers rdfs (now (roster .entry)) (triples (now (table .entry)))) ⌝ }
+    ensures { λ r. ⌜ r ≡ not (covers words (now (roster .entry)) (triples (now (table .entry)))) ⌝ }
 {
     let n = table.len() / 3;
     let mut i = 0;
     while i < n {
         let t = triple_at(table, i);
-        if !covers_triple(roster, t) {
+        if !covers_triple(words, roster, t) {
             return true;
         }
         i += 1;
@@ -143,30 +149,44 @@ fn value_wrong(roster: &[u8]) -> bool
     false
 }
 
-// Whether one of the reserved codes is marked.
-fn reserved_marked(roster: &[u8]) -> bool
-    requires { ⌜ 5 ≤ length (now roster) ⌝ }
-    ensures { λ r. ⌜ r ≡ marked rdfs (now (roster .entry)) ⌝ }
+// Whether a code is marked.
+fn is_marked(roster: &[u8], c: u32) -> bool
+    requires { ⌜ c < length (now roster) ⌝ }
+    ensures { λ r. ⌜ r ≡ not (unmarked (now (roster .entry)) c) ⌝ }
 {
-    let mut i = 0;
-    while i < 5 {
-        if roster[i] != 0 {
-            return true;
-        }
-        i += 1;
+    let i = wide(c);
+    roster[i] != 0
+}
+
+// Whether one of the reserved codes is marked.
+fn reserved_marked(words: Vocabulary, roster: &[u8]) -> bool
+    requires { ⌜ wrongWords words (length (now roster)) ≡ false ⌝ }
+    ensures { λ r. ⌜ r ≡ marked words (now (roster .entry)) ⌝ }
+{
+    if is_marked(roster, words.instance) {
+        return true;
     }
-    false
+    if is_marked(roster, words.subclass) {
+        return true;
+    }
+    if is_marked(roster, words.subproperty) {
+        return true;
+    }
+    if is_marked(roster, words.domain) {
+        return true;
+    }
+    is_marked(roster, words.range)
 }
 
 // Check 2: a value over 3, or a reserved code marked.
-pub fn roster_wrong(roster: &[u8]) -> bool
-    requires { ⌜ 5 ≤ length (now roster) ⌝ }
-    ensures { λ r. ⌜ r ≡ wrongRoster rdfs (now (roster .entry)) ⌝ }
+pub fn roster_wrong(words: Vocabulary, roster: &[u8]) -> bool
+    requires { ⌜ wrongWords words (length (now roster)) ≡ false ⌝ }
+    ensures { λ r. ⌜ r ≡ wrongRoster words (now (roster .entry)) ⌝ }
 {
     if value_wrong(roster) {
         return true;
     }
-    reserved_marked(roster)
+    reserved_marked(words, roster)
 }
 
 // The mark that also says class.
@@ -212,25 +232,25 @@ fn mark_property(roster: &mut [u8], c: u32)
 }
 
 // Marks each role of a triple.
-fn mark_roles(roster: &mut [u8], t: Triple)
+fn mark_roles(words: Vocabulary, roster: &mut [u8], t: Triple)
     requires { ⌜ Below (length (now roster)) t ⌝ }
-    ensures { λ r. ⌜ now (roster .exit) ≡ rolesMarked (now (roster .entry)) t ⌝ }
+    ensures { λ r. ⌜ now (roster .exit) ≡ rolesMarked words (now (roster .entry)) t ⌝ }
 {
-    let kind = Code(t.property).kind();
-    if kind == Code::DATA {
+    let kind = Code(t.property).kind(words);
+    if kind == DATA {
         mark_property(roster, t.property);
         return;
     }
-    if kind == Code::SUBPROPERTY {
+    if kind == SUBPROPERTY {
         mark_property(roster, t.object);
         mark_property(roster, t.subject);
         return;
     }
     mark_class(roster, t.object);
-    if kind == Code::TYPE {
+    if kind == TYPE {
         return;
     }
-    if kind == Code::SUBCLASS {
+    if kind == SUBCLASS {
         mark_class(roster, t.subject);
         return;
     }
@@ -250,22 +270,22 @@ fn clear_marks(roster: &mut [u8])
 }
 
 // Marks each role of each triple of the table.
-fn mark_table(table: &[u32], roster: &mut [u8])
+fn mark_table(words: Vocabulary, table: &[u32], roster: &mut [u8])
     requires { ⌜ AllBelow (length (now roster)) (triples (now table)) ⌝ }
-    ensures { λ r. ⌜ now (roster .exit) ≡ tableMarked (now (roster .entry)) (triples (now (table .entry))) ⌝ }
+    ensures { λ r. ⌜ now (roster .exit) ≡ tableMarked words (now (roster .entry)) (triples (now (table .entry))) ⌝ }
 {
     let n = table.len() / 3;
     let mut i = 0;
     while i < n {
         let t = triple_at(table, i);
-        mark_roles(roster, t);
+        mark_roles(words, roster, t);
         i += 1;
     }
 }
 
 // The smallest roster that covers the table, written into the lent roster; N is its length.
-pub fn own_roster(table: &[u32], roster: &mut [u8]) -> Done
-    ensures { λ r. ⌜ OwnRosterCall (now (table .entry)) (now (roster .entry)) r (now (roster .exit)) ⌝ }
+pub fn own_roster(words: Vocabulary, table: &[u32], roster: &mut [u8]) -> Done
+    ensures { λ r. ⌜ OwnRosterCall words (now (table .entry)) (now (roster .entry)) r (now (roster .exit)) ⌝ }
 {
     let n = roster.len();
     if size_wrong(n) {
@@ -274,10 +294,13 @@ pub fn own_roster(table: &[u32], roster: &mut [u8]) -> Done
     if length_wrong(table.len()) {
         return Done::Refused(Refusal::Length);
     }
-    if codes_wrong(table, n) {
+    if words_wrong(words, n) {
+        return Done::Refused(Refusal::Words);
+    }
+    if codes_wrong(words, table, n) {
         return Done::Refused(Refusal::Code);
     }
     clear_marks(roster);
-    mark_table(table, roster);
+    mark_table(words, table, roster);
     Done::Accepted
 }

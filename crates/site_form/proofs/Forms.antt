@@ -4,18 +4,21 @@ use Prim.Native.Nat.{ℕ}
 use mathlib.Core.Path.{_≡_, refl, sym, _∙_, subst}
 use mathlib.Core.Logic.{inl, inr}
 use mathlib.Core.Bool.{false}
+use mathlib.Core.Option.{Option, none, some}
 use mathlib.Core.List.{List, [], _∷_, _++_, append-assoc, List·Memᴰ·head, List·Memᴰ·tail, List·Memᴰ·cases-cons}
 use lib.ListN.{drop}
 use native.Mathlib.Omega.{arith}
 use Rattle.model.specs.declared.Triple.{Triple}
+use Rattle.model.specs.declared.Vocabulary.{Vocabulary}
+use Rattle.model.specs.Codes.{vocabulary}
 use Rattle.model.specs.Triples.{triple}
 use Rattle.model.specs.Lists.{collect}
 use Rattle.query.specs.declared.End.{End}
 use Rattle.query.specs.declared.End.the-variants.{Var, Code}
 use Rattle.query.specs.declared.Pattern.{Pattern}
-use Rattle.site_form.specs.Text.{bytes, numeral, siteLine, tripleLine, endText, patternText, nextPattern, askLine, U32, TripleU32, EndU32, PatternU32, AskForm}
-use Rattle.site_form.specs.Reading.{bad, got, Reader, _>>=_, begins, word, digit, digitFirst, number, lineEnd, siteReader, tripleReader, endIn, endReader, pattern, patternReader, nextReader, askReader}
-use Rattle.site_form.proofs.Readers.{from-both, from-give, Takes, in-turn, fails, give-takes, or-got, or-first, or-second, word-says, word-takes, word-bad, Says, many-says, many-takes}
+use Rattle.site_form.specs.Text.{bytes, numeral, siteLine, wordsLine, wordsText, tripleLine, endText, patternText, nextPattern, askLine, U32, WordsU32, LineU32, TripleU32, EndU32, PatternU32, AskForm}
+use Rattle.site_form.specs.Reading.{bad, got, Reader, _>>=_, begins, word, digit, digitFirst, number, lineEnd, siteReader, optional, wordsReader, tripleReader, endIn, endReader, pattern, patternReader, nextReader, askReader}
+use Rattle.site_form.proofs.Readers.{from-both, from-give, Takes, in-turn, fails, give-takes, or-got, or-first, or-second, optional-some, optional-none, optional-got, word-says, word-takes, word-bad, Says, many-says, many-takes}
 use Rattle.site_form.proofs.Decimal.{number-takes, number-says}
 
 module _ {A P : Type 0} where
@@ -55,6 +58,68 @@ module _ (text : List ℕ) (at n : ℕ) where
       from-number _ text a n j ea λ m b u db eb.
       from-line _ text b n j eb λ c dc ec.
       from-give text c (Says siteLine U32 text at) m n j ec (record { right = u; held = rw (da, db, dc) (simp append-assoc) })
+
+-- ── the reserved codes ──
+module _ (text : List ℕ) (at : ℕ) (v : Vocabulary) where
+  words-takes : (s : List ℕ) → WordsU32 v → drop at text ≡ wordsLine v ++ s → Takes wordsReader text at v s
+  unfolding wordsReader wordsLine digitFirst digit
+  words-takes s u e =
+      in-turn _ _ text at (word-takes (bytes "(words ") text at _ (e ∙ simp append-assoc)) λ a ea.
+      in-turn _ _ text a (number-takes text a (v .instance) _ (u .instance) refl ea) λ b eb.
+      in-turn _ _ text b (word-takes (bytes " ") text b _ eb) λ c ec.
+      in-turn _ _ text c (number-takes text c (v .subclass) _ (u .subclass) refl ec) λ d ed.
+      in-turn _ _ text d (word-takes (bytes " ") text d _ ed) λ f ef.
+      in-turn _ _ text f (number-takes text f (v .subproperty) _ (u .subproperty) refl ef) λ g eg.
+      in-turn _ _ text g (word-takes (bytes " ") text g _ eg) λ h eh.
+      in-turn _ _ text h (number-takes text h (v .domain) _ (u .domain) refl eh) λ k ek.
+      in-turn _ _ text k (word-takes (bytes " ") text k _ ek) λ l el.
+      in-turn _ _ text l (number-takes text l (v .range) _ (u .range) refl el) λ m em.
+      in-turn _ _ text m (line-takes text m s em) λ n en.
+      give-takes text n v s en
+
+  words-says : (j : ℕ) → wordsReader text at ≡ got v j → Says wordsLine WordsU32 text at v j
+  unfolding wordsReader wordsLine
+  words-says j e =
+      from-word _ _ text at v j e λ a da ea.
+      from-number _ text a v j ea λ w1 b u1 db eb.
+      from-word _ _ text b v j eb λ c dc ec.
+      from-number _ text c v j ec λ w2 d u2 dd ed.
+      from-word _ _ text d v j ed λ f df ef.
+      from-number _ text f v j ef λ w3 g u3 dg eg.
+      from-word _ _ text g v j eg λ h dh eh.
+      from-number _ text h v j eh λ w4 k u4 dk ek.
+      from-word _ _ text k v j ek λ l dl el.
+      from-number _ text l v j el λ w5 m u5 dm em.
+      from-line _ text m v j em λ n dn en.
+      from-give text n (Says wordsLine WordsU32 text at) (vocabulary w1 w2 w3 w4 w5) v j en
+      (record {
+        right = record { instance = u1; subclass = u2; subproperty = u3; domain = u4; range = u5 };
+        held = rw (da, db, dc, dd, df, dg, dh, dk, dl, dm, dn) (simp append-assoc);
+      })
+
+words-bad : (text : List ℕ) (at : ℕ) (s : List ℕ) → drop at text ≡ s → begins (bytes "(words ") s ≡ false → wordsReader text at ≡ bad
+unfolding wordsReader
+words-bad text at s e f = fails _ _ text at (word-bad (bytes "(words ") text at s e f)
+
+module _ (text : List ℕ) (at : ℕ) where
+  -- where the line does not stand, what follows does not begin like it
+  pub some-words-takes : (w : Option Vocabulary) (s : List ℕ) → LineU32 w → begins (bytes "(words ") s ≡ false → drop at text ≡ wordsText w ++ s → Takes (optional wordsReader) text at w s
+  unfolding wordsText
+  some-words-takes none s u f e = optional-none wordsReader text at s (words-bad text at s e f) e
+  some-words-takes (some v) s u f e = optional-some wordsReader text at v s (words-takes text at v s (u v refl) e)
+
+  pub some-words-says : (w : Option Vocabulary) (j : ℕ) → optional wordsReader text at ≡ got w j → Says wordsText LineU32 text at w j
+  unfolding wordsText
+  some-words-says w j e =
+      optional-got wordsReader text at (Says wordsText LineU32 text at) w j e
+      (record { right = λ v q. absurd (none-some v q); held = refl })
+      (λ x i p. let h = words-says text at x i p in record { right = λ v q. subst WordsU32 (some-same q) (h .right); held = h .held })
+    where
+      none-some : (v : Vocabulary) → none ≡ some v → ⊥
+      none-some v q = let z : _≡_ {A = ℕ} 0 1 = cc in omega arith
+
+      some-same : {x v : Vocabulary} → some x ≡ some v → x ≡ v
+      some-same q = cc
 
 -- ── triples ──
 module _ (text : List ℕ) (at : ℕ) (t : Triple) where

@@ -5,4 +5,4 @@ use Rattle.site_form.specs.Printing.{printChecked, CodesBeforeQueries}
 
 pub codes-before-queries : CodesBeforeQueries
 unfolding printChecked decided
-codes-before-queries n triples saturated summarised representatives answers size codes = rw (size, codes)
+codes-before-queries v n triples saturated summarised representatives answers size words codes = rw (size, words, codes)

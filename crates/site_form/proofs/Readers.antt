@@ -4,6 +4,7 @@ use Prim.Native.Nat.{ℕ, zero, suc, _+_, _-_, _≤_}
 use mathlib.Core.Path.{_≡_, refl, sym, _∙_, ap, subst, subst₂}
 use mathlib.Core.Logic.{_⊎_, inl, inr}
 use mathlib.Core.Bool.{Bool, true, false, cond, _&&_}
+use mathlib.Core.Option.{Option, none, some}
 use mathlib.Core.List.{List, [], _∷_, _++_, append-assoc, List·Memᴰ as Mem, List·Memᴰ·head, List·Memᴰ·tail, List·Memᴰ·cases-cons, List·Memᴰ·not-nil}
 use lib.Dec.{eqb, leb}
 use lib.ListN.{length, drop, length-drop, drop-of-length-le}
@@ -11,7 +12,7 @@ use lib.Seq.{drop-drop, drop-append-seam}
 use borrow.Author.Tests.{eqb-true, eq-eqb, leb-true, le-leb}
 use native.Mathlib.Omega.{arith}
 use Rattle.model.specs.Lists.{collect}
-use Rattle.site_form.specs.Reading.{Step, bad, got, Reader, andThen, _>>=_, give, orElse, _or_, whileGot, many, begins, word, end}
+use Rattle.site_form.specs.Reading.{Step, bad, got, Reader, andThen, _>>=_, give, orElse, _or_, givenElse, optional, whileGot, many, begins, word, end}
 
 -- a reader that answers `bad` gives nothing
 pub not-bad : {A : Type 0} {P : Type 0} (s : Step A) (x : A) (i : ℕ) → s ≡ bad → s ≡ got x i → P
@@ -73,6 +74,24 @@ module _ {A : Type 0} (text : List ℕ) (at : ℕ) where
     pub or-second : (u : List ℕ) → r text at ≡ bad → Takes s text at x u → Takes (r or s) text at x u
     unfolding _or_
     or-second u e h = record { next = h .next; gives = rw e (h .gives); rest = h .rest }
+
+-- ── a form that may stand ──
+module _ {A : Type 0} (r : Reader A) (text : List ℕ) (at : ℕ) where
+  pub optional-some : (x : A) (s : List ℕ) → Takes r text at x s → Takes (optional r) text at (some x) s
+  unfolding optional
+  optional-some x s h = record { next = h .next; gives = rw (h .gives); rest = h .rest }
+
+  pub optional-none : (s : List ℕ) → r text at ≡ bad → drop at text ≡ s → Takes (optional r) text at none s
+  unfolding optional
+  optional-none s e h = record { next = at; gives = rw e; rest = h }
+
+  pub optional-got : (P : Option A → ℕ → Type 0) (o : Option A) (j : ℕ) → optional r text at ≡ got o j → P none at → ((x : A) (i : ℕ) → r text at ≡ got x i → P (some x) i) → P o j
+  unfolding optional
+  optional-got P o j e n f = go (r text at) refl e
+    where
+      go : (s : Step A) → r text at ≡ s → givenElse s at ≡ got o j → P o j
+      go bad p q = subst₂ P (got-value q) (got-next q) n
+      go (got x i) p q = subst₂ P (got-value q) (got-next q) (f x i p)
 
 -- ── bytes ──
 pub begins-self : (w s : List ℕ) → begins w (w ++ s) ≡ true

@@ -8,7 +8,8 @@ use mathlib.Core.Option.{Option, none, some}
 use lib.Dec.{eqb, ltb}
 use lib.ListN.{length}
 use Rattle.model.specs.declared.Triple.{Triple}
-use Rattle.model.specs.Codes.{absent, rdfs}
+use Rattle.model.specs.declared.Vocabulary.{Vocabulary}
+use Rattle.model.specs.Codes.{absent, wrongWords}
 use Rattle.model.specs.Lists.{any, collect, tabulate}
 use Rattle.model.specs.Triples.{flat}
 use Rattle.model.specs.Roster.{ownRoster, wrongCodes}
@@ -20,7 +21,7 @@ use Rattle.model.specs.Outcomes.{Outcome, refused, accepted, check, checked, wr
 use Rattle.query.specs.declared.Pattern.{Pattern}
 use Rattle.query.specs.Ask.{askOutcome}
 use Rattle.site_form.specs.Text.{bytes, numeral, tripleLine}
-use Rattle.site_form.specs.Reading.{Forms, readForms, queryOf}
+use Rattle.site_form.specs.Reading.{Forms, loaded, readForms, queryOf}
 
 -- 01: "reads at most 32,768 bytes from standard input (more is 8)"
 abbrev pub mostBytes : ℕ
@@ -69,29 +70,31 @@ abbrev pub isRefused : Outcome Bool → Bool
 isRefused (refused r) = true
 isRefused (accepted b) = false
 
--- 01: "It checks in the order 8, 1, 3, 5, 6."
--- 1, 3, 5 and 6, with the saturation, its summary and map, and what ask says of each query
-unfoldable pub printChecked : ℕ → (triples saturated summarised : List Triple) → List ℕ → List (Outcome Bool) → Outcome (List ℕ)
-printChecked n triples saturated summarised representatives answers =
+-- 01: "It checks in the order 8, 1, 3, 5, 6."; 02: 10 straight after 1
+-- 1, 10, 3, 5 and 6, with the saturation, its summary and map, and what ask says of each query
+unfoldable pub printChecked : Vocabulary → ℕ → (triples saturated summarised : List Triple) → List ℕ → List (Outcome Bool) → Outcome (List ℕ)
+printChecked v n triples saturated summarised representatives answers =
     checked
     (check 1 (wrongSize n || ltb largestPrinted n)
-    ∷ check 3 (wrongCodes rdfs n triples)
+    ∷ check 10 (wrongWords v n)
+    ∷ check 3 (wrongCodes v n triples)
     ∷ check 5 (ltb printerSlots (length saturated))
     ∷ check 6 (any isRefused answers)
     ∷ [])
     (report summarised representatives answers)
 
 -- the queries are asked of the summary and its map
-unfoldable pub asked : List Triple → List ℕ → List (List Pattern) → List (Outcome Bool)
-asked summarised representatives qs = map (λ ps. askOutcome rdfs (flat summarised) representatives (queryOf ps)) qs
+unfoldable pub asked : Vocabulary → List Triple → List ℕ → List (List Pattern) → List (Outcome Bool)
+asked v summarised representatives qs = map (λ ps. askOutcome v (flat summarised) representatives (queryOf ps)) qs
 
 unfoldable pub printForms : Forms → Outcome (List ℕ)
 printForms f =
-    let own = ownRoster rdfs (f .size) (f .triples) in
-    let saturated = saturation rdfs (f .size) (f .triples) in
-    let summarised = summary rdfs own saturated in
-    let representatives = mapOf rdfs own saturated in
-    printChecked (f .size) (f .triples) saturated summarised representatives (asked summarised representatives (f .asks))
+    let v = loaded (f .words) in
+    let own = ownRoster v (f .size) (f .triples) in
+    let saturated = saturation v (f .size) (f .triples) in
+    let summarised = summary v own saturated in
+    let representatives = mapOf v own saturated in
+    printChecked v (f .size) (f .triples) saturated summarised representatives (asked v summarised representatives (f .asks))
 
 abbrev pub printRead : Option Forms → Outcome (List ℕ)
 printRead none = refused 8
@@ -107,7 +110,8 @@ printed text = shown (printOutcome text)
 -- 3 comes before 5 and 6: with a wrong code neither the saturation nor the queries matter
 abbrev pub CodesBeforeQueries : Type 0
 CodesBeforeQueries =
-    (n : ℕ) (triples saturated summarised : List Triple) (representatives : List ℕ) (answers : List (Outcome Bool))
+    (v : Vocabulary) (n : ℕ) (triples saturated summarised : List Triple) (representatives : List ℕ) (answers : List (Outcome Bool))
     → (wrongSize n || ltb largestPrinted n) ≡ false
-    → wrongCodes rdfs n triples ≡ true
-    → printChecked n triples saturated summarised representatives answers ≡ refused 3
+    → wrongWords v n ≡ false
+    → wrongCodes v n triples ≡ true
+    → printChecked v n triples saturated summarised representatives answers ≡ refused 3

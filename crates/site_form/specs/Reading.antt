@@ -9,6 +9,8 @@ use mathlib.Core.Option.{Option, none, some}
 use lib.Dec.{eqb, leb, ltb}
 use lib.ListN.{length, drop, replicate}
 use Rattle.model.specs.declared.Triple.{Triple}
+use Rattle.model.specs.declared.Vocabulary.{Vocabulary}
+use Rattle.model.specs.Codes.{rdfs, vocabulary}
 use Rattle.model.specs.Triples.{triple, slots, listed}
 use Rattle.model.specs.Outcomes.{Outcome, refused, accepted, number as refusalNumber, check, checked, left}
 use Rattle.query.specs.declared.End.{End}
@@ -57,6 +59,14 @@ module _ {A : Type 0} where
   -- the first form, or else the second
   unfoldable pub _or_ : Reader A → Reader A → Reader A
   _or_ r s text at = orElse (r text at) (s text at)
+
+  abbrev pub givenElse : Step A → ℕ → Step (Option A)
+  givenElse bad at = got none at
+  givenElse (got x i) at = got (some x) i
+
+  -- the form, if it stands here
+  unfoldable pub optional : Reader A → Reader (Option A)
+  optional r text at = givenElse (r text at) at
 
   abbrev pub whileGot : Step A → (A → ℕ → Step (List A)) → Step (List A) → Step (List A)
   whileGot bad k stop = stop
@@ -117,6 +127,22 @@ siteReader = do
   lineEnd
   give n
 
+-- 02: "`(words A B C D E)` in that sequence"
+unfoldable pub wordsReader : Reader Vocabulary
+wordsReader = do
+  word (bytes "(words ")
+  a ← number
+  word (bytes " ")
+  b ← number
+  word (bytes " ")
+  c ← number
+  word (bytes " ")
+  d ← number
+  word (bytes " ")
+  e ← number
+  lineEnd
+  give (vocabulary a b c d e)
+
 -- 01: "`(t S P O)`"
 unfoldable pub tripleReader : Reader Triple
 tripleReader = do
@@ -169,23 +195,26 @@ askReader = do
   lineEnd
   give (p ∷ ps)
 
--- what a text says: the triples as they stand, and the counted patterns of each query
+-- what a text says: the reserved codes if they stand, the triples as they stand, and the counted patterns of each query
 pub record Forms : Type 0 where
   pub size : ℕ
+  pub words : Option Vocabulary
   pub triples : List Triple
   pub asks : List (List Pattern)
 
-abbrev pub forms : ℕ → List Triple → List (List Pattern) → Forms
-forms n ts qs = record { size = n; triples = ts; asks = qs }
+abbrev pub forms : ℕ → Option Vocabulary → List Triple → List (List Pattern) → Forms
+forms n w ts qs = record { size = n; words = w; triples = ts; asks = qs }
 
 -- 01: "In this sequence: a line `(site N)`, up to 1,000 `(t S P O)`, up to 16 `(ask PATTERN ...)`"
+-- 02: "The site form takes a second line `(words A B C D E)` in that sequence"
 unfoldable pub formsReader : Reader Forms
 formsReader = do
   n ← siteReader
+  w ← optional wordsReader
   ts ← many mostLines tripleReader
   qs ← many mostAsks askReader
   end
-  give (forms n ts qs)
+  give (forms n w ts qs)
 
 abbrev pub value : {A : Type 0} → Step A → Option A
 value bad = none
@@ -197,8 +226,8 @@ readForms text = value (formsReader text 0)
 
 -- The reader takes exactly the texts of the site form, and gives what they say.
 pub record ReadsExactly : Type 0 where
-  pub takes : (text : List ℕ) (n : ℕ) (ts : List Triple) (qs : List (List Pattern)) → (readForms text ≡ some (forms n ts qs)) ↔ SiteForm text n ts qs
-  pub refuses : (text : List ℕ) → (readForms text ≡ none) ↔ ((n : ℕ) (ts : List Triple) (qs : List (List Pattern)) → SiteForm text n ts qs → ⊥)
+  pub takes : (text : List ℕ) (n : ℕ) (w : Option Vocabulary) (ts : List Triple) (qs : List (List Pattern)) → (readForms text ≡ some (forms n w ts qs)) ↔ SiteForm text n w ts qs
+  pub refuses : (text : List ℕ) → (readForms text ≡ none) ↔ ((n : ℕ) (w : Option Vocabulary) (ts : List Triple) (qs : List (List Pattern)) → SiteForm text n w ts qs → ⊥)
 
 -- ── the call ──
 -- 01: "the queries by value, uncounted patterns being `((v 0) 0 (v 0))`"
@@ -212,12 +241,17 @@ queriesOf qs = map queryOf qs ++ replicate (mostAsks - length qs) (queryOf [])
 abbrev pub CountsPatterns : Type 0
 CountsPatterns = (ps : List Pattern) → counted (queryOf ps) ≡ ps
 
-unfoldable pub siteOf : Forms → Site
-siteOf f = record { size = f .size; count = length (f .triples); asks = length (f .asks); queries = queriesOf (f .asks) }
+-- 02: "without it 0 to 4 hold"
+abbrev pub loaded : Option Vocabulary → Vocabulary
+loaded none = rdfs
+loaded (some v) = v
 
--- 01: "with a refusal N is 0 and there are no queries"
+unfoldable pub siteOf : Forms → Site
+siteOf f = record { size = f .size; words = loaded (f .words); count = length (f .triples); asks = length (f .asks); queries = queriesOf (f .asks) }
+
+-- 01: "with a refusal N is 0 and there are no queries", and 02: the codes are 0 to 4
 abbrev pub noForms : Forms
-noForms = forms 0 [] []
+noForms = forms 0 none [] []
 
 -- 01: "reading 8, then 5"
 abbrev pub outcomeOf : Option Forms → List ℕ → Outcome Site

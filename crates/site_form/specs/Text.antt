@@ -1,4 +1,4 @@
--- The site form: what the text of a size, triples and queries is.
+-- The site form: what the text of a size, reserved codes, triples and queries is.
 -- Assumes nothing.
 use Prim.Native.Nat.{ℕ, zero, suc, _+_, _/_, _%_, _≤_}
 use Prim.Native.Char.{code}
@@ -6,9 +6,11 @@ use Prim.Native.String.{String}
 use mathlib.Core.Path.{_≡_}
 use mathlib.Core.Bool.{cond}
 use mathlib.Core.List.{List, [], _∷_, _++_, List·Memᴰ as Mem}
+use mathlib.Core.Option.{Option, none, some}
 use lib.Dec.{ltb}
 use lib.ListN.{length}
 use Rattle.model.specs.declared.Triple.{Triple}
+use Rattle.model.specs.declared.Vocabulary.{Vocabulary}
 use Rattle.model.specs.Lists.{collect}
 use Rattle.query.specs.declared.End.{End}
 use Rattle.query.specs.declared.End.the-variants.{Var, Code}
@@ -38,6 +40,20 @@ largest = 4294967295
 unfoldable pub siteLine : ℕ → List ℕ
 siteLine n = bytes "(site " ++ (numeral n ++ bytes ")\n")
 
+-- 02: "a second line `(words A B C D E)` in that sequence"
+unfoldable pub wordsLine : Vocabulary → List ℕ
+wordsLine v =
+    bytes "(words "
+    ++ (numeral (v .instance)
+    ++ (bytes " "
+    ++ (numeral (v .subclass)
+    ++ (bytes " " ++ (numeral (v .subproperty) ++ (bytes " " ++ (numeral (v .domain) ++ (bytes " " ++ (numeral (v .range) ++ bytes ")\n")))))))))
+
+-- the line may be left out
+unfoldable pub wordsText : Option Vocabulary → List ℕ
+wordsText none = []
+wordsText (some v) = wordsLine v
+
 -- 01: "`(t S P O)`"
 unfoldable pub tripleLine : Triple → List ℕ
 tripleLine t =
@@ -62,8 +78,9 @@ unfoldable pub askLine : List Pattern → List ℕ
 askLine ps = bytes "(ask" ++ (collect nextPattern ps ++ bytes ")\n")
 
 -- 01: "In this sequence: a line `(site N)`, up to 1,000 `(t S P O)`, up to 16 `(ask PATTERN ...)`"
-unfoldable pub siteText : ℕ → List Triple → List (List Pattern) → List ℕ
-siteText n ts qs = siteLine n ++ (collect tripleLine ts ++ collect askLine qs)
+-- 02: and the line of the reserved codes behind the first, if it stands
+unfoldable pub siteText : ℕ → Option Vocabulary → List Triple → List (List Pattern) → List ℕ
+siteText n w ts qs = siteLine n ++ (wordsText w ++ (collect tripleLine ts ++ collect askLine qs))
 
 abbrev pub mostLines : ℕ
 mostLines = 1000
@@ -77,6 +94,17 @@ mostPatterns = 8
 -- 01: "numbers of u32"
 abbrev pub U32 : ℕ → Type 0
 U32 n = n ≤ largest
+
+pub record WordsU32 (v : Vocabulary) : Type 0 where
+  pub instance : U32 (v .instance)
+  pub subclass : U32 (v .subclass)
+  pub subproperty : U32 (v .subproperty)
+  pub domain : U32 (v .domain)
+  pub range : U32 (v .range)
+
+-- the codes of a line that stands
+abbrev pub LineU32 : Option Vocabulary → Type 0
+LineU32 w = (v : Vocabulary) → w ≡ some v → WordsU32 v
 
 pub record TripleU32 (t : Triple) : Type 0 where
   pub subject : U32 (t .subject)
@@ -98,10 +126,11 @@ pub record AskForm (ps : List Pattern) : Type 0 where
   pub few : length ps ≤ mostPatterns
   pub numbers : (p : Pattern) → Mem p ps → PatternU32 p
 
--- the text is in the site form, and says this size, these triples and these queries
-pub record SiteForm (text : List ℕ) (n : ℕ) (ts : List Triple) (qs : List (List Pattern)) : Type 0 where
-  pub says : text ≡ siteText n ts qs
+-- the text is in the site form, and says this size, these reserved codes (none: it has no such line), these triples and these queries
+pub record SiteForm (text : List ℕ) (n : ℕ) (w : Option Vocabulary) (ts : List Triple) (qs : List (List Pattern)) : Type 0 where
+  pub says : text ≡ siteText n w ts qs
   pub size : U32 n
+  pub words : LineU32 w
   pub few-triples : length ts ≤ mostLines
   pub triples : (t : Triple) → Mem t ts → TripleU32 t
   pub few-asks : length qs ≤ mostAsks

@@ -1,5 +1,6 @@
 // The site form: what the reader answers. What it means is defined in specs/.
 use model::Refusal;
+use model::Vocabulary;
 use query::Query;
 
 // The most triples of a text, and the most queries.
@@ -12,10 +13,11 @@ pub const MOST_BYTES: usize = 32768;
 
 pub const LARGEST_PRINTED: usize = 512;
 
-// A site that was read: its size, how many triples and queries the text has, and the queries.
+// A site that was read: its size, its reserved codes, how many triples and queries the text has, and the queries.
 // The triples go to a lent list.
 pub struct Site {
     pub size: u32,
+    pub words: Vocabulary,
     pub count: usize,
     pub asks: usize,
     pub queries: [Query; 16],

@@ -1,15 +1,17 @@
 -- The readers of the forms, by what their parts answer.
 -- Assumes nothing.
 use Prim.Native.Nat.{ℕ}
-use mathlib.Core.Path.{_≡_, _∙_}
+use mathlib.Core.Path.{_≡_, refl, sym, _∙_, ap}
 use mathlib.Core.List.{List}
+use Rattle.model.specs.declared.Triple.{Triple}
+use Rattle.model.specs.Codes.{vocabulary}
 use Rattle.model.specs.Triples.{triple}
 use Rattle.query.specs.declared.End.{End}
 use Rattle.query.specs.declared.End.the-variants.{Var, Code}
 use Rattle.site_form.specs.Text.{bytes}
-use Rattle.site_form.specs.Reading.{bad, got, give, _or_, word, lineEnd, siteReader, tripleReader, endIn, endReader, pattern, patternReader, nextReader}
+use Rattle.site_form.specs.Reading.{Step, bad, got, give, _or_, word, lineEnd, siteReader, wordsReader, tripleReader, endIn, endReader, pattern, patternReader, nextReader}
 use Rattle.site_form.proofs.Readers.{fails}
-use Rattle.site_parts.specs.Steps.{numberAfter, endAfter}
+use Rattle.site_parts.specs.Steps.{mapped, numberAfter, endAfter, threeIn}
 use Rattle.site_parts.proofs.Steps.{then-got, after-bad, after-got}
 
 -- ── the site line ──
@@ -27,30 +29,91 @@ module _ (text : List ℕ) (at : ℕ) where
     unfolding siteReader give
     site-got u j f = after-got _ _ _ text at n i e ∙ then-got _ _ text i u j f
 
--- ── triples ──
+-- ── three numbers and the line's end ──
+module _ {A : Type 0} (make : ℕ → ℕ → ℕ → A) (w text : List ℕ) (at : ℕ) where
+  pub three-bad-first : numberAfter w text at ≡ bad → threeIn w make text at ≡ bad
+  unfolding threeIn
+  three-bad-first e = after-bad _ _ _ text at e
+
+  module _ (a i : ℕ) (ea : numberAfter w text at ≡ got a i) where
+    pub three-bad-second : numberAfter (bytes " ") text i ≡ bad → threeIn w make text at ≡ bad
+    unfolding threeIn
+    three-bad-second e = after-got _ _ _ text at a i ea ∙ after-bad _ _ _ text i e
+
+    module _ (b j : ℕ) (eb : numberAfter (bytes " ") text i ≡ got b j) where
+      pub three-bad-third : numberAfter (bytes " ") text j ≡ bad → threeIn w make text at ≡ bad
+      unfolding threeIn
+      three-bad-third e = after-got _ _ _ text at a i ea ∙ after-got _ _ _ text i b j eb ∙ after-bad _ _ _ text j e
+
+      module _ (c k : ℕ) (ec : numberAfter (bytes " ") text j ≡ got c k) where
+        pub three-open : lineEnd text k ≡ bad → threeIn w make text at ≡ bad
+        unfolding threeIn
+        three-open e = after-got _ _ _ text at a i ea ∙ after-got _ _ _ text i b j eb ∙ after-got _ _ _ text j c k ec ∙ fails _ _ text k e
+
+        pub three-got : (u : Unit {0}) (l : ℕ) → lineEnd text k ≡ got u l → threeIn w make text at ≡ got (make a b c) l
+        unfolding threeIn give
+        three-got u l e = after-got _ _ _ text at a i ea ∙ after-got _ _ _ text i b j eb ∙ after-got _ _ _ text j c k ec ∙ then-got _ _ text k u l e
+
+-- what is made of the three numbers, by the triple of them
+module _ {A : Type 0} (make : ℕ → ℕ → ℕ → A) (w text : List ℕ) (at : ℕ) where
+  abbrev made : Triple → A
+  made t = make (t .subject) (t .property) (t .object)
+
+  abbrev Same : Type 0
+  Same = mapped made (threeIn w triple text at) ≡ threeIn w make text at
+
+  bads : threeIn w triple text at ≡ bad → threeIn w make text at ≡ bad → Same
+  bads p q = ap (mapped made) p ∙ sym q
+
+  pub three-made : Same
+  three-made = first (numberAfter w text at) refl
+    where
+      last : (a i : ℕ) (ea : numberAfter w text at ≡ got a i) (b j : ℕ) (eb : numberAfter (bytes " ") text i ≡ got b j) (c k : ℕ) (ec : numberAfter (bytes " ") text j ≡ got c k)
+          → (x : Step (Unit {0})) → lineEnd text k ≡ x → Same
+      last a i ea b j eb c k ec bad e = bads (three-open triple w text at a i ea b j eb c k ec e) (three-open make w text at a i ea b j eb c k ec e)
+      last a i ea b j eb c k ec (got u l) e =
+          ap (mapped made) (three-got triple w text at a i ea b j eb c k ec u l e) ∙ sym (three-got make w text at a i ea b j eb c k ec u l e)
+
+      third : (a i : ℕ) (ea : numberAfter w text at ≡ got a i) (b j : ℕ) (eb : numberAfter (bytes " ") text i ≡ got b j) → (x : Step ℕ) → numberAfter (bytes " ") text j ≡ x → Same
+      third a i ea b j eb bad e = bads (three-bad-third triple w text at a i ea b j eb e) (three-bad-third make w text at a i ea b j eb e)
+      third a i ea b j eb (got c k) e = last a i ea b j eb c k e (lineEnd text k) refl
+
+      second : (a i : ℕ) (ea : numberAfter w text at ≡ got a i) → (x : Step ℕ) → numberAfter (bytes " ") text i ≡ x → Same
+      second a i ea bad e = bads (three-bad-second triple w text at a i ea e) (three-bad-second make w text at a i ea e)
+      second a i ea (got b j) e = third a i ea b j e (numberAfter (bytes " ") text j) refl
+
+      first : (x : Step ℕ) → numberAfter w text at ≡ x → Same
+      first bad e = bads (three-bad-first triple w text at e) (three-bad-first make w text at e)
+      first (got a i) e = second a i e (numberAfter (bytes " ") text i) refl
+
+-- ── triples and the reserved codes ──
 module _ (text : List ℕ) (at : ℕ) where
-  pub triple-bad-subject : numberAfter (bytes "(t ") text at ≡ bad → tripleReader text at ≡ bad
-  unfolding tripleReader
-  triple-bad-subject e = after-bad _ _ _ text at e
+  pub triple-is : threeIn (bytes "(t ") triple text at ≡ tripleReader text at
+  unfolding threeIn tripleReader
+  triple-is = refl
 
-  module _ (s i : ℕ) (es : numberAfter (bytes "(t ") text at ≡ got s i) where
-    pub triple-bad-property : numberAfter (bytes " ") text i ≡ bad → tripleReader text at ≡ bad
-    unfolding tripleReader
-    triple-bad-property e = after-got _ _ _ text at s i es ∙ after-bad _ _ _ text i e
+  pub words-bad-instance : numberAfter (bytes "(words ") text at ≡ bad → wordsReader text at ≡ bad
+  unfolding wordsReader
+  words-bad-instance x = after-bad _ _ _ text at x
 
-    module _ (p j : ℕ) (ep : numberAfter (bytes " ") text i ≡ got p j) where
-      pub triple-bad-object : numberAfter (bytes " ") text j ≡ bad → tripleReader text at ≡ bad
-      unfolding tripleReader
-      triple-bad-object e = after-got _ _ _ text at s i es ∙ after-got _ _ _ text i p j ep ∙ after-bad _ _ _ text j e
+  module _ (a i : ℕ) (ea : numberAfter (bytes "(words ") text at ≡ got a i) where
+    pub words-bad-subclass : numberAfter (bytes " ") text i ≡ bad → wordsReader text at ≡ bad
+    unfolding wordsReader
+    words-bad-subclass x = after-got _ _ _ text at a i ea ∙ after-bad _ _ _ text i x
 
-      module _ (o k : ℕ) (eo : numberAfter (bytes " ") text j ≡ got o k) where
-        pub triple-open : lineEnd text k ≡ bad → tripleReader text at ≡ bad
-        unfolding tripleReader
-        triple-open e = after-got _ _ _ text at s i es ∙ after-got _ _ _ text i p j ep ∙ after-got _ _ _ text j o k eo ∙ fails _ _ text k e
+    module _ (b j : ℕ) (eb : numberAfter (bytes " ") text i ≡ got b j) where
+      words-rest : wordsReader text at ≡ threeIn (bytes " ") (vocabulary a b) text j
+      unfolding wordsReader threeIn
+      words-rest = after-got _ _ _ text at a i ea ∙ after-got _ _ _ text i b j eb
 
-        pub triple-got : (u : Unit {0}) (l : ℕ) → lineEnd text k ≡ got u l → tripleReader text at ≡ got (triple s p o) l
-        unfolding tripleReader give
-        triple-got u l e = after-got _ _ _ text at s i es ∙ after-got _ _ _ text i p j ep ∙ after-got _ _ _ text j o k eo ∙ then-got _ _ text k u l e
+      words-is : wordsReader text at ≡ mapped (λ (t : Triple). vocabulary a b (t .subject) (t .property) (t .object)) (threeIn (bytes " ") triple text j)
+      words-is = words-rest ∙ sym (three-made (vocabulary a b) (bytes " ") text j)
+
+      pub words-bad-rest : threeIn (bytes " ") triple text j ≡ bad → wordsReader text at ≡ bad
+      words-bad-rest e = words-is ∙ ap (mapped (λ (t : Triple). vocabulary a b (t .subject) (t .property) (t .object))) e
+
+      pub words-got : (t : Triple) (n : ℕ) → threeIn (bytes " ") triple text j ≡ got t n → wordsReader text at ≡ got (vocabulary a b (t .subject) (t .property) (t .object)) n
+      words-got t n e = words-is ∙ ap (mapped (λ (t : Triple). vocabulary a b (t .subject) (t .property) (t .object))) e
 
 -- ── ends ──
 module _ (w : List ℕ) (text : List ℕ) (at : ℕ) (make : ℕ → End) where

@@ -6,10 +6,12 @@ ghost use Prim.Native.Nat.{ℕ};
 ghost use lib.ListN.{drop};
 ghost use Rattle.query.specs.declared.End.{End};
 ghost use Rattle.query.specs.declared.End.the-variants.{Code};
+ghost use Rattle.model.specs.Triples.{triple};
 ghost use Rattle.site_form.specs.Text.{bytes};
-ghost use Rattle.site_form.specs.Reading.{digit, moreOf, number, word, lineEnd, siteReader, tripleReader, endIn, endReader, patternReader, nextReader};
-ghost use Rattle.site_parts.specs.Steps.{numberStep, wordStep, tripleStep, endStep, patternStep, mapped, numberAfter, endAfter};
+ghost use Rattle.site_form.specs.Reading.{digit, moreOf, number, word, lineEnd, siteReader, wordsReader, tripleReader, endIn, endReader, patternReader, nextReader};
+ghost use Rattle.site_parts.specs.Steps.{numberStep, wordStep, wordsStep, tripleStep, endStep, patternStep, mapped, numberAfter, endAfter, threeIn};
 use model::Triple;
+use model::Vocabulary;
 use query::End;
 use query::Pattern;
 
@@ -20,6 +22,11 @@ pub enum NumberForm {
 
 pub enum WordForm {
     Got { next: usize },
+    Bad,
+}
+
+pub enum WordsForm {
+    Got { words: Vocabulary, next: usize },
     Bad,
 }
 
@@ -147,14 +154,14 @@ pub fn site_line(text: &[u8], at: usize) -> NumberForm
     NumberForm::Got { value, next }
 }
 
-// A line `(t S P O)`.
-pub fn triple_line(text: &[u8], at: usize) -> TripleForm
-    ensures { λ r. ⌜ tripleStep r ≡ tripleReader (now (text .entry)) at ⌝ }
+// Three numbers with single spaces between them, the first behind the bytes w, and the line's end; as a triple.
+fn three_numbers(text: &[u8], at: usize, w: &[u8]) -> TripleForm
+    ensures { λ r. ⌜ tripleStep r ≡ threeIn (now (w .entry)) triple (now (text .entry)) at ⌝ }
 {
     let NumberForm::Got {
         value: subject,
         next: i,
-    } = number_after(text, at, b"(t ")
+    } = number_after(text, at, w)
     else {
         return TripleForm::Bad;
     };
@@ -180,6 +187,46 @@ pub fn triple_line(text: &[u8], at: usize) -> TripleForm
             subject,
             property,
             object,
+        },
+        next,
+    }
+}
+
+// A line `(t S P O)`.
+pub fn triple_line(text: &[u8], at: usize) -> TripleForm
+    ensures { λ r. ⌜ tripleStep r ≡ tripleReader (now (text .entry)) at ⌝ }
+{
+    three_numbers(text, at, b"(t ")
+}
+
+// The line `(words A B C D E)`.
+pub fn words_line(text: &[u8], at: usize) -> WordsForm
+    ensures { λ r. ⌜ wordsStep r ≡ wordsReader (now (text .entry)) at ⌝ }
+{
+    let NumberForm::Got {
+        value: instance,
+        next: i,
+    } = number_after(text, at, b"(words ")
+    else {
+        return WordsForm::Bad;
+    };
+    let NumberForm::Got {
+        value: subclass,
+        next: j,
+    } = number_after(text, i, b" ")
+    else {
+        return WordsForm::Bad;
+    };
+    let TripleForm::Got { triple, next } = three_numbers(text, j, b" ") else {
+        return WordsForm::Bad;
+    };
+    WordsForm::Got {
+        words: Vocabulary {
+            instance,
+            subclass,
+            subproperty: triple.subject,
+            domain: triple.property,
+            range: triple.object,
         },
         next,
     }

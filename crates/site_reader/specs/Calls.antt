@@ -4,9 +4,11 @@ use Prim.Native.Nat.{ℕ, suc}
 use mathlib.Core.Path.{_≡_}
 use mathlib.Core.Bool.{cond}
 use mathlib.Core.List.{List, [], _∷_}
+use mathlib.Core.Option.{Option}
 use lib.Dec.{ltb}
 use lib.ListN.{length}
 use Rattle.model.specs.declared.Triple.{Triple}
+use Rattle.model.specs.declared.Vocabulary.{Vocabulary}
 use Rattle.model.specs.declared.Refusal.{Refusal}
 use Rattle.model.specs.Lists.{zeros}
 use Rattle.model.specs.Triples.{slots}
@@ -14,9 +16,18 @@ use Rattle.lists.specs.Flat.{putAt}
 use Rattle.site_form.specs.declared.ReadAnswer.{ReadAnswer}
 use Rattle.site_form.specs.declared.Form.the-variants.{Refused}
 use Rattle.site_form.specs.Text.{mostLines}
-use Rattle.site_form.specs.Reading.{Step, many, tripleReader, siteOf, noForms, readOutcome, answered, readSite, readList}
+use Rattle.site_form.specs.Reading.{Step, many, optional, wordsReader, tripleReader, loaded, siteOf, noForms, readOutcome, answered, readSite, readList}
 use Rattle.site_reader.specs.declared.LinesRead.{LinesRead}
-use Rattle.site_parts.specs.Steps.{items, after}
+use Rattle.site_reader.specs.declared.WordsRead.{WordsRead}
+use Rattle.site_parts.specs.Steps.{items, after, standing, behind}
+
+-- the line of the reserved codes, if it stands
+abbrev pub someWords : List ℕ → ℕ → Step (Option Vocabulary)
+someWords text at = optional wordsReader text at
+
+pub record WordsFrom (text : List ℕ) (at : ℕ) (r : WordsRead) : Type 0 where
+  pub words : r .words ≡ loaded (standing (someWords text at))
+  pub next : r .next ≡ behind (someWords text at)
 
 -- the list with t at place i, if it has that slot
 unfoldable pub stored : List ℕ → ℕ → Triple → List ℕ

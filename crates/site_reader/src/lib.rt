@@ -6,9 +6,10 @@ ghost use mathlib.Core.List.{[]};
 ghost use Rattle.site_form.specs.Reading.{bad, askReader, queryOf};
 ghost use Rattle.site_parts.specs.Steps.{mapped};
 ghost use Rattle.site_reader.specs.Queries.{withPattern, PatternsFrom, askStep, AsksFrom};
-ghost use Rattle.site_reader.specs.Calls.{stored, LinesFrom, RefusedRead, ReadCall};
+ghost use Rattle.site_reader.specs.Calls.{WordsFrom, stored, LinesFrom, RefusedRead, ReadCall};
 use model::Refusal;
 use model::Triple;
+use model::Vocabulary;
 use query::End;
 use query::Pattern;
 use query::Query;
@@ -21,11 +22,19 @@ use site_parts::NumberForm;
 use site_parts::PatternForm;
 use site_parts::TripleForm;
 use site_parts::WordForm;
+use site_parts::WordsForm;
 use site_parts::line_end;
 use site_parts::next_pattern;
 use site_parts::site_line;
 use site_parts::triple_line;
 use site_parts::word;
+use site_parts::words_line;
+
+// The reserved codes of the text, and the place after their line.
+pub struct WordsRead {
+    pub words: Vocabulary,
+    pub next: usize,
+}
 
 // How many triples were read, and the place after them.
 pub struct LinesRead {
@@ -148,6 +157,19 @@ fn ask_lines(text: &[u8], at: usize) -> AsksRead
     }
 }
 
+// The reserved codes: those of the line that stands here, or else 0 to 4.
+fn some_words(text: &[u8], at: usize) -> WordsRead
+    ensures { λ r. ⌜ WordsFrom (now (text .entry)) at r ⌝ }
+{
+    let WordsForm::Got { words, next } = words_line(text, at) else {
+        return WordsRead {
+            words: lists::rdfs_words(),
+            next: at,
+        };
+    };
+    WordsRead { words, next }
+}
+
 // Stores a triple at place i if the list has that slot.
 fn store(list: &mut [u32], i: usize, t: Triple)
     ensures { λ r. ⌜ now (list .exit) ≡ stored (now (list .entry)) i t ⌝ }
@@ -186,6 +208,7 @@ fn refuse(list: &mut [u32], refusal: Refusal) -> ReadAnswer
         form: Form::Refused(refusal),
         site: Site {
             size: 0,
+            words: lists::rdfs_words(),
             count: 0,
             asks: 0,
             queries,
@@ -205,7 +228,8 @@ pub fn read(text: &[u8], list: &mut [u32]) -> ReadAnswer
     else {
         return refuse(list, Refusal::Form);
     };
-    let lines = triple_lines(text, i, list);
+    let loaded = some_words(text, i);
+    let lines = triple_lines(text, loaded.next, list);
     let asks = ask_lines(text, lines.next);
     let n = list.len();
     if asks.next < text.len() {
@@ -215,11 +239,13 @@ pub fn read(text: &[u8], list: &mut [u32]) -> ReadAnswer
         return refuse(list, Refusal::Slots);
     }
     lists::clear(list, 3 * lines.count, n);
+    let words = loaded.words;
     let queries = asks.queries;
     ReadAnswer {
         form: Form::Read,
         site: Site {
             size,
+            words,
             count: lines.count,
             asks: asks.count,
             queries,

@@ -4,6 +4,7 @@
 ghost use Prim.Native.Nat.{_<_, _≤_};
 ghost use lib.ListN.{length};
 use libc::STDOUT_FILENO;
+use model::Vocabulary;
 use model::refusal_number;
 use printer::print_site;
 use query::End;
@@ -103,8 +104,30 @@ fn show_queries(site: Site) {
     }
 }
 
-// Reads a text into a list; shows the answer, N, the numbers of triples and queries, the list's digest, the first triples and the
-// queries.
+// Whether these are the codes that hold where a text has no line for them.
+fn are_rdfs(words: Vocabulary) -> bool {
+    words.instance == 0
+        && words.subclass == 1
+        && words.subproperty == 2
+        && words.domain == 3
+        && words.range == 4
+}
+
+// The reserved codes, if they are not 0 to 4.
+fn show_words(words: Vocabulary) {
+    if are_rdfs(words) {
+        return;
+    }
+    show(b"(words ", long(words.instance));
+    show(b" ", long(words.subclass));
+    show(b" ", long(words.subproperty));
+    show(b" ", long(words.domain));
+    show(b" ", long(words.range));
+    close();
+}
+
+// Reads a text into a list; shows the answer, N, the numbers of triples and queries, the list's digest, the reserved codes, the first
+// triples and the queries.
 fn show_read(text: &[u8], list: &mut [u32]) {
     let answer = read(text, list);
     let site = answer.site;
@@ -119,6 +142,8 @@ fn show_read(text: &[u8], list: &mut [u32]) {
     show(b" ", site.asks as u64);
     show(b" ", digest(list));
     close();
+    let words = site.words;
+    show_words(words);
     show_triples(list, site.count);
     show_queries(site);
 }

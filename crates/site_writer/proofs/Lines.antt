@@ -1,18 +1,24 @@
 -- The lines of a site, and a line for each triple of a table.
 -- Assumes nothing.
 use Prim.Native.Nat.{ℕ, suc, _+_, _-_, _/_, _<_, _≤_}
-use mathlib.Core.Path.{_≡_, refl, sym, _∙_, ap}
+use mathlib.Core.Path.{_≡_, refl, sym, _∙_, ap, subst}
+use mathlib.Core.Bool.{true, false}
 use mathlib.Core.List.{List, [], _∷_, _++_}
 use native.Mathlib.Numerals.{add-one}
 use native.Mathlib.Omega.{arith}
+use lib.Dec.{eqb}
 use lib.ListN.{length, length-append}
 use lib.Seq.{sets}
+use borrow.Author.Tests.{eq-eqb, ne-eqb}
 use Rattle.model.specs.declared.Triple.{Triple}
+use Rattle.model.specs.declared.Vocabulary.{Vocabulary}
+use Rattle.model.specs.Codes.{rdfs}
 use Rattle.model.specs.Lists.{collect, tabulate}
 use Rattle.model.specs.Triples.{triples}
 use Rattle.lists.specs.Flat.{at}
 use Rattle.lists.proofs.Places.{triples-table}
-use Rattle.site_form.specs.Text.{bytes, numeral, siteLine, tripleLine}
+use Rattle.site_form.specs.Text.{bytes, numeral, siteLine, wordsLine, wordsText, tripleLine}
+use Rattle.site_form.specs.Writing.{sameWords, lineOf}
 use Rattle.site_writer.specs.Calls.{Room, Put}
 use Rattle.site_writer.proofs.Stores.{sets-append, put-length, put-then-two, room-first-two, room-next-two}
 
@@ -30,6 +36,96 @@ module _ (l : List ℕ) (from n : ℕ) where
     pub site-put : (out : List ℕ) (r : ℕ) → Put m i (bytes ")\n") out r → Put l from (siteLine n) out r
     unfolding siteLine
     site-put out r q = put-then-two l from (bytes "(site ") (numeral n) m i (bytes ")\n") out r p q
+
+-- ── the line of the reserved codes ──
+module _ (l : List ℕ) (from : ℕ) (v : Vocabulary) (h : Room from (wordsLine v)) where
+  pub room-instance : Room from (bytes "(words " ++ numeral (v .instance))
+  unfolding wordsLine
+  room-instance = room-first-two from (bytes "(words ") (numeral (v .instance)) _ h
+
+  module _ (a : List ℕ) (i : ℕ) (p : Put l from (bytes "(words " ++ numeral (v .instance)) a i) where
+    behind-instance : Room i (bytes " " ++ (numeral (v .subclass) ++ (bytes " " ++ (numeral (v .subproperty) ++ (bytes " " ++ (numeral (v .domain) ++ (bytes " " ++ (numeral (v .range) ++ bytes ")\n"))))))))
+    unfolding wordsLine
+    behind-instance = room-next-two l from (bytes "(words ") (numeral (v .instance)) _ a i h p
+
+    pub room-subclass : Room i (bytes " " ++ numeral (v .subclass))
+    room-subclass = room-first-two i (bytes " ") (numeral (v .subclass)) _ behind-instance
+
+    module _ (b : List ℕ) (j : ℕ) (q : Put a i (bytes " " ++ numeral (v .subclass)) b j) where
+      behind-subclass : Room j (bytes " " ++ (numeral (v .subproperty) ++ (bytes " " ++ (numeral (v .domain) ++ (bytes " " ++ (numeral (v .range) ++ bytes ")\n"))))))
+      behind-subclass = room-next-two a i (bytes " ") (numeral (v .subclass)) _ b j behind-instance q
+
+      pub room-subproperty : Room j (bytes " " ++ numeral (v .subproperty))
+      room-subproperty = room-first-two j (bytes " ") (numeral (v .subproperty)) _ behind-subclass
+
+      module _ (c : List ℕ) (k : ℕ) (s : Put b j (bytes " " ++ numeral (v .subproperty)) c k) where
+        behind-subproperty : Room k (bytes " " ++ (numeral (v .domain) ++ (bytes " " ++ (numeral (v .range) ++ bytes ")\n"))))
+        behind-subproperty = room-next-two b j (bytes " ") (numeral (v .subproperty)) _ c k behind-subclass s
+
+        pub room-domain : Room k (bytes " " ++ numeral (v .domain))
+        room-domain = room-first-two k (bytes " ") (numeral (v .domain)) _ behind-subproperty
+
+        module _ (d : List ℕ) (m : ℕ) (t : Put c k (bytes " " ++ numeral (v .domain)) d m) where
+          behind-domain : Room m (bytes " " ++ (numeral (v .range) ++ bytes ")\n"))
+          behind-domain = room-next-two c k (bytes " ") (numeral (v .domain)) _ d m behind-subproperty t
+
+          pub room-range : Room m (bytes " " ++ numeral (v .range))
+          room-range = room-first-two m (bytes " ") (numeral (v .range)) _ behind-domain
+
+          module _ (e : List ℕ) (n : ℕ) (u : Put d m (bytes " " ++ numeral (v .range)) e n) where
+            pub room-words-end : Room n (bytes ")\n")
+            room-words-end = room-next-two d m (bytes " ") (numeral (v .range)) _ e n behind-domain u
+
+            pub words-put : (out : List ℕ) (r : ℕ) → Put e n (bytes ")\n") out r → Put l from (wordsLine v) out r
+            unfolding wordsLine
+            words-put out r z =
+                put-then-two l from (bytes "(words ") _ a i _ out r p
+                (put-then-two a i (bytes " ") _ b j _ out r q
+                (put-then-two b j (bytes " ") _ c k _ out r s
+                (put-then-two c k (bytes " ") _ d m _ out r t
+                (put-then-two d m (bytes " ") _ e n _ out r u z))))
+
+module _ (v : Vocabulary) where
+  pub plain-not-0 : (v .instance ≡ 0 → ⊥) → false ≡ sameWords v rdfs
+  unfolding sameWords
+  plain-not-0 n = rw (ne-eqb _ _ n)
+
+  module _ (e0 : v .instance ≡ 0) where
+    pub plain-not-1 : (v .subclass ≡ 1 → ⊥) → false ≡ sameWords v rdfs
+    unfolding sameWords
+    plain-not-1 n = rw (eq-eqb _ _ e0, ne-eqb _ _ n)
+
+    module _ (e1 : v .subclass ≡ 1) where
+      pub plain-not-2 : (v .subproperty ≡ 2 → ⊥) → false ≡ sameWords v rdfs
+      unfolding sameWords
+      plain-not-2 n = rw (eq-eqb _ _ e0, eq-eqb _ _ e1, ne-eqb _ _ n)
+
+      module _ (e2 : v .subproperty ≡ 2) where
+        pub plain-not-3 : (v .domain ≡ 3 → ⊥) → false ≡ sameWords v rdfs
+        unfolding sameWords
+        plain-not-3 n = rw (eq-eqb _ _ e0, eq-eqb _ _ e1, eq-eqb _ _ e2, ne-eqb _ _ n)
+
+        pub plain-last : v .domain ≡ 3 → eqb (v .range) 4 ≡ sameWords v rdfs
+        unfolding sameWords
+        plain-last e3 = rw (eq-eqb _ _ e0, eq-eqb _ _ e1, eq-eqb _ _ e2, eq-eqb _ _ e3)
+
+  pub line-none : sameWords v rdfs ≡ true → wordsText (lineOf v) ≡ []
+  unfolding lineOf wordsText
+  line-none e = rw e
+
+  pub line-some : sameWords v rdfs ≡ false → wordsText (lineOf v) ≡ wordsLine v
+  unfolding lineOf wordsText
+  line-some e = rw e
+
+  module _ (l : List ℕ) (from : ℕ) where
+    pub loaded-none : sameWords v rdfs ≡ true → Put l from (wordsText (lineOf v)) l from
+    loaded-none e = let z = line-none e in record { list = ap (sets l from) (sym z); next = omega (arith, ap {B = ℕ} (λ (x : List ℕ). length x) z) }
+
+    pub loaded-room : sameWords v rdfs ≡ false → Room from (wordsText (lineOf v)) → Room from (wordsLine v)
+    loaded-room e = subst (Room from) (line-some e)
+
+    pub loaded-some : sameWords v rdfs ≡ false → (out : List ℕ) (r : ℕ) → Put l from (wordsLine v) out r → Put l from (wordsText (lineOf v)) out r
+    loaded-some e out r p = subst (λ (x : List ℕ). Put l from x out r) (sym (line-some e)) p
 
 -- ── a line of a triple ──
 module _ (l : List ℕ) (from : ℕ) (t : Triple) (h : Room from (tripleLine t)) where

@@ -6,7 +6,7 @@ use mathlib.Core.List.{List}
 use lib.ListN.{length}
 use lib.Seq.{sets}
 use Rattle.model.specs.declared.Counted.{Counted}
-use Rattle.model.specs.Codes.{rdfs}
+use Rattle.model.specs.declared.Vocabulary.{Vocabulary}
 use Rattle.model.specs.Outcomes.{counted}
 use Rattle.site_form.specs.Writing.{writeOutcome, writeList}
 
@@ -20,6 +20,6 @@ pub record Put (l : List ℕ) (at : ℕ) (xs l′ : List ℕ) (r : ℕ) : Type 0
   pub next : r ≡ at + length xs
 
 -- what the call returns and leaves
-pub record WriteCall (n : ℕ) (table out : List ℕ) (r : Counted) (out′ : List ℕ) : Type 0 where
-  pub outcome : counted r ≡ writeOutcome rdfs n table out
-  pub list : out′ ≡ writeList rdfs n table out
+pub record WriteCall (v : Vocabulary) (n : ℕ) (table out : List ℕ) (r : Counted) (out′ : List ℕ) : Type 0 where
+  pub outcome : counted r ≡ writeOutcome v n table out
+  pub list : out′ ≡ writeList v n table out

@@ -13,7 +13,7 @@ use Rattle.model.specs.declared.Refusal.{Refusal}
 use Rattle.model.specs.declared.Refusal.the-variants.{Slots}
 use Rattle.model.specs.declared.Counted.{Counted}
 use Rattle.model.specs.declared.Counted.the-variants.{Count, Refused as counted-refused}
-use Rattle.model.specs.Codes.{rdfs}
+use Rattle.model.specs.declared.Vocabulary.{Vocabulary}
 use Rattle.model.specs.Lists.{tabulate, zeros}
 use Rattle.model.specs.Triples.{triples, slots, sorted, listed}
 use Rattle.model.specs.Partition.{label}
@@ -40,7 +40,7 @@ use Rattle.builder.specs.declared.Builder.{Builder}
 use Rattle.builder.specs.Builder.{first, Collected, Finished}
 use Rattle.summarise.specs.Condensed.{Condensed, SummariseCall}
 
--- ── triples that pass the checks 1 to 4 ──
+-- ── triples that pass the checks ──
 -- the images by place are the images of the list
 images-mapped : (f : Triple → Triple) (table : List ℕ) (count : ℕ) (u : Triple) → Mem u (tabulate (λ i. f (at table i)) 0 count) ↔ Mem u (map f (first table count))
 images-mapped f table count u = (there, back)
@@ -54,111 +54,112 @@ images-mapped f table count u = (there, back)
         let w = tabulate-mem (at table) 0 count (z .1) in
         subst (λ (x : Triple). Mem x (tabulate (λ i. f (at table i)) 0 count)) (sym (z .2 ∙ ap f (w .3))) (mem-tabulate (λ i. f (at table i)) 0 count (w .0) (w .1) (w .2))
 
-module _ (table : List ℕ) (count : ℕ) (roster result map₀ map′ work work′ : List ℕ) (size : length map₀ ≡ length roster) (m : map′ ≡ mapOf rdfs roster (first table count)) (w : work′ ≡ zeros (length work)) where
-  abbrev sum : List Triple
-  sum = summary rdfs roster (first table count)
+module _ (words : Vocabulary) where
+  module _ (table : List ℕ) (count : ℕ) (roster result map₀ map′ work work′ : List ℕ) (size : length map₀ ≡ length roster) (m : map′ ≡ mapOf words roster (first table count)) (w : work′ ≡ zeros (length work)) where
+    abbrev sum : List Triple
+    sum = summary words roster (first table count)
 
-  module _ (l : List ℕ) (b : Builder) (C : Collected (λ i. moved (label map′) (at table i)) count result l b) where
-    images-sum : sorted (tabulate (λ i. moved (label map′) (at table i)) 0 count) ≡ sum
-    unfolding summary
-    images-sum = sorted-members _ _ (images-mapped (moved (label map′)) table count) ∙ (λ i. sorted (map (moved (label (m i))) (first table count)))
+    module _ (l : List ℕ) (b : Builder) (C : Collected (λ i. moved (label map′) (at table i)) count result l b) where
+      images-sum : sorted (tabulate (λ i. moved (label map′) (at table i)) 0 count) ≡ sum
+      unfolding summary
+      images-sum = sorted-members _ _ (images-mapped (moved (label map′)) table count) ∙ (λ i. sorted (map (moved (label (m i))) (first table count)))
 
-    pub condensed-full : b .full ≡ true → (n k : List ℕ) → Cleared l n 0 (length l) → Cleared map′ k 0 (length map′) → Condensed roster (first table count) result map₀ work (counted-refused Slots) n k work′
-    unfolding counted number slots
-    condensed-full f n k z y =
-        let long : length result / 3 < length sum = subst (λ (x : List Triple). length result / 3 < length x) images-sum (C .over f) in
-        let q = too-few [] (length result / 3) (length sum) no-checks long in
-        let same : length map′ ≡ length map₀ = ap {B = ℕ} (λ (x : List ℕ). length x) m ∙ length-map-of rdfs roster (first table count) ∙ sym size in
-        record {
-          answer = sym q;
-          in-result = cleared-all l n (length l) z (omega arith) ∙ ap zeros (C .size) ∙ sym (left-zeros _ _ _ q);
-          in-map = cleared-all map′ k (length map′) y (omega arith) ∙ ap zeros same ∙ sym (left-zeros _ _ _ q);
-          in-work = w ∙ sym (left-zeros _ _ _ q);
-        }
-
-    module _ (f : b .full ≡ false) (n : List ℕ) (r : ℕ) (F : Finished l n (b .filled) r) where
-      is-sum : sorted (first l (b .filled)) ≡ sum
-      is-sum = sorted-members _ _ (C .members f) ∙ images-sum
-
-      count-is : r ≡ length sum
-      count-is = F .count ∙ ap {B = ℕ} (λ (x : List Triple). length x) is-sum
-
-      pub condensed-count : Condensed roster (first table count) result map₀ work (Count r) n map′ work′
-      unfolding counted slots
-      condensed-count =
-          let few = sorted-length (first l (b .filled)) in
-          let full = length-tabulate (at l) 0 (b .filled) in
-          let fits : length sum ≤ length result / 3 = omega (arith, count-is, F .count, few, full, C .built f .room, C .size) in
-          let q = enough [] (length result / 3) (length sum) no-checks fits in
+      pub condensed-full : b .full ≡ true → (n k : List ℕ) → Cleared l n 0 (length l) → Cleared map′ k 0 (length map′) → Condensed words roster (first table count) result map₀ work (counted-refused Slots) n k work′
+      unfolding counted number slots
+      condensed-full f n k z y =
+          let long : length result / 3 < length sum = subst (λ (x : List Triple). length result / 3 < length x) images-sum (C .over f) in
+          let q = too-few [] (length result / 3) (length sum) no-checks long in
+          let same : length map′ ≡ length map₀ = ap {B = ℕ} (λ (x : List ℕ). length x) m ∙ length-map-of words roster (first table count) ∙ sym size in
           record {
-            answer = ap (λ (k : ℕ). accepted k) count-is ∙ sym q;
-            in-result = F .list ∙ (λ i. listed (C .size i) (is-sum i)) ∙ sym (left-after _ _ _ _ q);
-            in-map = m ∙ sym (left-after _ _ _ _ q);
-            in-work = w ∙ sym (left-after _ _ _ _ q);
+            answer = sym q;
+            in-result = cleared-all l n (length l) z (omega arith) ∙ ap zeros (C .size) ∙ sym (left-zeros _ _ _ q);
+            in-map = cleared-all map′ k (length map′) y (omega arith) ∙ ap zeros same ∙ sym (left-zeros _ _ _ q);
+            in-work = w ∙ sym (left-zeros _ _ _ q);
           }
 
--- the codes of the triples are entries of the map
-pub all-below : (table : List ℕ) (count : ℕ) (roster map′ : List ℕ) → map′ ≡ mapOf rdfs roster (first table count) → Right rdfs roster (first table count) → AllBelow (length map′) (first table count)
-all-below table count roster map′ m R =
-    let size : length map′ ≡ length roster = ap {B = ℕ} (λ (x : List ℕ). length x) m ∙ length-map-of rdfs roster (first table count) in
-    subst (λ (n : ℕ). AllBelow n (first table count)) (sym size) (below rdfs roster (first table count) R)
+      module _ (f : b .full ≡ false) (n : List ℕ) (r : ℕ) (F : Finished l n (b .filled) r) where
+        is-sum : sorted (first l (b .filled)) ≡ sum
+        is-sum = sorted-members _ _ (C .members f) ∙ images-sum
 
--- ── the whole call ──
-module _ (table roster result map₀ work : List ℕ) (lengths : Bool) (e : lengths ≡ (not (eqb (length map₀) (length roster)) || wrongWork (length roster) (length work))) where
-  -- the verdict of the checks 1 to 4
-  abbrev Is : Verdict → Type 0
-  Is v = verdict v ≡ checked (tableChecks rdfs lengths table roster) tt
+        count-is : r ≡ length sum
+        count-is = F .count ∙ ap {B = ℕ} (λ (x : List Triple). length x) is-sum
 
-  pub call-refused : (v : Verdict) (r : Refusal) → Is v → v ≡ Refused r → SummariseCall table roster result map₀ work (counted-refused r) result map₀ work
-  unfolding counted summariseOutcome summariseLeaves
-  call-refused v r h k =
-      let z : verdict (Refused r) ≡ checked (tableChecks rdfs lengths table roster) tt = subst Is k h in
-      let Z = subst (λ (b : Bool). verdict (Refused r) ≡ checked (tableChecks rdfs b table roster) tt) e z in
-      let q = refused-more (not (eqb (length map₀) (length roster)) || wrongWork (length roster) (length work)) table roster r Z _ _ in
-      let kept = refused-left (not (eqb (length map₀) (length roster)) || wrongWork (length roster) (length work)) table roster r Z _ q in
-      record {
-        answer = sym q;
-        leaves = λ i. record { result = sym (kept result (listed (length result) (summary rdfs roster (triples table)))) i; map = sym (kept map₀ (mapOf rdfs roster (triples table))) i; work = sym (kept work (zeros (length work))) i };
-      }
+        pub condensed-count : Condensed words roster (first table count) result map₀ work (Count r) n map′ work′
+        unfolding counted slots
+        condensed-count =
+            let few = sorted-length (first l (b .filled)) in
+            let full = length-tabulate (at l) 0 (b .filled) in
+            let fits : length sum ≤ length result / 3 = omega (arith, count-is, F .count, few, full, C .built f .room, C .size) in
+            let q = enough [] (length result / 3) (length sum) no-checks fits in
+            record {
+              answer = ap (λ (k : ℕ). accepted k) count-is ∙ sym q;
+              in-result = F .list ∙ (λ i. listed (C .size i) (is-sum i)) ∙ sym (left-after _ _ _ _ q);
+              in-map = m ∙ sym (left-after _ _ _ _ q);
+              in-work = w ∙ sym (left-after _ _ _ _ q);
+            }
 
-  module _ (v : Verdict) (h : Is v) (k : v ≡ Passed) where
-    passes : Passes (tableChecks rdfs lengths table roster)
-    passes = passed lengths table roster (subst Is k h)
+  -- the codes of the triples are entries of the map
+  pub all-below : (table : List ℕ) (count : ℕ) (roster map′ : List ℕ) → map′ ≡ mapOf words roster (first table count) → Right words roster (first table count) → AllBelow (length map′) (first table count)
+  all-below table count roster map′ m R =
+      let size : length map′ ≡ length roster = ap {B = ℕ} (λ (x : List ℕ). length x) m ∙ length-map-of words roster (first table count) in
+      subst (λ (n : ℕ). AllBelow n (first table count)) (sym size) (below words roster (first table count) R)
 
-    at-places : triples table ≡ first table (length table / 3)
-    at-places = triples-table table
+  -- ── the whole call ──
+  module _ (table roster result map₀ work : List ℕ) (lengths : Bool) (e : lengths ≡ (not (eqb (length map₀) (length roster)) || wrongWork (length roster) (length work))) where
+    -- the verdict of the checks
+    abbrev Is : Verdict → Type 0
+    Is v = verdict v ≡ checked (tableChecks words lengths table roster) tt
 
-    call-right : Right rdfs roster (first table (length table / 3))
-    call-right = subst (Right rdfs roster) at-places (passed-right lengths table roster passes)
-
-    both : (not (eqb (length map₀) (length roster)) ≡ false) × (wrongWork (length roster) (length work) ≡ false)
-    both = or-false (not (eqb (length map₀) (length roster))) _ (sym e ∙ passed-lengths lengths table roster passes)
-
-    map-size : length map₀ ≡ length roster
-    map-size = eqb-true _ _ (not-false _ (both .0))
-
-    work-size : length work ≡ 2 * length roster
-    unfolding wrongWork
-    work-size = eqb-true _ _ (not-false _ (both .1))
-
-    -- what summarising asks for
-    pub call-ready : (3 * (length table / 3) ≤ length table) × Right rdfs roster (first table (length table / 3)) × (length map₀ ≡ length roster) × (length work ≡ 2 * length roster)
-    call-ready = (omega arith, call-right, map-size, work-size)
-
-    pub call-condensed : (r : Counted) (result′ map′ work′ : List ℕ) → Condensed roster (first table (length table / 3)) result map₀ work r result′ map′ work′
-        → SummariseCall table roster result map₀ work r result′ map′ work′
-    unfolding summariseOutcome summariseLeaves slots
-    call-condensed r result′ map′ work′ D =
-        let C = subst (λ (ts : List Triple). Condensed roster ts result map₀ work r result′ map′ work′) (sym at-places) D in
-        let P = subst (λ (b : Bool). Passes (tableChecks rdfs b table roster)) e passes in
-        let n = length (summary rdfs roster (triples table)) in
-        let q = passed-more (tableChecks rdfs (not (eqb (length map₀) (length roster)) || wrongWork (length roster) (length work)) table roster) (check 5 (ltb (length result / 3) n) ∷ []) (accepted n) P in
+    pub call-refused : (v : Verdict) (r : Refusal) → Is v → v ≡ Refused r → SummariseCall words table roster result map₀ work (counted-refused r) result map₀ work
+    unfolding counted summariseOutcome summariseLeaves
+    call-refused v r h k =
+        let z : verdict (Refused r) ≡ checked (tableChecks words lengths table roster) tt = subst Is k h in
+        let Z = subst (λ (b : Bool). verdict (Refused r) ≡ checked (tableChecks words b table roster) tt) e z in
+        let q = refused-more words (not (eqb (length map₀) (length roster)) || wrongWork (length roster) (length work)) table roster r Z _ _ in
+        let kept = refused-left words (not (eqb (length map₀) (length roster)) || wrongWork (length roster) (length work)) table roster r Z _ q in
         record {
-          answer = C .answer ∙ sym q;
-          leaves = λ i.
-              record {
-                result = (C .in-result ∙ ap (λ (o : Outcome ℕ). left o result (listed (length result) (summary rdfs roster (triples table)))) (sym q)) i;
-                map = (C .in-map ∙ ap (λ (o : Outcome ℕ). left o map₀ (mapOf rdfs roster (triples table))) (sym q)) i;
-                work = (C .in-work ∙ ap (λ (o : Outcome ℕ). left o work (zeros (length work))) (sym q)) i;
-              };
+          answer = sym q;
+          leaves = λ i. record { result = sym (kept result (listed (length result) (summary words roster (triples table)))) i; map = sym (kept map₀ (mapOf words roster (triples table))) i; work = sym (kept work (zeros (length work))) i };
         }
+
+    module _ (v : Verdict) (h : Is v) (k : v ≡ Passed) where
+      passes : Passes (tableChecks words lengths table roster)
+      passes = passed words lengths table roster (subst Is k h)
+
+      at-places : triples table ≡ first table (length table / 3)
+      at-places = triples-table table
+
+      call-right : Right words roster (first table (length table / 3))
+      call-right = subst (Right words roster) at-places (passed-right words lengths table roster passes)
+
+      both : (not (eqb (length map₀) (length roster)) ≡ false) × (wrongWork (length roster) (length work) ≡ false)
+      both = or-false (not (eqb (length map₀) (length roster))) _ (sym e ∙ passed-lengths words lengths table roster passes)
+
+      map-size : length map₀ ≡ length roster
+      map-size = eqb-true _ _ (not-false _ (both .0))
+
+      work-size : length work ≡ 2 * length roster
+      unfolding wrongWork
+      work-size = eqb-true _ _ (not-false _ (both .1))
+
+      -- what summarising asks for
+      pub call-ready : (3 * (length table / 3) ≤ length table) × Right words roster (first table (length table / 3)) × (length map₀ ≡ length roster) × (length work ≡ 2 * length roster)
+      call-ready = (omega arith, call-right, map-size, work-size)
+
+      pub call-condensed : (r : Counted) (result′ map′ work′ : List ℕ) → Condensed words roster (first table (length table / 3)) result map₀ work r result′ map′ work′
+          → SummariseCall words table roster result map₀ work r result′ map′ work′
+      unfolding summariseOutcome summariseLeaves slots
+      call-condensed r result′ map′ work′ D =
+          let C = subst (λ (ts : List Triple). Condensed words roster ts result map₀ work r result′ map′ work′) (sym at-places) D in
+          let P = subst (λ (b : Bool). Passes (tableChecks words b table roster)) e passes in
+          let n = length (summary words roster (triples table)) in
+          let q = passed-more (tableChecks words (not (eqb (length map₀) (length roster)) || wrongWork (length roster) (length work)) table roster) (check 5 (ltb (length result / 3) n) ∷ []) (accepted n) P in
+          record {
+            answer = C .answer ∙ sym q;
+            leaves = λ i.
+                record {
+                  result = (C .in-result ∙ ap (λ (o : Outcome ℕ). left o result (listed (length result) (summary words roster (triples table)))) (sym q)) i;
+                  map = (C .in-map ∙ ap (λ (o : Outcome ℕ). left o map₀ (mapOf words roster (triples table))) (sym q)) i;
+                  work = (C .in-work ∙ ap (λ (o : Outcome ℕ). left o work (zeros (length work))) (sym q)) i;
+                };
+          }

@@ -5,7 +5,6 @@ ghost use Prim.Native.Nat.{_*_, _/_, _≤_};
 ghost use mathlib.Core.Bool.{not, _||_};
 ghost use lib.Dec.{eqb};
 ghost use lib.ListN.{length};
-ghost use Rattle.model.specs.Codes.{rdfs};
 ghost use Rattle.model.specs.Outcomes.{wrongWork};
 ghost use Rattle.model.specs.Partition.{label};
 ghost use Rattle.model.specs.Summary.{moved};
@@ -24,6 +23,7 @@ use lists::wide;
 use model::Counted;
 use model::Refusal;
 use model::Triple;
+use model::Vocabulary;
 use table_checks::Verdict;
 use table_checks::table_refusal;
 use weak_map::weak_map;
@@ -63,8 +63,9 @@ fn images(table: &[u32], count: usize, map: &[u32], list: &mut [u32]) -> Builder
     state
 }
 
-// Summarises the first `count` triples of a list, which pass the checks 1 to 4 with the roster.
+// Summarises the first `count` triples of a list, which pass the checks 1, 10, 2, 3, 4 with the words and the roster.
 pub fn condense(
+    words: Vocabulary,
     table: &[u32],
     count: usize,
     roster: &[u8],
@@ -72,10 +73,10 @@ pub fn condense(
     map: &mut [u32],
     work: &mut [u32],
 ) -> Counted
-    requires { ⌜ (3 * count ≤ length (now table)) × Right rdfs (now roster) (first (now table) count) × (length (now map) ≡ length (now roster)) × (length (now work) ≡ 2 * length (now roster)) ⌝ }
-    ensures { λ r. ⌜ Condensed (now (roster .entry)) (first (now (table .entry)) count) (now (result .entry)) (now (map .entry)) (now (work .entry)) r (now (result .exit)) (now (map .exit)) (now (work .exit)) ⌝ }
+    requires { ⌜ (3 * count ≤ length (now table)) × Right words (now roster) (first (now table) count) × (length (now map) ≡ length (now roster)) × (length (now work) ≡ 2 * length (now roster)) ⌝ }
+    ensures { λ r. ⌜ Condensed words (now (roster .entry)) (first (now (table .entry)) count) (now (result .entry)) (now (map .entry)) (now (work .entry)) r (now (result .exit)) (now (map .exit)) (now (work .exit)) ⌝ }
 {
-    weak_map(table, count, roster, map, work);
+    weak_map(words, table, count, roster, map, work);
     let state = images(table, count, map, result);
     if state.full {
         clear(result, 0, result.len());
@@ -97,17 +98,18 @@ fn lengths_wrong(n: usize, map: usize, work: usize) -> bool
 
 // The summary of a table in rising order, the map of representatives, and the summary's size.
 pub fn summarise(
+    words: Vocabulary,
     table: &[u32],
     roster: &[u8],
     result: &mut [u32],
     map: &mut [u32],
     work: &mut [u32],
 ) -> Counted
-    ensures { λ r. ⌜ SummariseCall (now (table .entry)) (now (roster .entry)) (now (result .entry)) (now (map .entry)) (now (work .entry)) r (now (result .exit)) (now (map .exit)) (now (work .exit)) ⌝ }
+    ensures { λ r. ⌜ SummariseCall words (now (table .entry)) (now (roster .entry)) (now (result .entry)) (now (map .entry)) (now (work .entry)) r (now (result .exit)) (now (map .exit)) (now (work .exit)) ⌝ }
 {
     let lengths = lengths_wrong(roster.len(), map.len(), work.len());
-    match table_refusal(lengths, table, roster) {
+    match table_refusal(words, lengths, table, roster) {
         Verdict::Refused(r) => Counted::Refused(r),
-        Verdict::Passed => condense(table, table.len() / 3, roster, result, map, work),
+        Verdict::Passed => condense(words, table, table.len() / 3, roster, result, map, work),
     }
 }

@@ -5,11 +5,12 @@ use mathlib.Core.Path.{_≡_, refl, sym, subst, ap}
 use mathlib.Core.Bool.{true, false, not}
 use mathlib.Core.List.{List, List·Memᴰ as Mem, List·Memᴰ·head as here, List·Memᴰ·tail as there, List·Memᴰ·not-nil as no-mem}
 use native.Mathlib.Omega.{arith}
-use lib.Dec.{eqb, ltb}
+use lib.Dec.{eqb, leb, ltb}
 use lib.ListN.{length}
-use borrow.Author.Tests.{ltb-false, le-ltb, eq-eqb, not-false}
+use borrow.Author.Tests.{leb-false, ltb-true, ltb-false, le-ltb, eq-eqb, not-false}
 use Rattle.model.specs.declared.Triple.{Triple}
-use Rattle.model.specs.Codes.{Vocabulary, rdfs, absent, mostTriples, kind}
+use Rattle.model.specs.declared.Vocabulary.{Vocabulary}
+use Rattle.model.specs.Codes.{codes, wrongWords, absent, mostTriples, kind, reserved}
 use Rattle.model.specs.Triples.{triples, flat}
 use Rattle.model.specs.Roster.{classRow, propertyRow, covers, wrongRoster, wrongCodes}
 use Rattle.model.specs.Saturation.{saturation}
@@ -21,6 +22,8 @@ use Rattle.model.specs.Outcomes.{wrongSize, wrongLength}
 use Rattle.model.specs.Calls.{tableChecks, Accepted}
 use Rattle.theory.proofs.Tests.{or-false, or-neither}
 use Rattle.theory.proofs.Checks.{passes-first, first-passes, no-checks}
+use Rattle.theory.proofs.Lists.{any-none}
+use Rattle.model.specs.Lists.{any}
 use Rattle.theory.proofs.Flat.{triples-flat, length-flat, length-triples}
 use Rattle.theory.proofs.Covered.{AllBelow, Codes, Covered, Class, Property, class-marked, property-marked, one-of, two-of, all-codes, codes-all, all-covered, covered-all}
 use Rattle.theory.proofs.Saturated.{In, saturation-exact, saturation-below}
@@ -35,32 +38,36 @@ few-triples table h =
     let x = or-false (not (eqb (length table % 3) 0)) _ h in
     omega (arith, ltb-false (3 * mostTriples) (length table) (x .1), length-triples table)
 
--- a roster and triples that pass the checks 2, 3 and 4, in a site of right size
+-- a vocabulary, a roster and triples that pass the checks 10, 2, 3 and 4, in a site of right size
 pub record Right (v : Vocabulary) (roster : List ℕ) (ts : List Triple) : Type 0 where
   pub size : wrongSize (length roster) ≡ false
+  pub words : wrongWords v (length roster) ≡ false
   pub marks : wrongRoster v roster ≡ false
   pub codes : wrongCodes v (length roster) ts ≡ false
   pub cover : covers v roster ts ≡ true
-  pub type-below : v .type < length roster
 
 -- 01's sizes
 pub size-bounds : (n : ℕ) → wrongSize n ≡ false → (5 ≤ n) × (n ≤ 65536)
 unfolding wrongSize
 size-bounds n h = let x = or-false (ltb n 5) _ h in (ltb-false n 5 (x .0), ltb-false 65536 n (x .1))
 
-pub accepted-right : (v : Vocabulary) (table roster : List ℕ) → v .type < length roster → Accepted v table roster → Right v roster (triples table)
+-- the words are below N
+pub words-below : (v : Vocabulary) (n : ℕ) → wrongWords v n ≡ false → (c : ℕ) → Mem c (codes v) → c < n
+unfolding wrongWords
+words-below v n h c m = leb-false n c (any-none (λ c. leb n c) (codes v) ((or-false (any (λ c. leb n c) (codes v)) _ h) .0) c m)
+
+pub type-below : {v : Vocabulary} {roster : List ℕ} {ts : List Triple} → Right v roster ts → v .instance < length roster
+type-below {v} {roster} R = words-below v (length roster) (R .words) (v .instance) (here refl)
+
+pub accepted-right : (v : Vocabulary) (table roster : List ℕ) → Accepted v table roster → Right v roster (triples table)
 unfolding tableChecks
-accepted-right v table roster w h =
+accepted-right v table roster h =
     let a = passes-first _ _ h in
-    let b = passes-first _ _ (a .1) in
+    let w = passes-first _ _ (a .1) in
+    let b = passes-first _ _ (w .1) in
     let c = passes-first _ _ (b .1) in
     let d = passes-first _ _ (c .1) in
-    record { size = (or-false (wrongSize (length roster)) _ (a .0)) .0; marks = b .0; codes = c .0; cover = not-false _ (d .0); type-below = w }
-
-pub rdfs-right : (table roster : List ℕ) → Accepted rdfs table roster → Right rdfs roster (triples table)
-unfolding tableChecks
-rdfs-right table roster h =
-    accepted-right rdfs table roster (omega (arith, size-bounds (length roster) ((or-false (wrongSize (length roster)) _ ((passes-first _ _ h) .0)) .0))) h
+    record { size = (or-false (wrongSize (length roster)) _ (a .0)) .0; words = w .0; marks = b .0; codes = c .0; cover = not-false _ (d .0) }
 
 -- a flat list of so many triples is a table's length, unless there are too many
 flat-length : (ts : List Triple) → length ts ≤ mostTriples → wrongLength (length (flat ts)) ≡ false
@@ -74,9 +81,10 @@ pub right-accepted : (v : Vocabulary) (roster : List ℕ) (ts : List Triple) →
 unfolding tableChecks
 right-accepted v roster ts R l =
     first-passes _ _ (or-neither (wrongSize (length roster)) _ (R .size) (or-neither (wrongLength (length (flat ts))) _ (flat-length ts l) refl))
+    (first-passes _ _ (R .words)
     (first-passes _ _ (R .marks)
     (first-passes _ _ (subst (λ (us : List Triple). wrongCodes v (length roster) us ≡ false) (sym (triples-flat ts)) (R .codes))
-    (first-passes _ _ (ap not (subst (λ (us : List Triple). covers v roster us ≡ true) (sym (triples-flat ts)) (R .cover))) no-checks)))
+    (first-passes _ _ (ap not (subst (λ (us : List Triple). covers v roster us ≡ true) (sym (triples-flat ts)) (R .cover))) no-checks))))
 
 module _ (v : Vocabulary) (roster : List ℕ) (ts : List Triple) (R : Right v roster ts) where
   pub room : length roster ≤ absent
@@ -100,16 +108,16 @@ module _ (v : Vocabulary) (roster : List ℕ) (ts : List Triple) (R : Right v ro
   -- ── the saturation ──
   pub saturation-right : Right v roster (saturation v (length roster) ts)
   saturation-right =
-      let exact = saturation-exact v (length roster) (R .type-below) ts below in
+      let exact = saturation-exact v (length roster) (type-below R) ts below in
       record {
         size = R .size;
+        words = R .words;
         marks = R .marks;
         codes = codes-all v (length roster) (saturation v (length roster) ts)
             (λ t m.
             let k = derives-covered v roster (In ts) covered ((exact t) .0 m) in
-            record { below = saturation-below v (length roster) (R .type-below) ts below t m; subject-free = k .subject-free; object-free = k .object-free });
+            record { below = saturation-below v (length roster) (type-below R) ts below t m; subject-free = k .subject-free; object-free = k .object-free });
         cover = covered-all v roster (saturation v (length roster) ts) (λ t m. derives-covered v roster (In ts) covered ((exact t) .0 m));
-        type-below = R .type-below;
       }
 
   -- ── the summary ──
@@ -119,6 +127,10 @@ module _ (v : Vocabulary) (roster : List ℕ) (ts : List Triple) (R : Right v ro
       at : (e : Rattle.model.specs.Cliques.Side) → Rattle.model.specs.Cliques.end e (x .by) ≡ c → 5 ≤ kind v c
       at source q = subst (λ (z : ℕ). 5 ≤ kind v z) q ((in-codes (x .by) (x .held)) .subject-free)
       at target q = subst (λ (z : ℕ). 5 ≤ kind v z) q ((in-codes (x .by) (x .held)) .object-free)
+
+  pub word-no-node : (c : ℕ) → reserved v c ≡ true → Node (In ts) c → ⊥
+  unfolding reserved
+  word-no-node c e x = omega (arith, node-free c x, ltb-true (kind v c) 5 e)
 
   -- a marked end represents itself, so that it keeps its mark
   class-kept : (c : ℕ) → Node (In ts) c → Class roster c → Class roster (f c)
@@ -164,11 +176,11 @@ module _ (v : Vocabulary) (roster : List ℕ) (ts : List Triple) (R : Right v ro
   summary-right =
       record {
         size = R .size;
+        words = R .words;
         marks = R .marks;
         codes = codes-all v (length roster) (summary v roster ts)
             (λ t m.
             let k = summary-covered t m in
             record { below = summary-below v roster ts below room t m; subject-free = k .subject-free; object-free = k .object-free });
         cover = covered-all v roster (summary v roster ts) summary-covered;
-        type-below = R .type-below;
       }

@@ -6,10 +6,10 @@ use mathlib.Core.Logic.{_⊎_, inl, inr, _↔_}
 use mathlib.Core.Bool.{true}
 use mathlib.Core.List.{List, [], List·Memᴰ as Mem}
 use native.Mathlib.Omega.{arith}
-use lib.ListN.{getD}
 use Rattle.model.specs.declared.Rule.{Rule}
 use Rattle.model.specs.declared.Triple.{Triple}
-use Rattle.model.specs.Codes.{Vocabulary, codes, kind}
+use Rattle.model.specs.declared.Vocabulary.{Vocabulary}
+use Rattle.model.specs.Codes.{kind, codeOf}
 use Rattle.model.specs.Triples.{triple}
 use Rattle.model.specs.Rules.{rule, rules, place, fits, gives, Derives, given, by-rule}
 use Rattle.model.specs.Partition.{label}
@@ -120,10 +120,10 @@ module _ (v : Vocabulary) where
               below = climb v G free subclasses (F .below) b (schema-in v G free y (omega (arith, p), omega (arith, p))) p (sym q);
             })
 
-    reached : (k : ℕ) → k < 5 → {p q : ℕ} → Up v G free k p q → (p ≡ q) ⊎ Derives v G (triple p (getD (codes v) k 0) q)
+    reached : (k : ℕ) → k < 5 → {p q : ℕ} → Up v G free k p q → (p ≡ q) ⊎ Derives v G (triple p (codeOf v k) q)
     reached k l (stays e) = inl e
     reached k l (leads a s h e f) =
-        let w : a .property ≡ getD (codes v) k 0 = code-of-kind v (a .property) (omega (arith, h)) ∙ ap (λ (z : ℕ). getD (codes v) z 0) h in
+        let w : a .property ≡ codeOf v k = code-of-kind v (a .property) k h l in
         inr (subst (Derives v G) (λ i. triple (e i) (w i) (f i)) (derives-map v (λ t x. x .0) s))
 
     pub record Origin (p a d : ℕ) : Type 0 where
@@ -134,6 +134,7 @@ module _ (v : Vocabulary) where
       pub below : (class ≡ d) ⊎ Derives v G (triple class (v .subclass) d)
 
     pub origin-of : {k : ℕ} → Types k → (p a d : ℕ) → kind v p ≡ k → Derives v G (triple a p d) → Origin p a d
+    unfolding codeOf
     origin-of w p a d e x =
         let F = traced x (constraint w p e) in
         record {

@@ -1,20 +1,21 @@
 -- A triple that the checks 3 and 4 pass, as a statement: no reserved code at an end, and each role marked.
 -- Assumes nothing.
 use Prim.Native.Nat.{ℕ, zero, suc, _≤_, _<_}
-use mathlib.Core.Path.{_≡_, refl, sym, subst}
+use mathlib.Core.Path.{_≡_, refl, sym, subst, _∙_, ap}
 use mathlib.Core.Logic.{_⊎_, inl, inr, ⊎-elim}
-use mathlib.Core.Bool.{Bool, true, false, cond}
+use mathlib.Core.Bool.{Bool, true, false, cond, _||_, true≢false}
 use mathlib.Core.List.{List, [], _∷_, List·Memᴰ as Mem, List·Memᴰ·head as here, List·Memᴰ·tail as there, List·Memᴰ·not-nil as no-mem}
 use native.Mathlib.Omega.{arith}
 use lib.Dec.{eqb, leb}
-use lib.ListN.{getD}
+use lib.ListN.{length, getD}
 use borrow.Author.Tests.{eqb-true, eq-eqb, ne-eqb, leb-false, lt-leb, ltb-false, le-ltb}
 use Rattle.model.specs.declared.Triple.{Triple}
-use Rattle.model.specs.Codes.{Vocabulary, codes, kind, reserved}
-use Rattle.model.specs.Lists.{all}
+use Rattle.model.specs.declared.Vocabulary.{Vocabulary}
+use Rattle.model.specs.Codes.{codes, kind, reserved, codeOf, repeated, wrongWords}
+use Rattle.model.specs.Lists.{any, all}
 use Rattle.model.specs.Roster.{mark, isClass, isProperty, unmarked, classRow, propertyRow, classRoles, propertyRoles, coversTriple, covers, wrongEnd, wrongTriple, wrongCodes}
 use Rattle.theory.proofs.Tests.{or-true, or-false, or-neither, and-true, and-both, bool-cases}
-use Rattle.theory.proofs.Lists.{all-at, at-all, any-none, none-any}
+use Rattle.theory.proofs.Lists.{all-at, at-all, any-holds, any-none, none-any, mem-getD}
 
 -- the kind by its five tests
 abbrev firstTrue : Bool → Bool → Bool → Bool → Bool → ℕ
@@ -23,7 +24,7 @@ firstTrue a b c d e = cond a 0 (cond b 1 (cond c 2 (cond d 3 (cond e 4 5))))
 -- a kind is at most 5
 pub kind-top : (v : Vocabulary) (p : ℕ) → kind v p ≤ 5
 unfolding kind
-kind-top v p = go (eqb p (v .type)) (eqb p (v .subclass)) (eqb p (v .subproperty)) (eqb p (v .domain)) (eqb p (v .range))
+kind-top v p = go (eqb p (v .instance)) (eqb p (v .subclass)) (eqb p (v .subproperty)) (eqb p (v .domain)) (eqb p (v .range))
   where
     go : (a b c d e : Bool) → firstTrue a b c d e ≤ 5
     go true b c d e = omega arith
@@ -34,14 +35,14 @@ kind-top v p = go (eqb p (v .type)) (eqb p (v .subclass)) (eqb p (v .subproperty
     go false false false false false = omega arith
 
 -- a code of a kind below 5 is the vocabulary's of that kind
-pub code-of-kind : (v : Vocabulary) (p : ℕ) → kind v p < 5 → p ≡ getD (codes v) (kind v p) 0
-unfolding kind
-code-of-kind v p h =
-    go (eqb p (v .type)) (eqb p (v .subclass)) (eqb p (v .subproperty)) (eqb p (v .domain)) (eqb p (v .range))
-    (eqb-true _ _) (eqb-true _ _) (eqb-true _ _) (eqb-true _ _) (eqb-true _ _) h
+pub code-of-kind : (v : Vocabulary) (p k : ℕ) → kind v p ≡ k → k < 5 → p ≡ codeOf v k
+unfolding kind codeOf
+code-of-kind v p k q h =
+    subst (λ (z : ℕ). z < 5 → p ≡ codeOf v z) q (go (eqb p (v .instance)) (eqb p (v .subclass)) (eqb p (v .subproperty)) (eqb p (v .domain)) (eqb p (v .range))
+    (eqb-true _ _) (eqb-true _ _) (eqb-true _ _) (eqb-true _ _) (eqb-true _ _)) h
   where
-    go : (a b c d e : Bool) → (a ≡ true → p ≡ v .type) → (b ≡ true → p ≡ v .subclass) → (c ≡ true → p ≡ v .subproperty) → (d ≡ true → p ≡ v .domain) → (e ≡ true → p ≡ v .range)
-        → firstTrue a b c d e < 5 → p ≡ getD (codes v) (firstTrue a b c d e) 0
+    go : (a b c d e : Bool) → (a ≡ true → p ≡ v .instance) → (b ≡ true → p ≡ v .subclass) → (c ≡ true → p ≡ v .subproperty) → (d ≡ true → p ≡ v .domain) → (e ≡ true → p ≡ v .range)
+        → firstTrue a b c d e < 5 → p ≡ getD (codes v) (firstTrue a b c d e) (v .instance)
     go true b c d e f1 f2 f3 f4 f5 h = f1 refl
     go false true c d e f1 f2 f3 f4 f5 h = f2 refl
     go false false true d e f1 f2 f3 f4 f5 h = f3 refl
@@ -49,9 +50,43 @@ code-of-kind v p h =
     go false false false false true f1 f2 f3 f4 f5 h = f5 refl
     go false false false false false f1 f2 f3 f4 f5 h = absurd (omega (arith, h))
 
-pub kind-type : (v : Vocabulary) → kind v (v .type) ≡ 0
+-- a list without repeats has different numbers at different places
+places-differ : (xs : List ℕ) (d i j : ℕ) → repeated xs ≡ false → i < length xs → j < length xs → getD xs i d ≡ getD xs j d → i ≡ j
+unfolding repeated any
+places-differ [] d i j h p q e = absurd (omega arith)
+places-differ (x ∷ xs) d zero zero h p q e = refl
+places-differ (x ∷ xs) d zero (suc j) h p q e =
+    absurd (true≢false (sym (eq-eqb x _ e) ∙ any-none (λ y. eqb x y) xs ((or-false (any (λ y. eqb x y) xs) _ h) .0) _ (mem-getD xs d j (omega arith))))
+places-differ (x ∷ xs) d (suc i) zero h p q e =
+    absurd (true≢false (sym (eq-eqb x _ (sym e)) ∙ any-none (λ y. eqb x y) xs ((or-false (any (λ y. eqb x y) xs) _ h) .0) _ (mem-getD xs d i (omega arith))))
+places-differ (x ∷ xs) d (suc i) (suc j) h p q e = ap suc (places-differ xs d i j ((or-false (any (λ y. eqb x y) xs) _ h) .1) (omega arith) (omega arith) e)
+
+-- one of the five codes has a kind below 5
+code-reserved : (v : Vocabulary) (c : ℕ) → Mem c (codes v) → kind v c < 5
+unfolding kind any
+code-reserved v c m =
+    go (eqb c (v .instance)) (eqb c (v .subclass)) (eqb c (v .subproperty)) (eqb c (v .domain)) (eqb c (v .range))
+    (any-holds (λ x. eqb c x) (codes v) c m (eq-eqb c c refl))
+  where
+    go : (a b c d e : Bool) → (a || (b || (c || (d || (e || false))))) ≡ true → firstTrue a b c d e < 5
+    go true b c d e h = omega arith
+    go false true c d e h = omega arith
+    go false false true d e h = omega arith
+    go false false false true e h = omega arith
+    go false false false false true h = omega arith
+    go false false false false false h = absurd (true≢false (sym h))
+
+-- where no two codes are equal, a code's kind is its place
+pub kind-of-code : (v : Vocabulary) (n : ℕ) → wrongWords v n ≡ false → (k : ℕ) → k < 5 → kind v (codeOf v k) ≡ k
+unfolding wrongWords codeOf
+kind-of-code v n h k l =
+    let r = code-reserved v (codeOf v k) (mem-getD (codes v) (v .instance) k l) in
+    let q = code-of-kind v (codeOf v k) (kind v (codeOf v k)) refl r in
+    sym (places-differ (codes v) (v .instance) k _ ((or-false (any (λ c. leb n c) (codes v)) _ h) .1) l r q)
+
+pub kind-type : (v : Vocabulary) → kind v (v .instance) ≡ 0
 unfolding kind
-kind-type v = rw (eq-eqb (v .type) (v .type) refl)
+kind-type v = rw (eq-eqb (v .instance) (v .instance) refl)
 
 pub one-of : {c x : ℕ} {P : Type 0} → (c ≡ x → P) → Mem c (x ∷ []) → P
 one-of f (here e) = f e

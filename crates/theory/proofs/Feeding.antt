@@ -13,7 +13,8 @@ use lib.ListN.{length, replicate, length-replicate, getD-replicate, length-map}
 use lib.Seq.{ext-getD}
 use borrow.Author.Tests.{ltb-false, leb-false, lt-leb, not-false, eqb-true, eq-eqb}
 use Rattle.model.specs.declared.Triple.{Triple}
-use Rattle.model.specs.Codes.{Vocabulary, absent}
+use Rattle.model.specs.declared.Vocabulary.{Vocabulary}
+use Rattle.model.specs.Codes.{wrongWords, absent}
 use Rattle.model.specs.Lists.{any, all, zeros, padded}
 use Rattle.model.specs.Triples.{triples, flat, slots, holds, insert, sorted, listed}
 use Rattle.model.specs.Order.{Rising}
@@ -31,7 +32,7 @@ use Rattle.theory.proofs.Covered.{AllBelow}
 use Rattle.theory.proofs.Saturated.{In}
 use Rattle.theory.proofs.Mapped.{length-map-of, map-absent}
 use Rattle.theory.proofs.Summaries.{Same, same-map-of, same-summary-of}
-use Rattle.theory.proofs.Checks.{passes-first, first-passes, no-checks, decided-passes, decided-cases, not-accepted}
+use Rattle.theory.proofs.Checks.{passes-first, first-passes, no-checks, decided-passes, decided-cases, passed}
 use Rattle.theory.proofs.Flat.{length-listed}
 use Rattle.theory.proofs.Accepted.{Right, below, room, size-bounds}
 
@@ -220,33 +221,34 @@ module _ (v : Vocabulary) (roster : List ℕ) where
       }
 
   -- with right lists and a right roster a feed's checks are the plain intake's
-  feed-outcome : (s : State) (f : Feed) (H : List Triple) → wrongLists v roster s ≡ false → wrongRoster v roster ≡ false
+  feed-outcome : (s : State) (f : Feed) (H : List Triple) → wrongLists v roster s ≡ false → wrongWords v (length roster) ≡ false → wrongRoster v roster ≡ false
       → decided (feedChecks v roster s f) (judged v roster (space-of s) H (f .triple)) ≡ answer v roster (space-of s) H f
   unfolding feedChecks answer decided
-  feed-outcome s f H l m = λ i.
+  feed-outcome s f H l w m = λ i.
       decided
       (check 1 (l i || wrongWork (length roster) (f .work))
+      ∷ check 10 (w i)
       ∷ check 2 (m i)
       ∷ check 3 (wrongTriple v (length roster) (f .triple))
       ∷ check 4 (not (coversTriple v roster (f .triple)))
       ∷ [])
       (judged v roster (space-of s) H (f .triple))
 
-  pub run-plain : (marks : wrongRoster v roster ≡ false) {s end : State} {fs : List Feed} {os : List (Outcome Bool)} → Run v roster s fs os end → (H : List Triple) → Good-state s H
+  pub run-plain : (words : wrongWords v (length roster) ≡ false) (marks : wrongRoster v roster ≡ false) {s end : State} {fs : List Feed} {os : List (Outcome Bool)} → Run v roster s fs os end → (H : List Triple) → Good-state s H
       → (os ≡ answers v roster (space-of s) fs H) × (end ≡ state s (heldAfter v roster (space-of s) fs H))
   unfolding answers heldAfter slots
-  run-plain marks none H g = (refl, g .is-state)
-  run-plain marks {s} {end} (then-fed {after} {t} {outcome} {fs} {os} work work-after p run) H g =
+  run-plain words marks none H g = (refl, g .is-state)
+  run-plain words marks {s} {end} (then-fed {after} {t} {outcome} {fs} {os} work work-after p run) H g =
       let f : Feed = record { triple = t; work = length work } in
       let k = p .steps H (good-valid s H g) in
-      let e : outcome ≡ answer v roster (space-of s) H f = k .0 ∙ feed-outcome s f H (g .lists) marks in
+      let e : outcome ≡ answer v roster (space-of s) H f = k .0 ∙ feed-outcome s f H (g .lists) words marks in
       let K : List Triple = next (space-of s) H f in
       let q : after ≡ state s K = k .1 ∙ ap (λ (o : Outcome Bool). state s (joins v roster o t H)) e in
       let h : Holds (space-of s) K = next-holds (space-of s) H f (g .holds-it) in
       let z = state-sizes s K (g .sized) (h .fits) in
       let a : length (after .triples) ≡ length (s .triples) = ap (λ (x : State). length (x .triples)) q ∙ z .triples in
       let b : length (after .summary) ≡ length (s .summary) = ap (λ (x : State). length (x .summary)) q ∙ z .summary in
-      let rest = run-plain marks run K (subst (λ (x : State). Good-state x K) (sym q) (good-next s K (g .lists) (g .sized) h)) in (
+      let rest = run-plain words marks run K (subst (λ (x : State). Good-state x K) (sym q) (good-next s K (g .lists) (g .sized) h)) in (
         λ i. e i ∷ (rest .0 ∙ (λ j. answers v roster (a j / 3) fs K)) i,
         rest .1 ∙ (λ i. stateOf v roster (a i) (b i) (heldAfter v roster (a i / 3) fs K)),
       )
@@ -286,19 +288,16 @@ module _ (v : Vocabulary) (roster : List ℕ) where
   -- a right opening
   pub record Opening (s : State) : Type 0 where
     pub lists : wrongLists v roster s ≡ false
+    pub words : wrongWords v (length roster) ≡ false
     pub marks : wrongRoster v roster ≡ false
 
   pub opening : (s : State) → openOutcome v roster s ≡ accepted tt → Opening s
-  unfolding openOutcome decided
-  opening s h = record { lists = first (bool-cases (wrongLists v roster s)); marks = second (bool-cases (wrongRoster v roster)) }
-    where
-      first : (wrongLists v roster s ≡ true) ⊎ (wrongLists v roster s ≡ false) → wrongLists v roster s ≡ false
-      first (inr e) = e
-      first (inl e) = absurd (not-accepted (sym (ap (λ (b : Bool). cond b (refused 1) (cond (wrongRoster v roster) (refused 2) (accepted tt))) e) ∙ h))
-
-      second : (wrongRoster v roster ≡ true) ⊎ (wrongRoster v roster ≡ false) → wrongRoster v roster ≡ false
-      second (inr e) = e
-      second (inl e) = absurd (not-accepted (sym (λ i. cond (first (bool-cases (wrongLists v roster s)) i) (refused 1) (cond (e i) (refused 2) (accepted tt))) ∙ h))
+  unfolding openOutcome
+  opening s h =
+      let a = passed _ _ tt tt h in
+      let b = passed _ _ tt tt (a .1) in
+      let c = passed _ _ tt tt (b .1) in
+      record { lists = a .0; words = b .0; marks = c .0 }
 
   pub opening-few : (s : State) → Opening s → (wrongSize (length roster) ≡ false) × (slots (s .triples) ≤ 1048576)
   unfolding wrongLists
@@ -327,7 +326,7 @@ module _ (v : Vocabulary) (roster : List ℕ) where
       let e = opened-state s (z .0) (z .1) in
       let g = good-next s [] (o .lists) (z .0) (empty-holds (slots (s .triples))) in
       let k = state-sizes s [] (z .0) (omega arith) in
-      let w = run-plain (o .marks) (subst (λ (x : State). Run v roster x fs os end) e run) [] g in (
+      let w = run-plain (o .words) (o .marks) (subst (λ (x : State). Run v roster x fs os end) e run) [] g in (
         w .0 ∙ (λ i. answers v roster (k .triples i / 3) fs []),
         w .1 ∙ (λ i. stateOf v roster (k .triples i) (k .summary i) (heldAfter v roster (k .triples i / 3) fs [])),
       )

@@ -7,7 +7,8 @@ use mathlib.Core.Logic.{_↔_}
 use mathlib.Core.Bool.{true}
 use mathlib.Core.List.{List}
 use Rattle.model.specs.declared.Triple.{Triple}
-use Rattle.model.specs.Codes.{Vocabulary, kind}
+use Rattle.model.specs.declared.Vocabulary.{Vocabulary}
+use Rattle.model.specs.Codes.{kind}
 use Rattle.model.specs.Triples.{triple}
 use Rattle.model.specs.Rules.{fits, gives, Derives, given, by-rule}
 use Rattle.model.specs.Cliques.{Graph, Side, source, target, end, Node}

@@ -10,7 +10,8 @@ use lib.Dec.{eqb, leb, ltb}
 use lib.ListN.{length}
 use borrow.Author.Tests.{eq-eqb, eqb-false, leb-true, leb-false}
 use Rattle.model.specs.declared.Triple.{Triple}
-use Rattle.model.specs.Codes.{Vocabulary, codes, kind}
+use Rattle.model.specs.declared.Vocabulary.{Vocabulary}
+use Rattle.model.specs.Codes.{codes, kind}
 use Rattle.model.specs.Lists.{any, all, among}
 use Rattle.model.specs.Roster.{mark, isClass, isProperty, unmarked, classRow, propertyRow, classRoles, propertyRoles, coversTriple, covers, classIn, propertyIn, ownRoster, wrongRoster}
 use Rattle.theory.proofs.Tests.{and-true, and-both, or-neither, bool-cases}
@@ -119,9 +120,9 @@ module _ (v : Vocabulary) where
   -- ── it passes check 2 ──
   word-kind : (c : ℕ) → Mem c (codes v) → kind v c < 5
   unfolding kind
-  word-kind c m = go (eqb c (v .type)) refl (eqb c (v .subclass)) refl (eqb c (v .subproperty)) refl (eqb c (v .domain)) refl (eqb c (v .range)) refl
+  word-kind c m = go (eqb c (v .instance)) refl (eqb c (v .subclass)) refl (eqb c (v .subproperty)) refl (eqb c (v .domain)) refl (eqb c (v .range)) refl
     where
-      go : (a : Bool) → eqb c (v .type) ≡ a → (b : Bool) → eqb c (v .subclass) ≡ b → (d : Bool) → eqb c (v .subproperty) ≡ d → (e : Bool) → eqb c (v .domain) ≡ e → (f : Bool) → eqb c (v .range) ≡ f
+      go : (a : Bool) → eqb c (v .instance) ≡ a → (b : Bool) → eqb c (v .subclass) ≡ b → (d : Bool) → eqb c (v .subproperty) ≡ d → (e : Bool) → eqb c (v .domain) ≡ e → (f : Bool) → eqb c (v .range) ≡ f
           → cond a 0 (cond b 1 (cond d 2 (cond e 3 (cond f 4 5)))) < 5
       go true q b q₁ d q₂ e q₃ f q₄ = omega arith
       go false q true q₁ d q₂ e q₃ f q₄ = omega arith

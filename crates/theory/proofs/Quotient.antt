@@ -8,7 +8,7 @@ use mathlib.Core.Bool.{true≢false}
 use mathlib.Core.List.{List}
 use native.Mathlib.Nat.{le-antisymm, le-trans}
 use Rattle.model.specs.declared.Triple.{Triple}
-use Rattle.model.specs.Codes.{Vocabulary}
+use Rattle.model.specs.declared.Vocabulary.{Vocabulary}
 use Rattle.model.specs.Triples.{triple, isData}
 use Rattle.model.specs.Cliques.{Graph, Side, source, target, end, Node, Has}
 use Rattle.model.specs.Classes.{DataNode}

@@ -11,7 +11,8 @@ use lib.Dec.{eqb}
 use borrow.Author.Tests.{eqb-true, eq-eqb}
 use Rattle.model.specs.declared.Rule.{Rule}
 use Rattle.model.specs.declared.Triple.{Triple}
-use Rattle.model.specs.Codes.{Vocabulary, kind}
+use Rattle.model.specs.declared.Vocabulary.{Vocabulary}
+use Rattle.model.specs.Codes.{kind}
 use Rattle.model.specs.Triples.{triple}
 use Rattle.model.specs.Rules.{rule, rules, place, fits, gives}
 use Rattle.model.specs.Roster.{classRow, propertyRow}
@@ -65,9 +66,9 @@ module _ (v : Vocabulary) (roster : List ℕ) where
   -- ── a domain c | a range c, s a o gives s | o type c ──
   -- k is domain or range; e the place of the second premise's subject or object
   typed-end-covered : (k : ℕ) (a : Triple) (c : ℕ) → kind v (a .property) ≡ k → ((t : Triple) → classRow t k ≡ t .object ∷ []) → Covered roster v a → 5 ≤ kind v c
-      → Covered roster v (triple c (v .type) (a .object))
+      → Covered roster v (triple c (v .instance) (a .object))
   typed-end-covered k a c e row h low =
-      covered-at roster v (triple c (v .type) (a .object)) 0 (kind-type v) low (h .object-free)
+      covered-at roster v (triple c (v .instance) (a .object)) 0 (kind-type v) low (h .object-free)
       (λ d m. one-of (λ q. subst (Class roster) (sym q) (class-at roster v a k e h (a .object) (subst (Mem (a .object)) (sym (row a)) (here refl)))) m)
       (λ d m. absurd (no-mem m))
 
@@ -85,7 +86,7 @@ module _ (v : Vocabulary) (roster : List ℕ) where
         object-end = λ a b. first-object refl;
         covered = λ a b h x y. typed-end-covered k a (b .subject) ((any-parts a b k h) .0) row x (y .subject-free);
         from-data = λ a b h x y d. absurd (omega (arith, kind-type v));
-        along = λ f a b h p q. (h, λ i. triple (f (b .subject)) (v .type) (sym q i));
+        along = λ f a b h p q. (h, λ i. triple (f (b .subject)) (v .instance) (sym q i));
         back = λ f a b x y h. h;
       }
   typed-end k e at-object l u row =
@@ -95,7 +96,7 @@ module _ (v : Vocabulary) (roster : List ℕ) where
         object-end = λ a b. first-object refl;
         covered = λ a b h x y. typed-end-covered k a (b .object) ((any-parts a b k h) .0) row x (y .object-free);
         from-data = λ a b h x y d. absurd (omega (arith, kind-type v));
-        along = λ f a b h p q. (h, λ i. triple (f (b .object)) (v .type) (sym q i));
+        along = λ f a b h p q. (h, λ i. triple (f (b .object)) (v .instance) (sym q i));
         back = λ f a b x y h. h;
       }
 

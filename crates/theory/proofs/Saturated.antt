@@ -12,7 +12,7 @@ use lib.ListN.{length, getD}
 use borrow.Author.Tests.{eqb-true, eqb-false}
 use Rattle.model.specs.declared.Rule.{Rule}
 use Rattle.model.specs.declared.Triple.{Triple}
-use Rattle.model.specs.Codes.{Vocabulary}
+use Rattle.model.specs.declared.Vocabulary.{Vocabulary}
 use Rattle.model.specs.Lists.{collect, when}
 use Rattle.model.specs.Triples.{sorted}
 use Rattle.model.specs.Order.{Lt, by-subject, by-property, by-object, Rising}
@@ -112,10 +112,10 @@ module _ (v : Vocabulary) where
   getD-below n (x ∷ xs) d zero h l = h x (here refl)
   getD-below n (x ∷ xs) d (suc k) h l = getD-below n xs d k (λ y m. h y (there m)) l
 
-  module _ (n : ℕ) (room : v .type < n) where
+  module _ (n : ℕ) (room : v .instance < n) where
     place-below : (a b : Triple) (k : ℕ) → Below n a → Below n b → place v a b k < n
     unfolding place
-    place-below a b k p q = getD-below n _ (v .type) k six room
+    place-below a b k p q = getD-below n _ (v .instance) k six room
       where
         less : {x y : ℕ} → y < n → x ≡ y → x < n
         less l e = omega arith
@@ -179,7 +179,7 @@ module _ (v : Vocabulary) where
   stopped : (ts : List Triple) → Rising ts → length (round v ts) ≤ length ts → Done ts ts
   stopped ts h l = record { rising = h; keeps = λ t m. m; derived = λ t m. given m; closed = round-same ts h l }
 
-  module _ (n : ℕ) (room : v .type < n) where
+  module _ (n : ℕ) (room : v .instance < n) where
     rounds-done : (d : ℕ) (ts : List Triple) → Rising ts → AllBelow n ts → n * n * n ≤ length ts + d → Done ts (rounds v d ts)
     unfolding rounds
     rounds-done zero ts h b l = stopped ts h (omega (arith, rising-few n (round v ts) (round-rising ts) (round-below n room ts b)))

@@ -7,7 +7,8 @@ use mathlib.Core.Logic.{⊎-elim}
 use mathlib.Core.List.{List, map}
 use lib.ListN.{length, length-map, List·getD-eq-default}
 use Rattle.model.specs.declared.Triple.{Triple}
-use Rattle.model.specs.Codes.{Vocabulary, absent}
+use Rattle.model.specs.declared.Vocabulary.{Vocabulary}
+use Rattle.model.specs.Codes.{absent}
 use Rattle.model.specs.Rules.{Derives}
 use Rattle.model.specs.Saturation.{saturation}
 use Rattle.model.specs.Partition.{label}
@@ -23,7 +24,7 @@ use Rattle.theory.proofs.Images.{node-down, node-up, weak-up, image-exa
 use Rattle.theory.proofs.Quotient.{quotient-map, quotient-image}
 use Rattle.theory.proofs.Mapped.{map-reps, map-absent, length-map-of, node-or}
 use Rattle.theory.proofs.Summaries.{Same, same-sym, same-trans, same-derives, same-image, same-node, same-reps, summary-exact, summary-rising}
-use Rattle.theory.proofs.Accepted.{Right, room, below, covered, saturation-right, summary-right}
+use Rattle.theory.proofs.Accepted.{Right, type-below, room, below, covered, saturation-right, summary-right}
 
 module _ (v : Vocabulary) (roster : List ℕ) (ts : List Triple) (R : Right v roster ts) where
   abbrev long : List Triple
@@ -45,12 +46,12 @@ module _ (v : Vocabulary) (roster : List ℕ) (ts : List Triple) (R : Right v ro
   F = map-reps v roster ts (below v roster ts R) (room v roster ts R)
 
   long-is : Same (In long) (Derives v (In ts))
-  long-is = saturation-exact v (length roster) (R .type-below) ts (below v roster ts R)
+  long-is = saturation-exact v (length roster) (type-below R) ts (below v roster ts R)
 
   short-is : Same (In short) (Image f (Derives v (In ts)))
   short-is =
       let S = summary-right v roster ts R in
-      same-trans (saturation-exact v (length roster) (R .type-below) (summary v roster ts) (below v roster (summary v roster ts) S))
+      same-trans (saturation-exact v (length roster) (type-below R) (summary v roster ts) (below v roster (summary v roster ts) S))
       (same-trans (same-derives v (summary-exact v roster ts)) (image-exact v roster (In ts) (covered v roster ts R) f (λ n x t. F .of-marked n x t)))
 
   G : Reps v roster (Derives v (In ts)) g
@@ -106,7 +107,7 @@ module _ (v : Vocabulary) (roster : List ℕ) (ts : List Triple) (R : Right v ro
   pub shortcut-shorter : length short ≤ length long
   shortcut-shorter =
       let S = summary-right v roster ts R in
-      let rises = saturation-rising v (length roster) (R .type-below) (summary v roster ts) (below v roster (summary v roster ts) S) in
+      let rises = saturation-rising v (length roster) (type-below R) (summary v roster ts) (below v roster (summary v roster ts) S) in
       omega (
         arith,
         rising-length short (map (moved f) long) rises

@@ -13,7 +13,8 @@ use lib.Dec.{eqb, ltb}
 use borrow.Author.Tests.{eq-eqb, ltb-true, ltb-false}
 use Rattle.model.specs.declared.Rule.{Rule}
 use Rattle.model.specs.declared.Triple.{Triple}
-use Rattle.model.specs.Codes.{Vocabulary, kind}
+use Rattle.model.specs.declared.Vocabulary.{Vocabulary}
+use Rattle.model.specs.Codes.{kind}
 use Rattle.model.specs.Triples.{triple}
 use Rattle.model.specs.Rules.{rule, rules, place, fits, gives, Derives, given, by-rule}
 use Rattle.model.specs.Cliques.{Graph}
@@ -69,7 +70,7 @@ module _ (v : Vocabulary) where
   data Level (r : Rule) (a b : Triple) : Type 0 where
     schemas : IsSchema a → IsSchema b → IsSchema (gives v r a b) → Level r a b
     renames : kind v (a .property) ≡ 2 → a .subject ≡ b .property → gives v r a b ≡ triple (b .subject) (a .object) (b .object) → Level r a b
-    types : {k : ℕ} (w : Types k) → kind v (a .property) ≡ k → a .subject ≡ b .property → gives v r a b ≡ triple (typedEnd w b) (v .type) (a .object) → Level r a b
+    types : {k : ℕ} (w : Types k) → kind v (a .property) ≡ k → a .subject ≡ b .property → gives v r a b ≡ triple (typedEnd w b) (v .instance) (a .object) → Level r a b
     retypes : kind v (a .property) ≡ 1 → kind v (b .property) ≡ 0 → a .subject ≡ b .object → gives v r a b ≡ triple (b .subject) (b .property) (a .object) → Level r a b
 
   abbrev Levelled : Rule → Type 0
@@ -159,7 +160,7 @@ module _ (v : Vocabulary) where
   type-whole subjects a b e f = and-both (eqb (kind v (a .property)) 3) _ (eq-eqb _ _ e) (eq-eqb _ _ f)
   type-whole objects a b e f = and-both (eqb (kind v (a .property)) 4) _ (eq-eqb _ _ e) (eq-eqb _ _ f)
 
-  type-gives : {k : ℕ} (w : Types k) (a b : Triple) → gives v (typingRule w) a b ≡ triple (typedEnd w b) (v .type) (a .object)
+  type-gives : {k : ℕ} (w : Types k) (a b : Triple) → gives v (typingRule w) a b ≡ triple (typedEnd w b) (v .instance) (a .object)
   unfolding gives place typingRule typedEnd
   type-gives subjects a b = refl
   type-gives objects a b = refl
@@ -271,14 +272,14 @@ module _ (v : Vocabulary) where
       first-kind : kind v (first .property) ≡ kind-of
       second-in : G second
       meets : first .subject ≡ second .property
-      is : t ≡ triple (typedEnd types-end second) (v .type) (first .object)
+      is : t ≡ triple (typedEnd types-end second) (v .instance) (first .object)
 
     -- the constraint of a property at or above that of a given triple is a constraint of the given triple's own property
-    typed-below : {k : ℕ} {b t : Triple} (w : Types k) (a : Triple) → S a → kind v (a .property) ≡ k → a .subject ≡ b .property → t ≡ triple (typedEnd w b) (v .type) (a .object) → Renamed b → Typed t
+    typed-below : {k : ℕ} {b t : Triple} (w : Types k) (a : Triple) → S a → kind v (a .property) ≡ k → a .subject ≡ b .property → t ≡ triple (typedEnd w b) (v .instance) (a .object) → Renamed b → Typed t
     typed-below {k} {b} {t} w a s e f g R = go (R .up)
       where
-        is-typed : t ≡ triple (typedEnd w (R .from)) (v .type) (a .object)
-        is-typed = g ∙ (λ i. triple (same-end w b (R .from) (b .property) (R .is) i) (v .type) (a .object))
+        is-typed : t ≡ triple (typedEnd w (R .from)) (v .instance) (a .object)
+        is-typed = g ∙ (λ i. triple (same-end w b (R .from) (b .property) (R .is) i) (v .instance) (a .object))
 
         go : Up 2 (R .from .property) (b .property) → Typed t
         go (stays q) = record { kind-of = k; types-end = w; first = a; second = R .from; first-in = s; first-kind = e; second-in = R .held; meets = f ∙ sym q; is = is-typed }

@@ -8,7 +8,8 @@ use lib.ListN.{length}
 use lib.Seq.{ext-getD}
 use native.Mathlib.Nat.{le-antisymm}
 use Rattle.model.specs.declared.Triple.{Triple}
-use Rattle.model.specs.Codes.{Vocabulary, absent}
+use Rattle.model.specs.declared.Vocabulary.{Vocabulary}
+use Rattle.model.specs.Codes.{absent}
 use Rattle.model.specs.Triples.{triple}
 use Rattle.model.specs.Order.{Rising}
 use Rattle.model.specs.Rules.{Derives}

@@ -1,13 +1,14 @@
 -- The theorems that specs/Theorems.antt states.
 -- Assumes nothing.
-use Prim.Native.Nat.{ℕ, _≤_}
+use Prim.Native.Nat.{ℕ, _≤_, _<_}
 use mathlib.Core.Path.{_≡_, refl, sym, subst, _∙_, ap}
 use mathlib.Core.Logic.{_↔_, inl, inr, ⊎-elim}
 use mathlib.Core.List.{List, [], map}
 use native.Mathlib.Omega.{arith}
 use lib.ListN.{length}
 use Rattle.model.specs.declared.Triple.{Triple}
-use Rattle.model.specs.Codes.{rdfs, kind, mostTriples}
+use Rattle.model.specs.declared.Vocabulary.{Vocabulary}
+use Rattle.model.specs.Codes.{kind, codeOf, mostTriples}
 use Rattle.model.specs.Triples.{triple, triples, slots, listed}
 use Rattle.model.specs.Rules.{Derives, given}
 use Rattle.model.specs.Intake.{State, heldAfter, stateOf}
@@ -19,7 +20,7 @@ use Rattle.model.specs.Outcomes.{wrongLength, wrongSize}
 use Rattle.theory.specs.Theorems.{TriplesOf, Saturated, Source, SaturationExact, ConstraintsFollow, CliquesExact, RepresentativesExact, SummaryExact, OwnRosterLeast, ShortcutHolds, RoutesAccepted, AnyOrder, WholeList, FedInAnyOrder}
 use Rattle.theory.proofs.Tests.{or-false}
 use Rattle.theory.proofs.Checks.{passes-first}
-use Rattle.theory.proofs.Covered.{all-codes}
+use Rattle.theory.proofs.Covered.{all-codes, kind-of-code}
 use Rattle.theory.proofs.Saturated.{In}
 use Rattle.theory.proofs.Strata.{Types, subjects, objects, Free, inherit, widen}
 use Rattle.theory.proofs.Weak.{Weak, weakly-weak, weak-weakly, turned, chained, clique-sym, reps-represents}
@@ -32,168 +33,178 @@ use Rattle.theory.proofs.Shortcut as shortcut
 use Rattle.theory.proofs.Constraints.{origin-of, schema-kept}
 use Rattle.theory.proofs.Feeding as feeding
 
-pub saturation-exact : SaturationExact
-saturation-exact table roster h =
-    let R = accept.rdfs-right table roster h in
-    let b = accept.below rdfs roster (triples table) R in
-    record { rising = saturated.saturation-rising rdfs (length roster) (R .type-below) (triples table) b; exact = saturated.saturation-exact rdfs (length roster) (R .type-below) (triples table) b }
+module _ (v : Vocabulary) where
+  pub saturation-exact : SaturationExact v
+  saturation-exact table roster h =
+      let R = accept.accepted-right v table roster h in
+      let b = accept.below v roster (triples table) R in
+      record { rising = saturated.saturation-rising v (length roster) (accept.type-below R) (triples table) b; exact = saturated.saturation-exact v (length roster) (accept.type-below R) (triples table) b }
 
-module _ (table roster : List ℕ) (h : Accepted rdfs table roster) where
-  abbrev Derived : ℕ → ℕ → ℕ → Type 0
-  Derived s p o = Derives rdfs (TriplesOf table) (triple s p o)
+  module _ (table roster : List ℕ) (h : Accepted v table roster) where
+    abbrev Derived : ℕ → ℕ → ℕ → Type 0
+    Derived s p o = Derives v (TriplesOf table) (triple s p o)
 
-  abbrev Held : ℕ → ℕ → ℕ → Type 0
-  Held s p o = Saturated table roster s p o
+    abbrev Held : ℕ → ℕ → ℕ → Type 0
+    Held s p o = Saturated v table roster s p o
 
-  held : (s p o : ℕ) → Derived s p o → Held s p o
-  held s p o d = ((saturation-exact table roster h) .exact (triple s p o)) .1 d
+    held : (s p o : ℕ) → Derived s p o → Held s p o
+    held s p o d = ((saturation-exact table roster h) .exact (triple s p o)) .1 d
 
-  derived : (s p o : ℕ) → Held s p o → Derived s p o
-  derived s p o m = ((saturation-exact table roster h) .exact (triple s p o)) .0 m
+    derived : (s p o : ℕ) → Held s p o → Derived s p o
+    derived s p o m = ((saturation-exact table roster h) .exact (triple s p o)) .0 m
 
-  -- a property's constraint p is also that of a property below it
-  inherits : {k : ℕ} → Types k → (p : ℕ) → kind rdfs p ≡ k → (a b c : ℕ) → Held a 2 b → Held b p c → Held a p c
-  unfolding kind
-  inherits w p e a b c x y = held a p c (inherit rdfs w (triple a 2 b) (triple b p c) refl e refl (derived a 2 b x) (derived b p c y))
+    -- a code of the vocabulary has its own kind
+    kind-at : (k : ℕ) → k < 5 → kind v (codeOf v k) ≡ k
+    kind-at = kind-of-code v (length roster) (accept.accepted-right v table roster h .words)
 
-  -- a constraint p holds with each class above its class too
-  widens : {k : ℕ} → Types k → (p : ℕ) → kind rdfs p ≡ k → (a c d : ℕ) → Held a p c → Held c 1 d → Held a p d
-  unfolding kind
-  widens w p e a c d x y = held a p d (widen rdfs w (triple a p c) (triple c 1 d) e refl refl (derived a p c x) (derived c 1 d y))
+    -- a property's constraint p is also that of a property below it
+    inherits : {k : ℕ} → Types k → (p : ℕ) → kind v p ≡ k → (a b c : ℕ) → Held a (v .subproperty) b → Held b p c → Held a p c
+    unfolding codeOf
+    inherits w p e a b c x y =
+        held a p c (inherit v w (triple a (v .subproperty) b) (triple b p c) (kind-at 2 (omega arith)) e refl (derived a (v .subproperty) b x) (derived b p c y))
 
-  free : (t : Triple) → TriplesOf table t → Free rdfs t
-  free t m = let c = accept.covered rdfs roster (triples table) (accept.rdfs-right table roster h) t m in (c .subject-free, c .object-free)
+    -- a constraint p holds with each class above its class too
+    widens : {k : ℕ} → Types k → (p : ℕ) → kind v p ≡ k → (a c d : ℕ) → Held a p c → Held c (v .subclass) d → Held a p d
+    unfolding codeOf
+    widens w p e a c d x y =
+        held a p d (widen v w (triple a p c) (triple c (v .subclass) d) e (kind-at 1 (omega arith)) refl (derived a p c x) (derived c (v .subclass) d y))
 
-  sources : {k : ℕ} → Types k → (p : ℕ) → kind rdfs p ≡ k → (a d : ℕ) → Held a p d ↔ Source table roster p a d
-  sources w p e a d = (to, from)
-    where
-      to : Held a p d → Source table roster p a d
-      to x =
-          let s = origin-of rdfs (TriplesOf table) free w p a d e (derived a p d x) in
-          record {
-            property = s .property;
-            class = s .class;
-            given = s .held;
-            above = ⊎-elim (λ q. inl q) (λ y. inr (held a 2 (s .property) y)) (s .above);
-            below = ⊎-elim (λ q. inl q) (λ y. inr (held (s .class) 1 d y)) (s .below);
-          }
+    free : (t : Triple) → TriplesOf table t → Free v t
+    free t m = let c = accept.covered v roster (triples table) (accept.accepted-right v table roster h) t m in (c .subject-free, c .object-free)
 
-      from : Source table roster p a d → Held a p d
-      from s =
-          let here : Held (s .property) p (s .class) = held (s .property) p (s .class) (given (s .given)) in
-          let wide : Held (s .property) p d = ⊎-elim (λ q. subst (Held (s .property) p) q here) (λ y. widens w p e (s .property) (s .class) d here y) (s .below) in
-          ⊎-elim (λ q. subst (λ (z : ℕ). Held z p d) (sym q) wide) (λ y. inherits w p e a (s .property) d y wide) (s .above)
+    sources : {k : ℕ} → Types k → (p : ℕ) → kind v p ≡ k → (a d : ℕ) → Held a p d ↔ Source v table roster p a d
+    sources w p e a d = (to, from)
+      where
+        to : Held a p d → Source v table roster p a d
+        to x =
+            let s = origin-of v (TriplesOf table) free w p a d e (derived a p d x) in
+            record {
+              property = s .property;
+              class = s .class;
+              given = s .held;
+              above = ⊎-elim (λ q. inl q) (λ y. inr (held a (v .subproperty) (s .property) y)) (s .above);
+              below = ⊎-elim (λ q. inl q) (λ y. inr (held (s .class) (v .subclass) d y)) (s .below);
+            }
 
-pub constraints-follow : ConstraintsFollow
-unfolding kind
-constraints-follow table roster h =
-    record {
-      rule-7 = inherits table roster h subjects 3 refl;
-      rule-8 = inherits table roster h objects 4 refl;
-      rule-9 = widens table roster h subjects 3 refl;
-      rule-10 = widens table roster h objects 4 refl;
-      domains = sources table roster h subjects 3 refl;
-      ranges = sources table roster h objects 4 refl;
-      printed = schema-kept rdfs roster (saturation rdfs (length roster) (triples table)) (accept.saturation-right rdfs roster (triples table) (accept.rdfs-right table roster h));
-    }
+        from : Source v table roster p a d → Held a p d
+        from s =
+            let here : Held (s .property) p (s .class) = held (s .property) p (s .class) (given (s .given)) in
+            let wide : Held (s .property) p d = ⊎-elim (λ q. subst (Held (s .property) p) q here) (λ y. widens w p e (s .property) (s .class) d here y) (s .below) in
+            ⊎-elim (λ q. subst (λ (z : ℕ). Held z p d) (sym q) wide) (λ y. inherits w p e a (s .property) d y wide) (s .above)
 
-pub cliques-exact : CliquesExact
-cliques-exact table roster h e =
-    let R = accept.rdfs-right table roster h in
-    let b = accept.below rdfs roster (triples table) R in
-    let l = accept.room rdfs roster (triples table) R in
-    let L = mapped.clique-labels rdfs roster (triples table) b l e in
-    record {
-      one-clique = λ n m p q x y. (
-        λ k. linked (L .related p (record { node = n; has = x }))
-            (subst (λ (z : ℕ). Clique rdfs roster (TriplesOf table) e z q) (sym k) (clique-sym rdfs roster (L .related q (record { node = m; has = y })))),
-        λ k. mapped.clique-agrees rdfs roster (triples table) b l e k,
-      );
-      member = λ n p x. L .related p (record { node = n; has = x });
-      smallest = λ p q k.
-          subst (λ (z : ℕ). z ≤ q) (sym (mapped.clique-agrees rdfs roster (triples table) b l e k)) (L .low q (mapped.clique-cliqued rdfs roster (triples table) b l e k));
-      no-clique = λ p f. L .silent p (λ c. f (c .node) (c .has));
-      size = mapped.length-cliques rdfs roster e (triples table);
-    }
+  pub constraints-follow : ConstraintsFollow v
+  unfolding codeOf
+  constraints-follow table roster h =
+      let domain = kind-at table roster h 3 (omega arith) in
+      let range = kind-at table roster h 4 (omega arith) in
+      record {
+        rule-7 = inherits table roster h subjects (v .domain) domain;
+        rule-8 = inherits table roster h objects (v .range) range;
+        rule-9 = widens table roster h subjects (v .domain) domain;
+        rule-10 = widens table roster h objects (v .range) range;
+        domains = sources table roster h subjects (v .domain) domain;
+        ranges = sources table roster h objects (v .range) range;
+        printed = schema-kept v roster (saturation v (length roster) (triples table)) (accept.saturation-right v roster (triples table) (accept.accepted-right v table roster h));
+      }
 
-pub representatives-exact : RepresentativesExact
-representatives-exact table roster h =
-    let R = accept.rdfs-right table roster h in
-    let b = accept.below rdfs roster (triples table) R in
-    let l = accept.room rdfs roster (triples table) R in
-    let F = mapped.map-reps rdfs roster (triples table) b l in
-    let d = mapped.data-or rdfs (triples table) in
-    record {
-      shared = λ c k x y. (
-        λ e. weak-weakly rdfs roster d (chained (F .of-data c x) (turned (subst (Weak rdfs roster (In (triples table)) k) (sym e) (F .of-data k y)))),
-        λ w. mapped.map-agrees rdfs roster (triples table) b l (weakly-weak rdfs roster w),
-      );
-      represents = reps-represents rdfs roster d F;
-      no-node = mapped.map-absent rdfs roster (triples table) b l;
-      size = mapped.length-map-of rdfs roster (triples table);
-    }
+  pub cliques-exact : CliquesExact v
+  cliques-exact table roster h e =
+      let R = accept.accepted-right v table roster h in
+      let b = accept.below v roster (triples table) R in
+      let l = accept.room v roster (triples table) R in
+      let L = mapped.clique-labels v roster (triples table) b l e in
+      record {
+        one-clique = λ n m p q x y. (
+          λ k. linked (L .related p (record { node = n; has = x }))
+              (subst (λ (z : ℕ). Clique v roster (TriplesOf table) e z q) (sym k) (clique-sym v roster (L .related q (record { node = m; has = y })))),
+          λ k. mapped.clique-agrees v roster (triples table) b l e k,
+        );
+        member = λ n p x. L .related p (record { node = n; has = x });
+        smallest = λ p q k.
+            subst (λ (z : ℕ). z ≤ q) (sym (mapped.clique-agrees v roster (triples table) b l e k)) (L .low q (mapped.clique-cliqued v roster (triples table) b l e k));
+        no-clique = λ p f. L .silent p (λ c. f (c .node) (c .has));
+        size = mapped.length-cliques v roster e (triples table);
+      }
 
-pub summary-exact : SummaryExact
-summary-exact table roster h = record { rising = summaries.summary-rising rdfs roster (triples table); exact = summaries.summary-exact rdfs roster (triples table) }
+  pub representatives-exact : RepresentativesExact v
+  representatives-exact table roster h =
+      let R = accept.accepted-right v table roster h in
+      let b = accept.below v roster (triples table) R in
+      let l = accept.room v roster (triples table) R in
+      let F = mapped.map-reps v roster (triples table) b l in
+      let d = mapped.data-or v (triples table) in
+      record {
+        shared = λ c k x y. (
+          λ e. weak-weakly v roster d (chained (F .of-data c x) (turned (subst (Weak v roster (In (triples table)) k) (sym e) (F .of-data k y)))),
+          λ w. mapped.map-agrees v roster (triples table) b l (weakly-weak v roster w),
+        );
+        represents = reps-represents v roster d F;
+        no-node = mapped.map-absent v roster (triples table) b l;
+        no-word = λ c e. mapped.map-absent v roster (triples table) b l c (λ x. accept.word-no-node v roster (triples table) R c e x);
+        size = mapped.length-map-of v roster (triples table);
+      }
 
-pub own-roster-least : OwnRosterLeast
-own-roster-least n ts h =
-    let c = all-codes rdfs n ts h in
-    record {
-      size = own.own-length rdfs n ts;
-      right = own.own-right rdfs n ts c;
-      covering = own.own-covers rdfs n ts (λ t m. (c t m) .below);
-      least = own.own-least rdfs n ts;
-    }
+  pub summary-exact : SummaryExact v
+  summary-exact table roster h = record { rising = summaries.summary-rising v roster (triples table); exact = summaries.summary-exact v roster (triples table) }
 
-pub shortcut-holds : ShortcutHolds
-shortcut-holds table roster h =
-    let R = accept.rdfs-right table roster h in
-    record { triples = shortcut.shortcut-summary rdfs roster (triples table) R; maps = shortcut.shortcut-map rdfs roster (triples table) R }
+  pub own-roster-least : OwnRosterLeast v
+  own-roster-least n ts h =
+      let c = all-codes v n ts h in
+      record {
+        size = own.own-length v n ts;
+        right = own.own-right v n ts c;
+        covering = own.own-covers v n ts (λ t m. (c t m) .below);
+        least = own.own-least v n ts;
+      }
 
--- a table's length is that of at most so many triples
-table-few : (table roster : List ℕ) → Accepted rdfs table roster → length (triples table) ≤ mostTriples
-unfolding tableChecks
-table-few table roster h = accept.few-triples table ((or-false (wrongLength (length table)) _ ((or-false (wrongSize (length roster)) _ ((passes-first _ _ h) .0)) .1)) .0)
+  pub shortcut-holds : ShortcutHolds v
+  shortcut-holds table roster h =
+      let R = accept.accepted-right v table roster h in
+      record { triples = shortcut.shortcut-summary v roster (triples table) R; maps = shortcut.shortcut-map v roster (triples table) R }
 
-pub routes-accepted : RoutesAccepted
-routes-accepted table roster h =
-    let R = accept.rdfs-right table roster h in
-    let S = accept.summary-right rdfs roster (triples table) R in
-    record {
-      summary-accepted = accept.right-accepted rdfs roster (summary rdfs roster (triples table)) S (omega (arith, feeding.summary-length rdfs roster (triples table), table-few table roster h));
-      saturation-accepted = λ l. accept.right-accepted rdfs roster (saturation rdfs (length roster) (triples table)) (accept.saturation-right rdfs roster (triples table) R) l;
-      shorter = shortcut.shortcut-shorter rdfs roster (triples table) R;
-      second-accepted = λ l.
-          accept.right-accepted rdfs roster (saturation rdfs (length roster) (summary rdfs roster (triples table))) (accept.saturation-right rdfs roster (summary rdfs roster (triples table)) S) l;
-    }
+  -- a table's length is that of at most so many triples
+  table-few : (table roster : List ℕ) → Accepted v table roster → length (triples table) ≤ mostTriples
+  unfolding tableChecks
+  table-few table roster h = accept.few-triples table ((or-false (wrongLength (length table)) _ ((or-false (wrongSize (length roster)) _ ((passes-first _ _ h) .0)) .1)) .0)
 
-pub any-order : AnyOrder
-any-order table roster h space few fs work same =
-    let R = accept.rdfs-right table roster h in
-    let c = feeding.any-order rdfs roster (triples table) R space fs few work same in
-    record { held = c .0; summarised = c .1; mapped = c .2 }
+  pub routes-accepted : RoutesAccepted v
+  routes-accepted table roster h =
+      let R = accept.accepted-right v table roster h in
+      let S = accept.summary-right v roster (triples table) R in
+      record {
+        summary-accepted = accept.right-accepted v roster (summary v roster (triples table)) S (omega (arith, feeding.summary-length v roster (triples table), table-few table roster h));
+        saturation-accepted = λ l. accept.right-accepted v roster (saturation v (length roster) (triples table)) (accept.saturation-right v roster (triples table) R) l;
+        shorter = shortcut.shortcut-shorter v roster (triples table) R;
+        second-accepted = λ l.
+            accept.right-accepted v roster (saturation v (length roster) (summary v roster (triples table))) (accept.saturation-right v roster (summary v roster (triples table)) S) l;
+      }
 
-pub whole-list : WholeList
-whole-list roster s end fs os h run =
-    let w = feeding.whole-list rdfs roster s end fs os h run in
-    let o = feeding.opening rdfs roster s h in
-    let z = feeding.opening-few rdfs roster s o in
-    let k = feeding.held-holds rdfs roster (slots (s .triples)) fs [] (feeding.empty-holds rdfs roster (slots (s .triples))) in
-    let R : accept.Right rdfs roster (heldAfter rdfs roster (slots (s .triples)) fs []) =
-    record { size = z .0; marks = o .marks; codes = k .codes; cover = k .covered; type-below = omega (arith, accept.size-bounds (length roster) (z .0)) } in
-    record { answered = w .0; state = w .1; rising = k .rising; accepted-table = accept.right-accepted rdfs roster _ R (omega (arith, k .fits, z .1)) }
+  pub any-order : AnyOrder v
+  any-order table roster h space few fs work same =
+      let R = accept.accepted-right v table roster h in
+      let c = feeding.any-order v roster (triples table) R space fs few work same in
+      record { held = c .0; summarised = c .1; mapped = c .2 }
 
-pub fed-in-any-order : FedInAnyOrder
-unfolding stateOf
-fed-in-any-order table roster h s end fs os op few work same run =
-    let c = any-order table roster h (slots (s .triples)) few fs work same in
-    let e = whole-list roster s end fs os op run .state in
-    let K = heldAfter rdfs roster (slots (s .triples)) fs [] in
-    record {
-      triples = ap (λ (x : State). x .triples) e ∙ ap (listed (length (s .triples))) (c .held);
-      summary = ap (λ (x : State). x .summary) e ∙ ap (listed (length (s .summary))) (c .summarised);
-      map = ap (λ (x : State). x .map) e ∙ c .mapped;
-      held = ap (λ (x : State). x .held) e ∙ ap {B = ℕ} (λ (ts : List Triple). length ts) (c .held);
-      summarised = ap (λ (x : State). x .summarised) e ∙ ap {B = ℕ} (λ (ts : List Triple). length ts) (c .summarised);
-    }
+  pub whole-list : WholeList v
+  whole-list roster s end fs os h run =
+      let w = feeding.whole-list v roster s end fs os h run in
+      let o = feeding.opening v roster s h in
+      let z = feeding.opening-few v roster s o in
+      let k = feeding.held-holds v roster (slots (s .triples)) fs [] (feeding.empty-holds v roster (slots (s .triples))) in
+      let R : accept.Right v roster (heldAfter v roster (slots (s .triples)) fs []) =
+      record { size = z .0; words = o .words; marks = o .marks; codes = k .codes; cover = k .covered } in
+      record { answered = w .0; state = w .1; rising = k .rising; accepted-table = accept.right-accepted v roster _ R (omega (arith, k .fits, z .1)) }
+
+  pub fed-in-any-order : FedInAnyOrder v
+  unfolding stateOf
+  fed-in-any-order table roster h s end fs os op few work same run =
+      let c = any-order table roster h (slots (s .triples)) few fs work same in
+      let e = whole-list roster s end fs os op run .state in
+      let K = heldAfter v roster (slots (s .triples)) fs [] in
+      record {
+        triples = ap (λ (x : State). x .triples) e ∙ ap (listed (length (s .triples))) (c .held);
+        summary = ap (λ (x : State). x .summary) e ∙ ap (listed (length (s .summary))) (c .summarised);
+        map = ap (λ (x : State). x .map) e ∙ c .mapped;
+        held = ap (λ (x : State). x .held) e ∙ ap {B = ℕ} (λ (ts : List Triple). length ts) (c .held);
+        summarised = ap (λ (x : State). x .summarised) e ∙ ap {B = ℕ} (λ (ts : List Triple). length ts) (c .summarised);
+      }

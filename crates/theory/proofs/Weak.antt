@@ -8,7 +8,8 @@ use mathlib.Core.Bool.{true}
 use mathlib.Core.List.{List}
 use borrow.Author.Tests.{leb-true, le-leb}
 use Rattle.model.specs.declared.Triple.{Triple}
-use Rattle.model.specs.Codes.{Vocabulary, kind}
+use Rattle.model.specs.declared.Vocabulary.{Vocabulary}
+use Rattle.model.specs.Codes.{kind}
 use Rattle.model.specs.Triples.{isData}
 use Rattle.model.specs.Cliques.{Graph, Side, end, Node, Has, Share, Clique, shared, linked}
 use Rattle.model.specs.Classes.{DataNode, Weakly, same-clique, no-clique, chain, RepresentsBy, Represents}

@@ -7,7 +7,8 @@ use mathlib.Core.Bool.{Bool, true, false}
 use mathlib.Core.List.{List, [], map, List·Memᴰ as Mem}
 use lib.ListN.{length}
 use Rattle.model.specs.declared.Triple.{Triple}
-use Rattle.model.specs.Codes.{absent, rdfs, kind, mostTriples}
+use Rattle.model.specs.declared.Vocabulary.{Vocabulary}
+use Rattle.model.specs.Codes.{absent, kind, reserved, mostTriples}
 use Rattle.model.specs.Triples.{triple, triples, flat, slots, sorted, listed}
 use Rattle.model.specs.Order.{Rising}
 use Rattle.model.specs.Roster.{mark, isClass, isProperty, covers, ownRoster, wrongRoster, wrongCodes}
@@ -25,158 +26,161 @@ use Rattle.model.specs.Intake.{State, Feed, answers, heldAfter, stateOf, openOu
 abbrev pub TriplesOf : List ℕ → Graph
 TriplesOf table t = Mem t (triples table)
 
-abbrev pub saturationOf : List ℕ → List ℕ → List Triple
-saturationOf table roster = saturation rdfs (length roster) (triples table)
+module _ (v : Vocabulary) where
+  abbrev pub saturationOf : List ℕ → List ℕ → List Triple
+  saturationOf table roster = saturation v (length roster) (triples table)
 
-abbrev pub summaryOf : List ℕ → List ℕ → List Triple
-summaryOf table roster = summary rdfs roster (triples table)
+  abbrev pub summaryOf : List ℕ → List ℕ → List Triple
+  summaryOf table roster = summary v roster (triples table)
 
--- the representative that the map of these triples gives a code
-abbrev pub representative : List ℕ → List Triple → ℕ → ℕ
-representative roster ts c = label (mapOf rdfs roster ts) c
+  -- the representative that the map of these triples gives a code
+  abbrev pub representative : List ℕ → List Triple → ℕ → ℕ
+  representative roster ts c = label (mapOf v roster ts) c
 
--- ── demand 2 ──
--- the demand: Saturation holds a triple exactly if the rules give it; 02: "Saturation means the closure under all ten from here on"
-pub record Saturation (table roster : List ℕ) : Type 0 where
-  pub rising : Rising (saturationOf table roster)
-  pub exact : (t : Triple) → Mem t (saturationOf table roster) ↔ Derives rdfs (TriplesOf table) t
+  -- ── demand 2 ──
+  -- the demand: Saturation holds a triple exactly if the rules give it; 02: "Saturation means the closure under all ten from here on"
+  pub record Saturation (table roster : List ℕ) : Type 0 where
+    pub rising : Rising (saturationOf table roster)
+    pub exact : (t : Triple) → Mem t (saturationOf table roster) ↔ Derives v (TriplesOf table) t
 
-abbrev pub SaturationExact : Type 0
-SaturationExact = (table roster : List ℕ) → Accepted rdfs table roster → Saturation table roster
+  abbrev pub SaturationExact : Type 0
+  SaturationExact = (table roster : List ℕ) → Accepted v table roster → Saturation table roster
 
--- a triple of the saturation
-abbrev pub Saturated : List ℕ → List ℕ → ℕ → ℕ → ℕ → Type 0
-Saturated table roster s p o = Mem (triple s p o) (saturationOf table roster)
+  -- a triple of the saturation
+  abbrev pub Saturated : List ℕ → List ℕ → ℕ → ℕ → ℕ → Type 0
+  Saturated table roster s p o = Mem (triple s p o) (saturationOf table roster)
 
--- the table's triple from which the triple a p d follows, p being domain or range: at a or at a property above it, with d or with a class
--- below it
-pub record Source (table roster : List ℕ) (p a d : ℕ) : Type 0 where
-  pub property : ℕ
-  pub class : ℕ
-  pub given : Mem (triple property p class) (triples table)
-  pub above : (a ≡ property) ⊎ Saturated table roster a (rdfs .subproperty) property
-  pub below : (class ≡ d) ⊎ Saturated table roster class (rdfs .subclass) d
+  -- the table's triple from which the triple a p d follows, p being domain or range: at a or at a property above it, with d or with a class
+  -- below it
+  pub record Source (table roster : List ℕ) (p a d : ℕ) : Type 0 where
+    pub property : ℕ
+    pub class : ℕ
+    pub given : Mem (triple property p class) (triples table)
+    pub above : (a ≡ property) ⊎ Saturated table roster a (v .subproperty) property
+    pub below : (class ≡ d) ⊎ Saturated table roster class (v .subclass) d
 
-pub record Constraints (table roster : List ℕ) : Type 0 where
-  -- 02: "Rule 7: a subproperty b, b domain c give a domain c. Rule 8: the same for range."
-  pub rule-7 : (a b c : ℕ) → Saturated table roster a (rdfs .subproperty) b → Saturated table roster b (rdfs .domain) c → Saturated table roster a (rdfs .domain) c
-  pub rule-8 : (a b c : ℕ) → Saturated table roster a (rdfs .subproperty) b → Saturated table roster b (rdfs .range) c → Saturated table roster a (rdfs .range) c
-  -- 02: "Rule 9: a domain c, c subclass d give a domain d. Rule 10: the same for range."
-  pub rule-9 : (a c d : ℕ) → Saturated table roster a (rdfs .domain) c → Saturated table roster c (rdfs .subclass) d → Saturated table roster a (rdfs .domain) d
-  pub rule-10 : (a c d : ℕ) → Saturated table roster a (rdfs .range) c → Saturated table roster c (rdfs .subclass) d → Saturated table roster a (rdfs .range) d
-  -- and no other domain or range is in it: each has its source in the table, by the saturation's own subproperties and subclasses
-  pub domains : (a d : ℕ) → Saturated table roster a (rdfs .domain) d ↔ Source table roster (rdfs .domain) a d
-  pub ranges : (a d : ℕ) → Saturated table roster a (rdfs .range) d ↔ Source table roster (rdfs .range) a d
-  -- 02: "Planners read domain and range lines straight off the printout": the summary of the saturation has the same schema triples as the saturation
-  pub printed : (t : Triple) → 1 ≤ kind rdfs (t .property) → kind rdfs (t .property) ≤ 4
-      → Mem t (summary rdfs roster (saturationOf table roster)) ↔ Mem t (saturationOf table roster)
+  pub record Constraints (table roster : List ℕ) : Type 0 where
+    -- 02: "Rule 7: a subproperty b, b domain c give a domain c. Rule 8: the same for range."
+    pub rule-7 : (a b c : ℕ) → Saturated table roster a (v .subproperty) b → Saturated table roster b (v .domain) c → Saturated table roster a (v .domain) c
+    pub rule-8 : (a b c : ℕ) → Saturated table roster a (v .subproperty) b → Saturated table roster b (v .range) c → Saturated table roster a (v .range) c
+    -- 02: "Rule 9: a domain c, c subclass d give a domain d. Rule 10: the same for range."
+    pub rule-9 : (a c d : ℕ) → Saturated table roster a (v .domain) c → Saturated table roster c (v .subclass) d → Saturated table roster a (v .domain) d
+    pub rule-10 : (a c d : ℕ) → Saturated table roster a (v .range) c → Saturated table roster c (v .subclass) d → Saturated table roster a (v .range) d
+    -- and no other domain or range is in it: each has its source in the table, by the saturation's own subproperties and subclasses
+    pub domains : (a d : ℕ) → Saturated table roster a (v .domain) d ↔ Source table roster (v .domain) a d
+    pub ranges : (a d : ℕ) → Saturated table roster a (v .range) d ↔ Source table roster (v .range) a d
+    -- 02: "Planners read domain and range lines straight off the printout": the summary of the saturation has the same schema triples as the saturation
+    pub printed : (t : Triple) → 1 ≤ kind v (t .property) → kind v (t .property) ≤ 4
+        → Mem t (summary v roster (saturationOf table roster)) ↔ Mem t (saturationOf table roster)
 
-abbrev pub ConstraintsFollow : Type 0
-ConstraintsFollow = (table roster : List ℕ) → Accepted rdfs table roster → Constraints table roster
+  abbrev pub ConstraintsFollow : Type 0
+  ConstraintsFollow = (table roster : List ℕ) → Accepted v table roster → Constraints table roster
 
--- per property with a clique at a side, the smallest property of that clique; for any other code, absent
-pub record CliqueList (table roster : List ℕ) (e : Side) : Type 0 where
-  pub one-clique : (n m p q : ℕ) → Has rdfs roster (TriplesOf table) e n p → Has rdfs roster (TriplesOf table) e m q
-      → (label (cliques rdfs roster e (triples table)) p ≡ label (cliques rdfs roster e (triples table)) q) ↔ Clique rdfs roster (TriplesOf table) e p q
-  pub member : (n p : ℕ) → Has rdfs roster (TriplesOf table) e n p → Clique rdfs roster (TriplesOf table) e p (label (cliques rdfs roster e (triples table)) p)
-  pub smallest : (p q : ℕ) → Clique rdfs roster (TriplesOf table) e p q → label (cliques rdfs roster e (triples table)) p ≤ q
-  pub no-clique : (p : ℕ) → ((n : ℕ) → Has rdfs roster (TriplesOf table) e n p → ⊥) → label (cliques rdfs roster e (triples table)) p ≡ absent
-  pub size : length (cliques rdfs roster e (triples table)) ≡ length roster
+  -- per property with a clique at a side, the smallest property of that clique; for any other code, absent
+  pub record CliqueList (table roster : List ℕ) (e : Side) : Type 0 where
+    pub one-clique : (n m p q : ℕ) → Has v roster (TriplesOf table) e n p → Has v roster (TriplesOf table) e m q
+        → (label (cliques v roster e (triples table)) p ≡ label (cliques v roster e (triples table)) q) ↔ Clique v roster (TriplesOf table) e p q
+    pub member : (n p : ℕ) → Has v roster (TriplesOf table) e n p → Clique v roster (TriplesOf table) e p (label (cliques v roster e (triples table)) p)
+    pub smallest : (p q : ℕ) → Clique v roster (TriplesOf table) e p q → label (cliques v roster e (triples table)) p ≤ q
+    pub no-clique : (p : ℕ) → ((n : ℕ) → Has v roster (TriplesOf table) e n p → ⊥) → label (cliques v roster e (triples table)) p ≡ absent
+    pub size : length (cliques v roster e (triples table)) ≡ length roster
 
-abbrev pub CliquesExact : Type 0
-CliquesExact = (table roster : List ℕ) → Accepted rdfs table roster → (e : Side) → CliqueList table roster e
+  abbrev pub CliquesExact : Type 0
+  CliquesExact = (table roster : List ℕ) → Accepted v table roster → (e : Side) → CliqueList table roster e
 
--- the demand: two data nodes share a representative exactly if they are weakly equivalent; the representative is the smallest code of its class,
--- a marked node's is itself, and a code that is no node is absent
-pub record Representatives (table roster : List ℕ) : Type 0 where
-  pub shared : (c d : ℕ) → DataNode rdfs roster (TriplesOf table) c → DataNode rdfs roster (TriplesOf table) d
-      → (representative roster (triples table) c ≡ representative roster (triples table) d) ↔ Weakly rdfs roster (TriplesOf table) c d
-  pub represents : Represents rdfs roster (TriplesOf table) (representative roster (triples table))
-  pub no-node : (c : ℕ) → (Node (TriplesOf table) c → ⊥) → representative roster (triples table) c ≡ absent
-  pub size : length (mapOf rdfs roster (triples table)) ≡ length roster
+  -- the demand: two data nodes share a representative exactly if they are weakly equivalent; the representative is the smallest code of its class,
+  -- a marked node's is itself, and a code that is no node is absent
+  pub record Representatives (table roster : List ℕ) : Type 0 where
+    pub shared : (c d : ℕ) → DataNode v roster (TriplesOf table) c → DataNode v roster (TriplesOf table) d
+        → (representative roster (triples table) c ≡ representative roster (triples table) d) ↔ Weakly v roster (TriplesOf table) c d
+    pub represents : Represents v roster (TriplesOf table) (representative roster (triples table))
+    pub no-node : (c : ℕ) → (Node (TriplesOf table) c → ⊥) → representative roster (triples table) c ≡ absent
+    -- 02: "Every place that named 0 to 4 reads the loaded five, .. the map's absent entries too"
+    pub no-word : (c : ℕ) → reserved v c ≡ true → representative roster (triples table) c ≡ absent
+    pub size : length (mapOf v roster (triples table)) ≡ length roster
 
-abbrev pub RepresentativesExact : Type 0
-RepresentativesExact = (table roster : List ℕ) → Accepted rdfs table roster → Representatives table roster
+  abbrev pub RepresentativesExact : Type 0
+  RepresentativesExact = (table roster : List ℕ) → Accepted v table roster → Representatives table roster
 
--- the demand: a triple is in the summary exactly if it is an image
-pub record Summary (table roster : List ℕ) : Type 0 where
-  pub rising : Rising (summaryOf table roster)
-  pub exact : (t : Triple) → Mem t (summaryOf table roster) ↔ Image (representative roster (triples table)) (TriplesOf table) t
+  -- the demand: a triple is in the summary exactly if it is an image
+  pub record Summary (table roster : List ℕ) : Type 0 where
+    pub rising : Rising (summaryOf table roster)
+    pub exact : (t : Triple) → Mem t (summaryOf table roster) ↔ Image (representative roster (triples table)) (TriplesOf table) t
 
-abbrev pub SummaryExact : Type 0
-SummaryExact = (table roster : List ℕ) → Accepted rdfs table roster → Summary table roster
+  abbrev pub SummaryExact : Type 0
+  SummaryExact = (table roster : List ℕ) → Accepted v table roster → Summary table roster
 
--- 01: "the smallest roster covering a table"
-pub record OwnRoster (n : ℕ) (ts : List Triple) : Type 0 where
-  pub size : length (ownRoster rdfs n ts) ≡ n
-  pub right : wrongRoster rdfs (ownRoster rdfs n ts) ≡ false
-  pub covering : covers rdfs (ownRoster rdfs n ts) ts ≡ true
-  pub least : (roster : List ℕ) → covers rdfs roster ts ≡ true → (c : ℕ) → c < n
-      → (isClass (mark (ownRoster rdfs n ts) c) ≡ true → isClass (mark roster c) ≡ true)
-      × (isProperty (mark (ownRoster rdfs n ts) c) ≡ true → isProperty (mark roster c) ≡ true)
+  -- 01: "the smallest roster covering a table"
+  pub record OwnRoster (n : ℕ) (ts : List Triple) : Type 0 where
+    pub size : length (ownRoster v n ts) ≡ n
+    pub right : wrongRoster v (ownRoster v n ts) ≡ false
+    pub covering : covers v (ownRoster v n ts) ts ≡ true
+    pub least : (roster : List ℕ) → covers v roster ts ≡ true → (c : ℕ) → c < n
+        → (isClass (mark (ownRoster v n ts) c) ≡ true → isClass (mark roster c) ≡ true)
+        × (isProperty (mark (ownRoster v n ts) c) ≡ true → isProperty (mark roster c) ≡ true)
 
-abbrev pub OwnRosterLeast : Type 0
-OwnRosterLeast = (n : ℕ) (ts : List Triple) → wrongCodes rdfs n ts ≡ false → OwnRoster n ts
+  abbrev pub OwnRosterLeast : Type 0
+  OwnRosterLeast = (n : ℕ) (ts : List Triple) → wrongCodes v n ts ≡ false → OwnRoster n ts
 
--- ── demand 3, what needs no query ──
--- the demand: the shortcut holds, triples and maps: saturating the summary and summarising again ends where summarising the saturation ends
-pub record Shortcut (table roster : List ℕ) : Type 0 where
-  pub triples : summary rdfs roster (saturationOf table roster) ≡ summary rdfs roster (saturation rdfs (length roster) (summaryOf table roster))
-  pub maps : (c : ℕ)
-      → representative roster (saturation rdfs (length roster) (summaryOf table roster)) (representative roster (Rattle.model.specs.Triples.triples table) c)
-      ≡ representative roster (saturationOf table roster) c
+  -- ── demand 3, what needs no query ──
+  -- the demand: the shortcut holds, triples and maps: saturating the summary and summarising again ends where summarising the saturation ends
+  pub record Shortcut (table roster : List ℕ) : Type 0 where
+    pub triples : summary v roster (saturationOf table roster) ≡ summary v roster (saturation v (length roster) (summaryOf table roster))
+    pub maps : (c : ℕ)
+        → representative roster (saturation v (length roster) (summaryOf table roster)) (representative roster (Rattle.model.specs.Triples.triples table) c)
+        ≡ representative roster (saturationOf table roster) c
 
-abbrev pub ShortcutHolds : Type 0
-ShortcutHolds = (table roster : List ℕ) → Accepted rdfs table roster → Shortcut table roster
+  abbrev pub ShortcutHolds : Type 0
+  ShortcutHolds = (table roster : List ℕ) → Accepted v table roster → Shortcut table roster
 
--- no check before 5 refuses a table on either route, unless the saturation is longer than a table may be
-pub record Routes (table roster : List ℕ) : Type 0 where
-  pub summary-accepted : Accepted rdfs (flat (summaryOf table roster)) roster
-  pub saturation-accepted : length (saturationOf table roster) ≤ mostTriples → Accepted rdfs (flat (saturationOf table roster)) roster
-  -- the saturation of the summary is no longer than that of the table
-  pub shorter : length (saturation rdfs (length roster) (summaryOf table roster)) ≤ length (saturationOf table roster)
-  pub second-accepted : length (saturation rdfs (length roster) (summaryOf table roster)) ≤ mostTriples
-      → Accepted rdfs (flat (saturation rdfs (length roster) (summaryOf table roster))) roster
+  -- no check before 5 refuses a table on either route, unless the saturation is longer than a table may be
+  pub record Routes (table roster : List ℕ) : Type 0 where
+    pub summary-accepted : Accepted v (flat (summaryOf table roster)) roster
+    pub saturation-accepted : length (saturationOf table roster) ≤ mostTriples → Accepted v (flat (saturationOf table roster)) roster
+    -- the saturation of the summary is no longer than that of the table
+    pub shorter : length (saturation v (length roster) (summaryOf table roster)) ≤ length (saturationOf table roster)
+    pub second-accepted : length (saturation v (length roster) (summaryOf table roster)) ≤ mostTriples
+        → Accepted v (flat (saturation v (length roster) (summaryOf table roster))) roster
 
-abbrev pub RoutesAccepted : Type 0
-RoutesAccepted = (table roster : List ℕ) → Accepted rdfs table roster → Routes table roster
+  abbrev pub RoutesAccepted : Type 0
+  RoutesAccepted = (table roster : List ℕ) → Accepted v table roster → Routes table roster
 
--- the demand: feeding in any order, with repeats, ends in the plain summary
-pub record Collected (table roster : List ℕ) (H : List Triple) : Type 0 where
-  pub held : H ≡ sorted (triples table)
-  pub summarised : summary rdfs roster H ≡ summaryOf table roster
-  pub mapped : mapOf rdfs roster H ≡ mapOf rdfs roster (triples table)
+  -- the demand: feeding in any order, with repeats, ends in the plain summary
+  pub record Collected (table roster : List ℕ) (H : List Triple) : Type 0 where
+    pub held : H ≡ sorted (triples table)
+    pub summarised : summary v roster H ≡ summaryOf table roster
+    pub mapped : mapOf v roster H ≡ mapOf v roster (triples table)
 
-abbrev pub AnyOrder : Type 0
-AnyOrder =
-    (table roster : List ℕ) → Accepted rdfs table roster → (space : ℕ) → length (sorted (triples table)) ≤ space
-    → (fs : List Feed) → ((f : Feed) → Mem f fs → f .work ≡ 2 * length roster) → ((t : Triple) → Mem t (map (λ (f : Feed). f .triple) fs) ↔ Mem t (triples table))
-    → Collected table roster (heldAfter rdfs roster space fs [])
+  abbrev pub AnyOrder : Type 0
+  AnyOrder =
+      (table roster : List ℕ) → Accepted v table roster → (space : ℕ) → length (sorted (triples table)) ≤ space
+      → (fs : List Feed) → ((f : Feed) → Mem f fs → f .work ≡ 2 * length roster) → ((t : Triple) → Mem t (map (λ (f : Feed). f .triple) fs) ↔ Mem t (triples table))
+      → Collected table roster (heldAfter v roster space fs [])
 
--- the demand: every list of feeds, refusals and repeats included, gives the plain intake's answers and state, as one claim about the whole list
-pub record Plain (roster : List ℕ) (s : State) (fs : List Feed) (os : List (Outcome Bool)) (end : State) : Type 0 where
-  pub answered : os ≡ answers rdfs roster (slots (s .triples)) fs []
-  pub state : end ≡ stateOf rdfs roster (length (s .triples)) (length (s .summary)) (heldAfter rdfs roster (slots (s .triples)) fs [])
-  -- what is held is a table in rising order, accepted with the roster: demand 2 says what its summary and its map are
-  pub rising : Rising (heldAfter rdfs roster (slots (s .triples)) fs [])
-  pub accepted-table : Accepted rdfs (flat (heldAfter rdfs roster (slots (s .triples)) fs [])) roster
+  -- the demand: every list of feeds, refusals and repeats included, gives the plain intake's answers and state, as one claim about the whole list
+  pub record Plain (roster : List ℕ) (s : State) (fs : List Feed) (os : List (Outcome Bool)) (end : State) : Type 0 where
+    pub answered : os ≡ answers v roster (slots (s .triples)) fs []
+    pub state : end ≡ stateOf v roster (length (s .triples)) (length (s .summary)) (heldAfter v roster (slots (s .triples)) fs [])
+    -- what is held is a table in rising order, accepted with the roster: demand 2 says what its summary and its map are
+    pub rising : Rising (heldAfter v roster (slots (s .triples)) fs [])
+    pub accepted-table : Accepted v (flat (heldAfter v roster (slots (s .triples)) fs [])) roster
 
-abbrev pub WholeList : Type 0
-WholeList =
-    (roster : List ℕ) (s end : State) (fs : List Feed) (os : List (Outcome Bool)) → openOutcome rdfs roster s ≡ accepted tt
-    → Run rdfs roster (opened rdfs roster s) fs os end → Plain roster s fs os end
+  abbrev pub WholeList : Type 0
+  WholeList =
+      (roster : List ℕ) (s end : State) (fs : List Feed) (os : List (Outcome Bool)) → openOutcome v roster s ≡ accepted tt
+      → Run v roster (opened v roster s) fs os end → Plain roster s fs os end
 
--- the demand: feeding in any order, with repeats, ends in the plain summary, of the lists and the record that a run of feeds leaves
-pub record Filled (table roster : List ℕ) (s end : State) : Type 0 where
-  pub triples : end .triples ≡ listed (length (s .triples)) (sorted (Rattle.model.specs.Triples.triples table))
-  pub summary : end .summary ≡ listed (length (s .summary)) (summaryOf table roster)
-  pub map : end .map ≡ mapOf rdfs roster (Rattle.model.specs.Triples.triples table)
-  pub held : end .held ≡ length (sorted (Rattle.model.specs.Triples.triples table))
-  pub summarised : end .summarised ≡ length (summaryOf table roster)
+  -- the demand: feeding in any order, with repeats, ends in the plain summary, of the lists and the record that a run of feeds leaves
+  pub record Filled (table roster : List ℕ) (s end : State) : Type 0 where
+    pub triples : end .triples ≡ listed (length (s .triples)) (sorted (Rattle.model.specs.Triples.triples table))
+    pub summary : end .summary ≡ listed (length (s .summary)) (summaryOf table roster)
+    pub map : end .map ≡ mapOf v roster (Rattle.model.specs.Triples.triples table)
+    pub held : end .held ≡ length (sorted (Rattle.model.specs.Triples.triples table))
+    pub summarised : end .summarised ≡ length (summaryOf table roster)
 
-abbrev pub FedInAnyOrder : Type 0
-FedInAnyOrder =
-    (table roster : List ℕ) → Accepted rdfs table roster → (s end : State) (fs : List Feed) (os : List (Outcome Bool)) → openOutcome rdfs roster s ≡ accepted tt
-    → length (sorted (triples table)) ≤ slots (s .triples)
-    → ((f : Feed) → Mem f fs → f .work ≡ 2 * length roster) → ((t : Triple) → Mem t (map (λ (f : Feed). f .triple) fs) ↔ Mem t (triples table))
-    → Run rdfs roster (opened rdfs roster s) fs os end → Filled table roster s end
+  abbrev pub FedInAnyOrder : Type 0
+  FedInAnyOrder =
+      (table roster : List ℕ) → Accepted v table roster → (s end : State) (fs : List Feed) (os : List (Outcome Bool)) → openOutcome v roster s ≡ accepted tt
+      → length (sorted (triples table)) ≤ slots (s .triples)
+      → ((f : Feed) → Mem f fs → f .work ≡ 2 * length roster) → ((t : Triple) → Mem t (map (λ (f : Feed). f .triple) fs) ↔ Mem t (triples table))
+      → Run v roster (opened v roster s) fs os end → Filled table roster s end

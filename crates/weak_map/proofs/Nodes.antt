@@ -8,7 +8,8 @@ use mathlib.Core.List.{List, List·Memᴰ·not-nil as no-mem}
 use native.Mathlib.Omega.{arith}
 use lib.ListN.{length, getD, set, length-set}
 use Rattle.model.specs.declared.Triple.{Triple}
-use Rattle.model.specs.Codes.{rdfs, absent}
+use Rattle.model.specs.declared.Vocabulary.{Vocabulary}
+use Rattle.model.specs.Codes.{absent}
 use Rattle.model.specs.Lists.{tabulate}
 use Rattle.model.specs.Roster.{isNode}
 use Rattle.model.specs.Cliques.{Side, source, target, end, Node}
@@ -89,55 +90,56 @@ module _ (table : List ℕ) (count : ℕ) (map₀ : List ℕ) (o : Openable tabl
         pub opened-step : (l₁ l₂ : List ℕ) → l₁ ≡ set l (t .subject) (t .subject) → l₂ ≡ set l₁ (t .object) (t .object) → Opened table (i + 1) (length map₀) l₂
         opened-step l₁ l₂ e f = rw (f, e) step
 
--- ── the classes ──
-pub sound-start : (table : List ℕ) (count : ℕ) (roster : List ℕ) (n : ℕ) (map : List ℕ) → Right rdfs roster (tabulate (at table) 0 count) → n ≡ length roster
-    → Opened table count n map → Sound roster (tabulate (at table) 0 count) map
-sound-start table count roster n map R e d = record {
-  size = d .size ∙ e;
-  forest = record {
-    size = omega (arith, d .size, room rdfs roster ts R);
-    inside = λ x a. omega (arith, d .size, node-below (length roster) ts (below rdfs roster ts R) x (test-node ts x a));
-    falls = λ x a. omega (arith, own x a);
-    links = λ x a. ap (isNode ts) (own x a) ∙ a;
-  };
-  sound = λ x a. inl (sym (root-top map x (omega (arith, own x a))));
-  none = λ x h f. d .none x h (λ y. not-both (node-test ts x y) f);
-}
-  where
-    ts : List Triple
-    ts = tabulate (at table) 0 count
+module _ (words : Vocabulary) where
+  -- ── the classes ──
+  pub sound-start : (table : List ℕ) (count : ℕ) (roster : List ℕ) (n : ℕ) (map : List ℕ) → Right words roster (tabulate (at table) 0 count) → n ≡ length roster
+      → Opened table count n map → Sound words roster (tabulate (at table) 0 count) map
+  sound-start table count roster n map R e d = record {
+    size = d .size ∙ e;
+    forest = record {
+      size = omega (arith, d .size, room words roster ts R);
+      inside = λ x a. omega (arith, d .size, node-below (length roster) ts (below words roster ts R) x (test-node ts x a));
+      falls = λ x a. omega (arith, own x a);
+      links = λ x a. ap (isNode ts) (own x a) ∙ a;
+    };
+    sound = λ x a. inl (sym (root-top map x (omega (arith, own x a))));
+    none = λ x h f. d .none x h (λ y. not-both (node-test ts x y) f);
+  }
+    where
+      ts : List Triple
+      ts = tabulate (at table) 0 count
 
-    own : (x : ℕ) → isNode ts x ≡ true → getD map x 0 ≡ x
-    own x a = d .own x (test-node ts x a)
+      own : (x : ℕ) → isNode ts x ≡ true → getD map x 0 ≡ x
+      own x a = d .own x (test-node ts x a)
 
-module _ (roster : List ℕ) (ts : List Triple) where
-  alike-turn : (x y : ℕ) → Alike roster ts x y → Alike roster ts y x
-  alike-turn x y (inl e) = inl (sym e)
-  alike-turn x y (inr w) = inr (turned w)
+  module _ (roster : List ℕ) (ts : List Triple) where
+    alike-turn : (x y : ℕ) → Alike words roster ts x y → Alike words roster ts y x
+    alike-turn x y (inl e) = inl (sym e)
+    alike-turn x y (inr w) = inr (turned w)
 
-  alike-through : (x y z : ℕ) → Alike roster ts x y → Alike roster ts y z → Alike roster ts x z
-  alike-through x y z (inl e) m = subst (λ (u : ℕ). Alike roster ts u z) (sym e) m
-  alike-through x y z (inr w) (inl e) = inr (subst (Weak rdfs roster (In ts) x) e w)
-  alike-through x y z (inr w) (inr v) = inr (chained w v)
+    alike-through : (x y z : ℕ) → Alike words roster ts x y → Alike words roster ts y z → Alike words roster ts x z
+    alike-through x y z (inl e) m = subst (λ (u : ℕ). Alike words roster ts u z) (sym e) m
+    alike-through x y z (inr w) (inl e) = inr (subst (Weak words roster (In ts) x) e w)
+    alike-through x y z (inr w) (inr v) = inr (chained w v)
 
-  module _ (map : List ℕ) (b : Sound roster ts map) (x y : ℕ) (hx : isNode ts x ≡ true) (hy : isNode ts y ≡ true) where
-    pub sound-pair : ActivePair map x y
-    sound-pair = record { A = isNode ts; forest = b .forest; left = hx; right = hy }
+    module _ (map : List ℕ) (b : Sound words roster ts map) (x y : ℕ) (hx : isNode ts x ≡ true) (hy : isNode ts y ≡ true) where
+      pub sound-pair : ActivePair map x y
+      sound-pair = record { A = isNode ts; forest = b .forest; left = hx; right = hy }
 
-    module _ (map′ : List ℕ) (u : United map map′ x y) where
-      kept : Kept (isNode ts) map map′ (merge (root map) x y)
-      kept = u .keeps (isNode ts) (b .forest) hx hy
+      module _ (map′ : List ℕ) (u : United map map′ x y) where
+        kept : Kept (isNode ts) map map′ (merge (root map) x y)
+        kept = u .keeps (isNode ts) (b .forest) hx hy
 
-      pub sound-united : Weak rdfs roster (In ts) x y → Sound roster ts map′
-      sound-united w = record {
-        size = kept .len ∙ b .size;
-        forest = kept .forest;
-        sound = united-in (isNode ts) map map′ x y hx hy kept (Alike roster ts) alike-turn alike-through (inr w) (b .sound);
-        none = λ z h f. kept .others z f ∙ b .none z (omega (arith, kept .len)) f;
-      }
+        pub sound-united : Weak words roster (In ts) x y → Sound words roster ts map′
+        sound-united w = record {
+          size = kept .len ∙ b .size;
+          forest = kept .forest;
+          sound = united-in (isNode ts) map map′ x y hx hy kept (Alike words roster ts) alike-turn alike-through (inr w) (b .sound);
+          none = λ z h f. kept .others z f ∙ b .none z (omega (arith, kept .len)) f;
+        }
 
-      pub sound-one : root map′ x ≡ root map′ y
-      sound-one = united-one (isNode ts) map map′ x y hx hy kept
+        pub sound-one : root map′ x ≡ root map′ y
+        sound-one = united-one (isNode ts) map map′ x y hx hy kept
 
-      pub sound-same : (n m : ℕ) → isNode ts n ≡ true → isNode ts m ≡ true → root map n ≡ root map m → root map′ n ≡ root map′ m
-      sound-same = united-same (isNode ts) map map′ x y hx hy kept
+        pub sound-same : (n m : ℕ) → isNode ts n ≡ true → isNode ts m ≡ true → root map n ≡ root map m → root map′ n ≡ root map′ m
+        sound-same = united-same (isNode ts) map map′ x y hx hy kept

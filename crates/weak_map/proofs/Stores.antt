@@ -10,7 +10,8 @@ use lib.Dec.{eqb}
 use lib.ListN.{length, getD, set, length-set}
 use borrow.Author.Tests.{eq-eqb, ne-eqb}
 use Rattle.model.specs.declared.Triple.{Triple}
-use Rattle.model.specs.Codes.{rdfs, absent}
+use Rattle.model.specs.declared.Vocabulary.{Vocabulary}
+use Rattle.model.specs.Codes.{absent}
 use Rattle.model.specs.Roster.{unmarked}
 use Rattle.model.specs.Cliques.{Side, end, links}
 use Rattle.theory.proofs.Tests.{not-both}
@@ -45,22 +46,6 @@ node-size map work map′ work′ k n d = go (ℕ-discrete (getD work k 0) absen
     go (yes z) = ap length (d .first z .1) ∙ length-set work k n
     go (no z) = ap length (d .later z .1)
 
--- ── an end of a triple ──
-pub end-skipped : (roster : List ℕ) (e : Side) (t : Triple) (map work : List ℕ) → links rdfs roster e t ≡ false → EndLinked roster e t map work map work
-end-skipped roster e t map work h = record { between = work; skipped = λ z. (refl, refl); linked = λ z. absurd (not-both z h) }
-
-module _ (roster : List ℕ) (e : Side) (t : Triple) (map work : List ℕ) (h : links rdfs roster e t ≡ true) (k n : ℕ)
-    (p : k ≡ slotOf (length roster) e (t .property)) (q : n ≡ end e t) where
-  pub end-node : EndLinkable roster e t map work → NodeLinkable map work k n
-  end-node d = rw (p, q) (record { inside = omega (arith, slot-below (length roster) (t .property) e (d .below .property), d .size); pair = d .pair h })
-
-  module _ (map′ between : List ℕ) (s : NodeLinked map work map′ between k n) where
-    pub end-inside : EndLinkable roster e t map work → n < length between
-    end-inside d = omega (arith, end-below (length roster) t (d .below) e, node-size map work map′ between k n s, d .size)
-
-    pub end-both : (work′ : List ℕ) → work′ ≡ set between n n → EndLinked roster e t map work map′ work′
-    end-both work′ w = record { between = between; skipped = λ z. absurd (not-both h z); linked = λ z. (rw (p, q) at s, rw q at w) }
-
 -- ── data nodes without data triples ──
 module _ (roster map work : List ℕ) (i : ℕ) where
   pub bare-absent : getD map i 0 ≡ absent → false ≡ bare roster map work i
@@ -90,3 +75,20 @@ module _ (roster map work : List ℕ) (i : ℕ) where
 
         pub bare-joined : (map′ : List ℕ) → United map map′ a i → BareJoined roster map work first i first map′
         bare-joined map′ u = record { skipped = λ z. absurd (not-both h z); opened = λ z q. absurd (k q); joined = λ z q. (refl, rw (← e) u) }
+
+module _ (v : Vocabulary) where
+  -- ── an end of a triple ──
+  pub end-skipped : (roster : List ℕ) (e : Side) (t : Triple) (map work : List ℕ) → links v roster e t ≡ false → EndLinked v roster e t map work map work
+  end-skipped roster e t map work h = record { between = work; skipped = λ z. (refl, refl); linked = λ z. absurd (not-both z h) }
+
+  module _ (roster : List ℕ) (e : Side) (t : Triple) (map work : List ℕ) (h : links v roster e t ≡ true) (k n : ℕ)
+      (p : k ≡ slotOf (length roster) e (t .property)) (q : n ≡ end e t) where
+    pub end-node : EndLinkable v roster e t map work → NodeLinkable map work k n
+    end-node d = rw (p, q) (record { inside = omega (arith, slot-below (length roster) (t .property) e (d .below .property), d .size); pair = d .pair h })
+
+    module _ (map′ between : List ℕ) (s : NodeLinked map work map′ between k n) where
+      pub end-inside : EndLinkable v roster e t map work → n < length between
+      end-inside d = omega (arith, end-below (length roster) t (d .below) e, node-size map work map′ between k n s, d .size)
+
+      pub end-both : (work′ : List ℕ) → work′ ≡ set between n n → EndLinked v roster e t map work map′ work′
+      end-both work′ w = record { between = between; skipped = λ z. absurd (not-both h z); linked = λ z. (rw (p, q) at s, rw q at w) }

@@ -7,7 +7,8 @@ use mathlib.Core.List.{List}
 use lib.Dec.{eqb}
 use lib.ListN.{length, getD, set}
 use Rattle.model.specs.declared.Triple.{Triple}
-use Rattle.model.specs.Codes.{rdfs, absent}
+use Rattle.model.specs.declared.Vocabulary.{Vocabulary}
+use Rattle.model.specs.Codes.{absent}
 use Rattle.model.specs.Roster.{unmarked}
 use Rattle.model.specs.Cliques.{Side, end, Has, links}
 use Rattle.theory.proofs.Covered.{Below}
@@ -25,20 +26,6 @@ pub record NodeLinked (map work map′ work′ : List ℕ) (k n : ℕ) : Type 0 
   pub first : getD work k 0 ≡ absent → (map′ ≡ map) × (work′ ≡ set work k n)
   pub later : (getD work k 0 ≡ absent → ⊥) → United map map′ (getD work k 0) n × (work′ ≡ work)
 
--- ── an end of a triple ──
-pub record EndLinkable (roster : List ℕ) (e : Side) (t : Triple) (map work : List ℕ) : Type 0 where
-  pub below : Below (length roster) t
-  pub small : length roster ≤ 65536
-  pub size : length work ≡ 2 * length roster
-  pub pair : links rdfs roster e t ≡ true → (getD work (slotOf (length roster) e (t .property)) 0 ≡ absent → ⊥)
-      → ActivePair map (getD work (slotOf (length roster) e (t .property)) 0) (end e t)
-
--- the node is linked at its property's slot, giving `between`, and then its own entry is the node
-pub record EndLinked (roster : List ℕ) (e : Side) (t : Triple) (map work map′ work′ : List ℕ) : Type 0 where
-  pub between : List ℕ
-  pub skipped : links rdfs roster e t ≡ false → (map′ ≡ map) × (work′ ≡ work)
-  pub linked : links rdfs roster e t ≡ true → NodeLinked map work map′ between (slotOf (length roster) e (t .property)) (end e t) × (work′ ≡ set between (end e t) (end e t))
-
 -- ── data nodes without data triples ──
 unfoldable pub bare : List ℕ → List ℕ → List ℕ → ℕ → Bool
 bare roster map work i = not (eqb (getD map i 0) absent) && (unmarked roster i && eqb (getD work i 0) absent)
@@ -55,13 +42,29 @@ pub record BareJoined (roster map work : List ℕ) (first i r : ℕ) (map′ : L
   pub opened : bare roster map work i ≡ true → first ≡ absent → (r ≡ i) × (map′ ≡ map)
   pub joined : bare roster map work i ≡ true → (first ≡ absent → ⊥) → (r ≡ first) × United map map′ first i
 
+module _ (v : Vocabulary) where
+  -- ── an end of a triple ──
+  pub record EndLinkable (roster : List ℕ) (e : Side) (t : Triple) (map work : List ℕ) : Type 0 where
+    pub below : Below (length roster) t
+    pub small : length roster ≤ 65536
+    pub size : length work ≡ 2 * length roster
+    pub pair : links v roster e t ≡ true → (getD work (slotOf (length roster) e (t .property)) 0 ≡ absent → ⊥)
+        → ActivePair map (getD work (slotOf (length roster) e (t .property)) 0) (end e t)
+
+  -- the node is linked at its property's slot, giving `between`, and then its own entry is the node
+  pub record EndLinked (roster : List ℕ) (e : Side) (t : Triple) (map work map′ work′ : List ℕ) : Type 0 where
+    pub between : List ℕ
+    pub skipped : links v roster e t ≡ false → (map′ ≡ map) × (work′ ≡ work)
+    pub linked : links v roster e t ≡ true → NodeLinked map work map′ between (slotOf (length roster) e (t .property)) (end e t) × (work′ ≡ set between (end e t) (end e t))
+
+  -- nodes at the same side of one property have one root, and so have the data nodes without data triples
+  pub record Complete (roster : List ℕ) (ts : List Triple) (map : List ℕ) : Type 0 where
+    pub sound : Sound v roster ts map
+    pub sides : (e : Side) (n m p : ℕ) → Has v roster (In ts) e n p → Has v roster (In ts) e m p → root map n ≡ root map m
+    pub bares : (n m : ℕ) → Bare v roster ts n → Bare v roster ts m → root map n ≡ root map m
+
 -- the state is that of some triples
 pub record Ready (roster map work : List ℕ) : Type 0 where
+  pub words : Vocabulary
   pub ts : List Triple
-  pub state : AllSeen roster ts map work
-
--- nodes at the same side of one property have one root, and so have the data nodes without data triples
-pub record Complete (roster : List ℕ) (ts : List Triple) (map : List ℕ) : Type 0 where
-  pub sound : Sound roster ts map
-  pub sides : (e : Side) (n m p : ℕ) → Has rdfs roster (In ts) e n p → Has rdfs roster (In ts) e m p → root map n ≡ root map m
-  pub bares : (n m : ℕ) → Bare roster ts n → Bare roster ts m → root map n ≡ root map m
+  pub state : AllSeen words roster ts map work

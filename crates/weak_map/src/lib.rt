@@ -7,7 +7,7 @@ ghost use mathlib.Core.List.{List};
 ghost use Prim.Native.Nat.{_*_, _<_, _≤_};
 ghost use lib.ListN.{length, set};
 ghost use Rattle.model.specs.declared.Triple.{Triple};
-ghost use Rattle.model.specs.Codes.{rdfs};
+ghost use Rattle.model.specs.declared.Vocabulary.{Vocabulary};
 ghost use Rattle.model.specs.Lists.{tabulate, zeros};
 ghost use Rattle.model.specs.Classes.{mapOf};
 ghost use Rattle.theory.proofs.Accepted.{Right};
@@ -24,6 +24,7 @@ use lists::narrow;
 use lists::triple_at;
 use lists::wide;
 use model::Triple;
+use model::Vocabulary;
 use union_find::flatten;
 use union_find::union;
 
@@ -75,11 +76,18 @@ fn link_node(map: &mut [u32], work: &mut [u32], slot: usize, node: u32)
 }
 
 // Links the end of a triple at a side, if it is a data triple with an unmarked end there.
-fn link_end(roster: &[u8], sources: bool, t: Triple, map: &mut [u32], work: &mut [u32])
-    requires { ⌜ EndLinkable (now roster) (sideOf sources) t (now map) (now work) ⌝ }
-    ensures { λ r. ⌜ EndLinked (now (roster .entry)) (sideOf sources) t (now (map .entry)) (now (work .entry)) (now (map .exit)) (now (work .exit)) ⌝ }
+fn link_end(
+    words: Vocabulary,
+    roster: &[u8],
+    sources: bool,
+    t: Triple,
+    map: &mut [u32],
+    work: &mut [u32],
+)
+    requires { ⌜ EndLinkable words (now roster) (sideOf sources) t (now map) (now work) ⌝ }
+    ensures { λ r. ⌜ EndLinked words (now (roster .entry)) (sideOf sources) t (now (map .entry)) (now (work .entry)) (now (map .exit)) (now (work .exit)) ⌝ }
 {
-    if !links_at(roster, sources, t) {
+    if !links_at(words, roster, sources, t) {
         return;
     }
     let node = side_end(sources, t);
@@ -89,15 +97,22 @@ fn link_end(roster: &[u8], sources: bool, t: Triple, map: &mut [u32], work: &mut
 }
 
 // Links both ends of each triple.
-fn link_table(table: &[u32], count: usize, roster: &[u8], map: &mut [u32], work: &mut [u32])
-    requires { ⌜ Started (now table) count (now roster) (now map) (now work) ⌝ }
-    ensures { λ r. ⌜ AllSeen (now (roster .entry)) (tabulate (at (now (table .entry))) 0 count) (now (map .exit)) (now (work .exit)) ⌝ }
+fn link_table(
+    words: Vocabulary,
+    table: &[u32],
+    count: usize,
+    roster: &[u8],
+    map: &mut [u32],
+    work: &mut [u32],
+)
+    requires { ⌜ Started words (now table) count (now roster) (now map) (now work) ⌝ }
+    ensures { λ r. ⌜ AllSeen words (now (roster .entry)) (tabulate (at (now (table .entry))) 0 count) (now (map .exit)) (now (work .exit)) ⌝ }
 {
     let mut i = 0;
     while i < count {
         let t = triple_at(table, i);
-        link_end(roster, true, t, map, work);
-        link_end(roster, false, t, map, work);
+        link_end(words, roster, true, t, map, work);
+        link_end(words, roster, false, t, map, work);
         i += 1;
     }
 }
@@ -134,7 +149,7 @@ fn join_bare_at(roster: &[u8], map: &mut [u32], work: &[u32], first: u32, i: usi
 // The data nodes without data triples become one class.
 fn join_bare(roster: &[u8], map: &mut [u32], work: &[u32])
     requires { ⌜ Ready (now roster) (now map) (now work) ⌝ }
-    ensures { λ r. ⌜ ((ts : List Triple) → AllSeen (now (roster .entry)) ts (now (map .entry)) (now (work .entry)) → Complete (now (roster .entry)) ts (now (map .exit))) ⌝ }
+    ensures { λ r. ⌜ ((v : Vocabulary) (ts : List Triple) → AllSeen v (now (roster .entry)) ts (now (map .entry)) (now (work .entry)) → Complete v (now (roster .entry)) ts (now (map .exit))) ⌝ }
 {
     let mut first = Code::ABSENT;
     let mut i = 0;
@@ -145,14 +160,21 @@ fn join_bare(roster: &[u8], map: &mut [u32], work: &[u32])
 }
 
 // The map of the first `count` triples of a table. The work list is zero afterwards.
-pub fn weak_map(table: &[u32], count: usize, roster: &[u8], map: &mut [u32], work: &mut [u32])
-    requires { ⌜ (3 * count ≤ length (now table)) × Right rdfs (now roster) (tabulate (at (now table)) 0 count) × (length (now map) ≡ length (now roster)) × (length (now work) ≡ 2 * length (now roster)) ⌝ }
-    ensures { λ r. ⌜ (now (map .exit) ≡ mapOf rdfs (now (roster .entry)) (tabulate (at (now (table .entry))) 0 count)) × (now (work .exit) ≡ zeros (length (now (work .entry)))) ⌝ }
+pub fn weak_map(
+    words: Vocabulary,
+    table: &[u32],
+    count: usize,
+    roster: &[u8],
+    map: &mut [u32],
+    work: &mut [u32],
+)
+    requires { ⌜ (3 * count ≤ length (now table)) × Right words (now roster) (tabulate (at (now table)) 0 count) × (length (now map) ≡ length (now roster)) × (length (now work) ≡ 2 * length (now roster)) ⌝ }
+    ensures { λ r. ⌜ (now (map .exit) ≡ mapOf words (now (roster .entry)) (tabulate (at (now (table .entry))) 0 count)) × (now (work .exit) ≡ zeros (length (now (work .entry)))) ⌝ }
 {
     empty(map);
     empty(work);
     open_nodes(table, count, map);
-    link_table(table, count, roster, map, work);
+    link_table(words, table, count, roster, map, work);
     join_bare(roster, map, work);
     flatten(map);
     clear(work, 0, work.len());

@@ -3,7 +3,7 @@
 use Prim.Native.Nat.{ℕ}
 use mathlib.Core.Path.{_≡_, refl, sym, _∙_, ap}
 use mathlib.Core.Bool.{Bool, true, false, not, cond}
-use mathlib.Core.List.{List, []}
+use mathlib.Core.List.{List, [], _∷_}
 use mathlib.Core.Option.{Option, none, some}
 use native.Mathlib.Omega.{arith}
 use lib.Dec.{eqb, ltb}
@@ -11,7 +11,8 @@ use lib.ListN.{length}
 use borrow.Author.Tests.{eq-eqb, ne-eqb}
 use Rattle.model.specs.declared.Done.{Done}
 use Rattle.model.specs.declared.Refusal.the-variants.{Length}
-use Rattle.model.specs.Codes.{rdfs}
+use Rattle.model.specs.declared.Vocabulary.{Vocabulary}
+use Rattle.model.specs.Codes.{codes}
 use Rattle.model.specs.Lists.{zeros, collect, tabulate}
 use Rattle.model.specs.Triples.{slots}
 use Rattle.model.specs.Outcomes.{Outcome, refused, accepted, number, done, decided, left, zeroed}
@@ -26,30 +27,8 @@ use Rattle.site_form.specs.Reading.{Forms, formed, queryOf, queriesOf, siteOf, 
 use Rattle.site_reader.specs.Calls.{ReadCall}
 use Rattle.weak_summary.specs.Status.{statusOf, valueOr, bits, Stores}
 use Rattle.weak_summary.specs.Flat.{flatQuery, endNumbers, patternNumbers, queryNumbers, flatQueries}
-use Rattle.weak_summary.specs.Calls.{flatAskOutcome, OpenStatus, formStatus, Lent, lent, siteLeaves, flatReadOutcome, flatReadLeaves, ReadStatus, RefusedReadIsZero}
+use Rattle.weak_summary.specs.Calls.{flatAskOutcome, OpenStatus, formStatus, Lent, lent, rightLengths, siteLeaves, flatReadOutcome, flatReadLeaves, ReadStatus, RefusedReadIsZero}
 use Rattle.weak_summary.proofs.Outcomes.{stores-as}
-
--- ── ask ──
-module _ (table map query : List ℕ) where
-  ask-one : (length query ≡ 41 → ⊥) → flatAskOutcome table map query ≡ refused 1
-  unfolding flatAskOutcome decided
-  ask-one h = ap (λ (b : Bool). cond (not b) (refused 1) (askOutcome rdfs table map (flatQuery query))) (ne-eqb (length query) 41 h)
-
-  pub ask-length : (before s : ℕ) → (length query ≡ 41 → ⊥) → s ≡ number Length → Stores (bits (flatAskOutcome table map query)) before s before
-  unfolding bits statusOf valueOr number
-  ask-length before s h e = stores-as (sym (ap bits (ask-one h))) (record { answer = e; value = refl })
-
-  pub ask-passed : length query ≡ 41 → askOutcome rdfs table map (flatQuery query) ≡ flatAskOutcome table map query
-  unfolding flatAskOutcome decided
-  ask-passed h = sym (ap (λ (b : Bool). cond (not b) (refused 1) (askOutcome rdfs table map (flatQuery query))) (eq-eqb (length query) 41 h))
-
--- ── opening ──
-pub open-status : (roster : List ℕ) (s : State) (d : Done) (status : ℕ) (after : State) → Opens roster s (done d) after → status ≡ statusOf (done d)
-    → OpenStatus roster s status after
-open-status roster s d status after o e = record {
-  answer = e ∙ ap statusOf (o .answer);
-  leaves = o .leaves ∙ ap (λ (x : Outcome (Unit {0})). openLeaves rdfs roster x s) (o .answer);
-}
 
 -- ── reading ──
 form-status : (f : Form) (site : Site) → formStatus f ≡ statusOf (formed f site)
@@ -58,11 +37,17 @@ form-status Read site = refl
 form-status (Refused r) site = refl
 
 module _ (text : List ℕ) (s : Lent) where
-  wrong : (length (s .queries) ≡ 656 → ⊥) → eqb (length (s .queries)) 656 ≡ false
-  wrong h = ne-eqb (length (s .queries)) 656 h
+  pub wrong-queries : (length (s .queries) ≡ 656 → ⊥) → rightLengths s ≡ false
+  unfolding rightLengths
+  wrong-queries h = rw (ne-eqb (length (s .queries)) 656 h)
 
-  right : length (s .queries) ≡ 656 → eqb (length (s .queries)) 656 ≡ true
-  right h = eq-eqb (length (s .queries)) 656 h
+  pub wrong-words : length (s .queries) ≡ 656 → (length (s .words) ≡ 5 → ⊥) → rightLengths s ≡ false
+  unfolding rightLengths
+  wrong-words q h = rw (eq-eqb (length (s .queries)) 656 q, ne-eqb (length (s .words)) 5 h)
+
+  pub right-lengths : length (s .queries) ≡ 656 → length (s .words) ≡ 5 → rightLengths s ≡ true
+  unfolding rightLengths
+  right-lengths q h = rw (eq-eqb (length (s .queries)) 656 q, eq-eqb (length (s .words)) 5 h)
 
   outcome-of : Bool → Outcome Site
   outcome-of b = cond (not b) (refused 1) (readOutcome text (s .list))
@@ -70,27 +55,27 @@ module _ (text : List ℕ) (s : Lent) where
   leaves-of : Bool → Lent
   leaves-of b = cond b (siteLeaves (readList text (s .list)) (readSite text (s .list))) s
 
-  passed : length (s .queries) ≡ 656 → readOutcome text (s .list) ≡ flatReadOutcome text s
+  passed : rightLengths s ≡ true → readOutcome text (s .list) ≡ flatReadOutcome text s
   unfolding flatReadOutcome decided outcome-of
-  passed h = sym (ap outcome-of (right h))
+  passed h = sym (ap outcome-of h)
 
-  pub read-length : (status : ℕ) → (length (s .queries) ≡ 656 → ⊥) → status ≡ number Length → ReadStatus text s status s
+  pub read-length : (status : ℕ) → rightLengths s ≡ false → status ≡ number Length → ReadStatus text s status s
   unfolding flatReadOutcome flatReadLeaves decided statusOf number outcome-of leaves-of
   read-length status h e = record {
-    answer = e ∙ sym (ap (λ (b : Bool). statusOf (outcome-of b)) (wrong h));
-    leaves = sym (ap leaves-of (wrong h));
+    answer = e ∙ sym (ap (λ (b : Bool). statusOf (outcome-of b)) h);
+    leaves = sym (ap leaves-of h);
   }
 
-  module _ (h : length (s .queries) ≡ 656) (a : ReadAnswer) (list′ : List ℕ) (r : ReadCall text (s .list) a list′) where
-    pub read-status : (queries′ : List ℕ) → queries′ ≡ flatQueries (a .site .queries) → (status : ℕ) → status ≡ formStatus (a .form)
-        → ReadStatus text s status (lent list′ queries′ (a .site .size) (a .site .count) (a .site .asks))
+  module _ (h : rightLengths s ≡ true) (a : ReadAnswer) (list′ : List ℕ) (r : ReadCall text (s .list) a list′) where
+    pub read-status : (queries′ : List ℕ) → queries′ ≡ flatQueries (a .site .queries) → (words′ : List ℕ) → words′ ≡ codes (a .site .words) → (status : ℕ) → status ≡ formStatus (a .form)
+        → ReadStatus text s status (lent list′ queries′ words′ (a .site .size) (a .site .count) (a .site .asks))
     unfolding flatReadLeaves leaves-of
-    read-status queries′ q status e = record {
+    read-status queries′ q words′ w status e = record {
       answer = e ∙ form-status (a .form) (a .site) ∙ ap statusOf (r .outcome ∙ passed h);
       leaves =
-          (λ i. lent (r .list i) (q i) (a .site .size) (a .site .count) (a .site .asks))
+          (λ i. lent (r .list i) (q i) (w i) (a .site .size) (a .site .count) (a .site .asks))
           ∙ ap (siteLeaves (readList text (s .list))) (r .site)
-          ∙ sym (ap leaves-of (right h));
+          ∙ sym (ap leaves-of h);
     }
 
 -- ── a refused text ──
@@ -126,6 +111,29 @@ pub refused-read-is-zero : RefusedReadIsZero
 unfolding flatReadLeaves leaves-of siteOf
 refused-read-is-zero text s r h e =
     let o : readOutcome text (s .list) ≡ refused r = passed text s h ∙ e in
-    ap (leaves-of text s) (right text s h)
+    ap (leaves-of text s) h
     ∙ (λ i. siteLeaves (refused-list text (s .list) r o i) (refused-site text (s .list) r o i))
-    ∙ (λ i. lent (zeros (length (s .list))) (no-queries i) 0 0 0)
+    ∙ (λ i. lent (zeros (length (s .list))) (no-queries i) (0 ∷ 1 ∷ 2 ∷ 3 ∷ 4 ∷ []) 0 0 0)
+
+module _ (v : Vocabulary) where
+  -- ── ask ──
+  module _ (table map query : List ℕ) where
+    ask-one : (length query ≡ 41 → ⊥) → flatAskOutcome v table map query ≡ refused 1
+    unfolding flatAskOutcome decided
+    ask-one h = ap (λ (b : Bool). cond (not b) (refused 1) (askOutcome v table map (flatQuery query))) (ne-eqb (length query) 41 h)
+
+    pub ask-length : (before s : ℕ) → (length query ≡ 41 → ⊥) → s ≡ number Length → Stores (bits (flatAskOutcome v table map query)) before s before
+    unfolding bits statusOf valueOr number
+    ask-length before s h e = stores-as (sym (ap bits (ask-one h))) (record { answer = e; value = refl })
+
+    pub ask-passed : length query ≡ 41 → askOutcome v table map (flatQuery query) ≡ flatAskOutcome v table map query
+    unfolding flatAskOutcome decided
+    ask-passed h = sym (ap (λ (b : Bool). cond (not b) (refused 1) (askOutcome v table map (flatQuery query))) (eq-eqb (length query) 41 h))
+
+  -- ── opening ──
+  pub open-status : (roster : List ℕ) (s : State) (d : Done) (status : ℕ) (after : State) → Opens v roster s (done d) after → status ≡ statusOf (done d)
+      → OpenStatus v roster s status after
+  open-status roster s d status after o e = record {
+    answer = e ∙ ap statusOf (o .answer);
+    leaves = o .leaves ∙ ap (λ (x : Outcome (Unit {0})). openLeaves v roster x s) (o .answer);
+  }

@@ -1,4 +1,5 @@
 pub mod Outcomes
+pub mod Words
 pub mod Blocks
 pub mod Queries
 pub mod Calls

@@ -1,3 +1,4 @@
 pub mod Status
 pub mod Flat
+pub mod Words
 pub mod Calls

@@ -5,7 +5,7 @@ ghost use mathlib.Core.Path.{_≡_};
 ghost use Prim.Native.Nat.{_+_, _*_, _<_};
 ghost use lib.ListN.{length};
 ghost use lib.Seq.{sets};
-ghost use Rattle.model.specs.Codes.{rdfs};
+ghost use Rattle.model.specs.Codes.{codes};
 ghost use Rattle.model.specs.Triples.{triple};
 ghost use Rattle.model.specs.Cliques.{source, target};
 ghost use Rattle.model.specs.Outcomes.{number, done, counted, found};
@@ -15,6 +15,7 @@ ghost use Rattle.query.specs.Ask.{asked};
 ghost use Rattle.site_form.specs.Writing.{writeOutcome, writeList};
 ghost use Rattle.weak_summary.specs.Status.{statusOf, bits, Stores};
 ghost use Rattle.weak_summary.specs.Flat.{endOf, flatPattern, flatQuery, endNumbers, patternNumbers, queryNumbers, flatQueries};
+ghost use Rattle.weak_summary.specs.Words.{wordsOf, ByWords};
 ghost use Rattle.weak_summary.specs.Calls.{flatAskOutcome, OpenStatus, FeedStatus, lent, formStatus, ReadStatus};
 use cliques::cliques;
 use intake::feed_lists;
@@ -25,6 +26,7 @@ use model::Done;
 use model::Found;
 use model::Refusal;
 use model::Triple;
+use model::Vocabulary;
 use model::refusal_number;
 use query::Asked;
 use query::End;
@@ -37,6 +39,9 @@ use site_form::Form;
 use site_reader::read;
 use site_writer::write;
 use summarise::summarise;
+
+// The numbers of a word table: the reserved codes of type, subclass, subproperty, domain and range.
+pub const WORDS_NUMBERS: usize = 5;
 
 // The numbers of a flat query: the count, and five for each of eight patterns.
 pub const QUERY_NUMBERS: usize = 41;
@@ -149,39 +154,68 @@ fn query_of(query: &[u32]) -> Query
     Query { patterns, count }
 }
 
-#[no_mangle]
-pub extern "C" fn ws_own_roster(table: &[u32], roster: &mut [u8]) -> u32
-    ensures { λ s. ⌜ (s ≡ statusOf (ownRosterOutcome rdfs (now (table .entry)) (now (roster .entry)))) × (now (roster .exit) ≡ ownRosterLeaves rdfs (now (table .entry)) (now (roster .entry))) ⌝ }
+// The reserved codes of five numbers.
+fn words_of(words: &[u32]) -> Vocabulary
+    requires { ⌜ length (now words) ≡ 5 ⌝ }
+    ensures { λ v. ⌜ v ≡ wordsOf (now (words .entry)) ⌝ }
 {
-    done_status(own_roster(table, roster))
+    Vocabulary {
+        instance: words[0],
+        subclass: words[1],
+        subproperty: words[2],
+        domain: words[3],
+        range: words[4],
+    }
+}
+
+#[no_mangle]
+pub extern "C" fn ws_own_roster(words: &[u32], table: &[u32], roster: &mut [u8]) -> u32
+    ensures { λ s. ⌜ ByWords (now (words .entry)) ((s ≡ 1) × (now (roster .exit) ≡ now (roster .entry))) (λ v. (s ≡ statusOf (ownRosterOutcome v (now (table .entry)) (now (roster .entry)))) × (now (roster .exit) ≡ ownRosterLeaves v (now (table .entry)) (now (roster .entry)))) ⌝ }
+{
+    if words.len() != WORDS_NUMBERS {
+        return refusal_number(Refusal::Length);
+    }
+    let loaded = words_of(words);
+    done_status(own_roster(loaded, table, roster))
 }
 
 #[no_mangle]
 pub extern "C" fn ws_saturate(
+    words: &[u32],
     table: &[u32],
     roster: &[u8],
     result: &mut [u32],
     count: &mut usize,
 ) -> u32
-    ensures { λ s. ⌜ Stores (saturateOutcome rdfs (now (table .entry)) (now (roster .entry)) (now (result .entry))) (now (count .entry)) s (now (count .exit)) × (now (result .exit) ≡ saturateLeaves rdfs (now (table .entry)) (now (roster .entry)) (now (result .entry))) ⌝ }
+    ensures { λ s. ⌜ ByWords (now (words .entry)) ((s ≡ 1) × (now (count .exit) ≡ now (count .entry)) × (now (result .exit) ≡ now (result .entry))) (λ v. Stores (saturateOutcome v (now (table .entry)) (now (roster .entry)) (now (result .entry))) (now (count .entry)) s (now (count .exit)) × (now (result .exit) ≡ saturateLeaves v (now (table .entry)) (now (roster .entry)) (now (result .entry)))) ⌝ }
 {
-    counted_status(saturate(table, roster, result), count)
+    if words.len() != WORDS_NUMBERS {
+        return refusal_number(Refusal::Length);
+    }
+    let loaded = words_of(words);
+    counted_status(saturate(loaded, table, roster, result), count)
 }
 
 #[no_mangle]
 pub extern "C" fn ws_cliques(
+    words: &[u32],
     table: &[u32],
     roster: &[u8],
     sources: &mut [u32],
     targets: &mut [u32],
 ) -> u32
-    ensures { λ s. ⌜ (s ≡ statusOf (cliquesOutcome rdfs (now (table .entry)) (now (roster .entry)) (now (sources .entry)) (now (targets .entry)))) × (now (sources .exit) ≡ cliquesLeave rdfs source (now (table .entry)) (now (roster .entry)) (now (sources .entry)) (now (targets .entry))) × (now (targets .exit) ≡ cliquesLeave rdfs target (now (table .entry)) (now (roster .entry)) (now (sources .entry)) (now (targets .entry))) ⌝ }
+    ensures { λ s. ⌜ ByWords (now (words .entry)) ((s ≡ 1) × (now (sources .exit) ≡ now (sources .entry)) × (now (targets .exit) ≡ now (targets .entry))) (λ v. (s ≡ statusOf (cliquesOutcome v (now (table .entry)) (now (roster .entry)) (now (sources .entry)) (now (targets .entry)))) × (now (sources .exit) ≡ cliquesLeave v source (now (table .entry)) (now (roster .entry)) (now (sources .entry)) (now (targets .entry))) × (now (targets .exit) ≡ cliquesLeave v target (now (table .entry)) (now (roster .entry)) (now (sources .entry)) (now (targets .entry)))) ⌝ }
 {
-    done_status(cliques(table, roster, sources, targets))
+    if words.len() != WORDS_NUMBERS {
+        return refusal_number(Refusal::Length);
+    }
+    let loaded = words_of(words);
+    done_status(cliques(loaded, table, roster, sources, targets))
 }
 
 #[no_mangle]
 pub extern "C" fn ws_summarise(
+    words: &[u32],
     table: &[u32],
     roster: &[u8],
     result: &mut [u32],
@@ -189,9 +223,13 @@ pub extern "C" fn ws_summarise(
     work: &mut [u32],
     count: &mut usize,
 ) -> u32
-    ensures { λ s. ⌜ Stores (summariseOutcome rdfs (now (table .entry)) (now (roster .entry)) (now (result .entry)) (now (map .entry)) (now (work .entry))) (now (count .entry)) s (now (count .exit)) × (record { result = now (result .exit); map = now (map .exit); work = now (work .exit) } ≡ summariseLeaves rdfs (now (table .entry)) (now (roster .entry)) (now (result .entry)) (now (map .entry)) (now (work .entry))) ⌝ }
+    ensures { λ s. ⌜ ByWords (now (words .entry)) ((s ≡ 1) × (now (count .exit) ≡ now (count .entry)) × (now (result .exit) ≡ now (result .entry)) × (now (map .exit) ≡ now (map .entry)) × (now (work .exit) ≡ now (work .entry))) (λ v. Stores (summariseOutcome v (now (table .entry)) (now (roster .entry)) (now (result .entry)) (now (map .entry)) (now (work .entry))) (now (count .entry)) s (now (count .exit)) × (record { result = now (result .exit); map = now (map .exit); work = now (work .exit) } ≡ summariseLeaves v (now (table .entry)) (now (roster .entry)) (now (result .entry)) (now (map .entry)) (now (work .entry)))) ⌝ }
 {
-    counted_status(summarise(table, roster, result, map, work), count)
+    if words.len() != WORDS_NUMBERS {
+        return refusal_number(Refusal::Length);
+    }
+    let loaded = words_of(words);
+    counted_status(summarise(loaded, table, roster, result, map, work), count)
 }
 
 #[no_mangle]
@@ -207,17 +245,28 @@ pub extern "C" fn ws_look_up(list: &[u32], s: u32, p: u32, o: u32, found: &mut u
 }
 
 #[no_mangle]
-pub extern "C" fn ws_ask(table: &[u32], map: &[u32], query: &[u32], maybe: &mut u32) -> u32
-    ensures { λ s. ⌜ Stores (bits (flatAskOutcome (now (table .entry)) (now (map .entry)) (now (query .entry)))) (now (maybe .entry)) s (now (maybe .exit)) ⌝ }
+pub extern "C" fn ws_ask(
+    words: &[u32],
+    table: &[u32],
+    map: &[u32],
+    query: &[u32],
+    maybe: &mut u32,
+) -> u32
+    ensures { λ s. ⌜ ByWords (now (words .entry)) ((s ≡ 1) × (now (maybe .exit) ≡ now (maybe .entry))) (λ v. Stores (bits (flatAskOutcome v (now (table .entry)) (now (map .entry)) (now (query .entry)))) (now (maybe .entry)) s (now (maybe .exit))) ⌝ }
 {
+    if words.len() != WORDS_NUMBERS {
+        return refusal_number(Refusal::Length);
+    }
+    let loaded = words_of(words);
     if query.len() != QUERY_NUMBERS {
         return refusal_number(Refusal::Length);
     }
-    asked_status(ask(table, map, query_of(query)), maybe)
+    asked_status(ask(loaded, table, map, query_of(query)), maybe)
 }
 
 #[no_mangle]
 pub extern "C" fn ws_open(
+    words: &[u32],
     roster: &[u8],
     triples: &mut [u32],
     summary: &mut [u32],
@@ -225,9 +274,13 @@ pub extern "C" fn ws_open(
     held: &mut usize,
     summarised: &mut usize,
 ) -> u32
-    ensures { λ s. ⌜ OpenStatus (now (roster .entry)) (stateWith (now (triples .entry)) (now (summary .entry)) (now (map .entry)) (now (held .entry)) (now (summarised .entry))) s (stateWith (now (triples .exit)) (now (summary .exit)) (now (map .exit)) (now (held .exit)) (now (summarised .exit))) ⌝ }
+    ensures { λ s. ⌜ ByWords (now (words .entry)) ((s ≡ 1) × (stateWith (now (triples .exit)) (now (summary .exit)) (now (map .exit)) (now (held .exit)) (now (summarised .exit)) ≡ stateWith (now (triples .entry)) (now (summary .entry)) (now (map .entry)) (now (held .entry)) (now (summarised .entry)))) (λ v. OpenStatus v (now (roster .entry)) (stateWith (now (triples .entry)) (now (summary .entry)) (now (map .entry)) (now (held .entry)) (now (summarised .entry))) s (stateWith (now (triples .exit)) (now (summary .exit)) (now (map .exit)) (now (held .exit)) (now (summarised .exit)))) ⌝ }
 {
-    let opened = open_counts(*held, *summarised, roster, triples, summary, map);
+    if words.len() != WORDS_NUMBERS {
+        return refusal_number(Refusal::Length);
+    }
+    let loaded = words_of(words);
+    let opened = open_counts(*held, *summarised, loaded, roster, triples, summary, map);
     let answer = opened.answer;
     *held = opened.held;
     *summarised = opened.summarised;
@@ -236,6 +289,7 @@ pub extern "C" fn ws_open(
 
 #[no_mangle]
 pub extern "C" fn ws_feed(
+    words: &[u32],
     roster: &[u8],
     triples: &mut [u32],
     summary: &mut [u32],
@@ -248,11 +302,16 @@ pub extern "C" fn ws_feed(
     summarised: &mut usize,
     new: &mut u32,
 ) -> u32
-    ensures { λ r. ⌜ FeedStatus (now (roster .entry)) (stateWith (now (triples .entry)) (now (summary .entry)) (now (map .entry)) (now (held .entry)) (now (summarised .entry))) (now (work .entry)) (triple s p o) (now (new .entry)) r (now (new .exit)) (stateWith (now (triples .exit)) (now (summary .exit)) (now (map .exit)) (now (held .exit)) (now (summarised .exit))) (now (work .exit)) ⌝ }
+    ensures { λ r. ⌜ ByWords (now (words .entry)) ((r ≡ 1) × (now (new .exit) ≡ now (new .entry)) × (now (work .exit) ≡ now (work .entry)) × (stateWith (now (triples .exit)) (now (summary .exit)) (now (map .exit)) (now (held .exit)) (now (summarised .exit)) ≡ stateWith (now (triples .entry)) (now (summary .entry)) (now (map .entry)) (now (held .entry)) (now (summarised .entry)))) (λ v. FeedStatus v (now (roster .entry)) (stateWith (now (triples .entry)) (now (summary .entry)) (now (map .entry)) (now (held .entry)) (now (summarised .entry))) (now (work .entry)) (triple s p o) (now (new .entry)) r (now (new .exit)) (stateWith (now (triples .exit)) (now (summary .exit)) (now (map .exit)) (now (held .exit)) (now (summarised .exit))) (now (work .exit))) ⌝ }
 {
+    if words.len() != WORDS_NUMBERS {
+        return refusal_number(Refusal::Length);
+    }
+    let loaded = words_of(words);
     let fed = feed_lists(
         *held,
         *summarised,
+        loaded,
         roster,
         triples,
         summary,
@@ -269,10 +328,20 @@ pub extern "C" fn ws_feed(
 }
 
 #[no_mangle]
-pub extern "C" fn ws_write(n: u32, table: &[u32], out: &mut [u8], count: &mut usize) -> u32
-    ensures { λ s. ⌜ Stores (writeOutcome rdfs n (now (table .entry)) (now (out .entry))) (now (count .entry)) s (now (count .exit)) × (now (out .exit) ≡ writeList rdfs n (now (table .entry)) (now (out .entry))) ⌝ }
+pub extern "C" fn ws_write(
+    words: &[u32],
+    n: u32,
+    table: &[u32],
+    out: &mut [u8],
+    count: &mut usize,
+) -> u32
+    ensures { λ s. ⌜ ByWords (now (words .entry)) ((s ≡ 1) × (now (count .exit) ≡ now (count .entry)) × (now (out .exit) ≡ now (out .entry))) (λ v. Stores (writeOutcome v n (now (table .entry)) (now (out .entry))) (now (count .entry)) s (now (count .exit)) × (now (out .exit) ≡ writeList v n (now (table .entry)) (now (out .entry)))) ⌝ }
 {
-    counted_status(write(n, table, out), count)
+    if words.len() != WORDS_NUMBERS {
+        return refusal_number(Refusal::Length);
+    }
+    let loaded = words_of(words);
+    counted_status(write(loaded, n, table, out), count)
 }
 
 // Stores an end's two numbers.
@@ -331,6 +400,18 @@ fn put_queries(list: &mut [u32], queries: [Query; 16])
     }
 }
 
+// Stores the five numbers of the reserved codes.
+fn put_words(list: &mut [u32], v: Vocabulary)
+    requires { ⌜ length (now list) ≡ 5 ⌝ }
+    ensures { λ r. ⌜ now (list .exit) ≡ codes v ⌝ }
+{
+    list[0] = v.instance;
+    list[1] = v.subclass;
+    list[2] = v.subproperty;
+    list[3] = v.domain;
+    list[4] = v.range;
+}
+
 // The status of a text that was read.
 fn form_status(f: Form) -> u32
     ensures { λ s. ⌜ s ≡ formStatus f ⌝ }
@@ -341,21 +422,25 @@ fn form_status(f: Form) -> u32
     }
 }
 
-// Reads a text: its triples into the list, its queries into 16 flat ones, and N, the number of triples and that of queries.
-// Refused with 1 where there are not 656 numbers for the queries. A query past those of the text, and all that is lent after 8 and 5,
-// is zero.
+// Reads a text: its triples into the list, its queries into 16 flat ones, its reserved codes into five numbers, and N, the number of
+// triples and that of queries. Refused with 1 where there are not 656 numbers for the queries or not 5 for the codes. A query past those
+// of the text, and all that is lent after 8 and 5, is zero; the codes are then 0 to 4.
 #[no_mangle]
 pub extern "C" fn ws_read(
     text: &[u8],
     list: &mut [u32],
     queries: &mut [u32],
+    words: &mut [u32],
     n: &mut u32,
     count: &mut usize,
     asks: &mut usize,
 ) -> u32
-    ensures { λ s. ⌜ ReadStatus (now (text .entry)) (lent (now (list .entry)) (now (queries .entry)) (now (n .entry)) (now (count .entry)) (now (asks .entry))) s (lent (now (list .exit)) (now (queries .exit)) (now (n .exit)) (now (count .exit)) (now (asks .exit))) ⌝ }
+    ensures { λ s. ⌜ ReadStatus (now (text .entry)) (lent (now (list .entry)) (now (queries .entry)) (now (words .entry)) (now (n .entry)) (now (count .entry)) (now (asks .entry))) s (lent (now (list .exit)) (now (queries .exit)) (now (words .exit)) (now (n .exit)) (now (count .exit)) (now (asks .exit))) ⌝ }
 {
     if queries.len() != QUERIES_NUMBERS {
+        return refusal_number(Refusal::Length);
+    }
+    if words.len() != WORDS_NUMBERS {
         return refusal_number(Refusal::Length);
     }
     let answer = read(text, list);
@@ -365,6 +450,8 @@ pub extern "C" fn ws_read(
     *asks = site.asks;
     let read_queries = site.queries;
     put_queries(queries, read_queries);
+    let read_words = site.words;
+    put_words(words, read_words);
     let form = answer.form;
     form_status(form)
 }

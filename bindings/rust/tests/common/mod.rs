@@ -1,7 +1,10 @@
 //! What the tests share.
 #![allow(dead_code)]
 
-use weak_summary::{own_roster, saturate, summarise, Refusal, ABSENT};
+use weak_summary::{own_roster, saturate, summarise, Refusal, Words, ABSENT};
+
+/// The words of the scope paper.
+pub const RDFS: Words = Words::RDFS;
 
 /// The scope paper's six triples; N is 14.
 pub const SIX: [u32; 18] = [5, 2, 7, 6, 2, 7, 7, 3, 8, 8, 1, 9, 10, 5, 12, 11, 6, 13];
@@ -12,28 +15,38 @@ pub const SIX_SUMMARY: [u32; 42] = [
     6, 12, 10, 7, 12,
 ];
 
-pub fn roster_of(table: &[u32], n: usize) -> Vec<u8> {
+/// Their saturation.
+pub const SIX_SATURATED: [u32; 51] = [
+    5, 2, 7, 5, 3, 8, 5, 3, 9, 6, 2, 7, 6, 3, 8, 6, 3, 9, 7, 3, 8, 7, 3, 9, 8, 1, 9, 10, 0, 8, 10, 0, 9, 10, 5, 12, 10,
+    7, 12, 11, 0, 8, 11, 0, 9, 11, 6, 13, 11, 7, 13,
+];
+
+/// The nodes of both and their representatives.
+pub const SIX_NODES: [(usize, u32); 9] =
+    [(5, 5), (6, 6), (7, 7), (8, 8), (9, 9), (10, 10), (11, 10), (12, 12), (13, 12)];
+
+pub fn roster_of(words: Words, table: &[u32], n: usize) -> Vec<u8> {
     let mut roster = vec![7; n];
-    own_roster(table, &mut roster).unwrap();
+    own_roster(words, table, &mut roster).unwrap();
     roster
 }
 
 /// The plain summary with the own roster, and its map.
-pub fn summary_of(table: &[u32], n: usize) -> (Vec<u32>, Vec<u32>) {
-    let roster = roster_of(table, n);
+pub fn summary_of(words: Words, table: &[u32], n: usize) -> (Vec<u32>, Vec<u32>) {
+    let roster = roster_of(words, table, n);
     let mut result = vec![9; table.len()];
     let mut map = vec![9; n];
     let mut work = vec![9; 2 * n];
-    let count = summarise(table, &roster, &mut result, &mut map, &mut work).unwrap();
+    let count = summarise(words, table, &roster, &mut result, &mut map, &mut work).unwrap();
     assert!(work.iter().all(|&x| x == 0));
     assert!(result[3 * count..].iter().all(|&x| x == 0));
     result.truncate(3 * count);
     (result, map)
 }
 
-pub fn saturation_of(table: &[u32], n: usize, slots: usize) -> Result<Vec<u32>, Refusal> {
+pub fn saturation_of(words: Words, table: &[u32], n: usize, slots: usize) -> Result<Vec<u32>, Refusal> {
     let mut result = vec![9; 3 * slots];
-    let count = saturate(table, &roster_of(table, n), &mut result)?;
+    let count = saturate(words, table, &roster_of(words, table, n), &mut result)?;
     assert!(result[3 * count..].iter().all(|&x| x == 0));
     result.truncate(3 * count);
     Ok(result)

@@ -11,13 +11,13 @@ use Rattle.checks.proofs.triple_wrong.Reads as triple-wrong-reads
 use Rattle.lists.proofs.triple_at.Reads as triple-at-reads
 
 abbrev Inv-loop : tie.InvT-loop
-Inv-loop table n count i₀ i = RightBefore table n i
+Inv-loop words table n count i₀ i = RightBefore words table n i
 
 abbrev μ-loop : tie.MeasureT-loop
-μ-loop table n count i₀ i = count - i
+μ-loop words table n count i₀ i = count - i
 
 loop-holds : tie.Need-loop-holds Inv-loop μ-loop
-loop-holds c = codes-start _ _
+loop-holds c = codes-start _ _ _
 
 triple-at-requires : tie.Need-triple-at-requires Inv-loop μ-loop
 triple-at-requires c κs = omega arith
@@ -26,7 +26,7 @@ triple-wrong-requires : tie.Need-triple-wrong-requires Inv-loop μ-loop
 triple-wrong-requires c κs = search needs
 
 returns : tie.Need-returns Inv-loop μ-loop
-returns c = codes-found _ _ _ _ (c .before .before .before .loop-test .taken) (c .before .before .triple-at .ensures) (sym (c .before .triple-wrong .ensures) ∙ c .if1 .taken)
+returns c = codes-found _ _ _ _ _ (c .before .before .before .loop-test .taken) (c .before .before .triple-at .ensures) (sym (c .before .triple-wrong .ensures) ∙ c .if1 .taken)
 
 add-i : tie.Need-add-i Inv-loop μ-loop
 add-i c = omega arith
@@ -35,10 +35,10 @@ loop-less : tie.Need-loop-less Inv-loop μ-loop
 loop-less c = omega arith
 
 loop-again : tie.Need-loop-again Inv-loop μ-loop
-loop-again c = codes-step _ _ _ _ (c .before .before .before .before .loop .inv) (c .before .before .before .loop-test .taken) (c .before .before .triple-at .ensures) (sym (c .before .triple-wrong .ensures) ∙ c .if1 .left)
+loop-again c = codes-step _ _ _ _ _ (c .before .before .before .before .loop .inv) (c .before .before .before .loop-test .taken) (c .before .before .triple-at .ensures) (sym (c .before .triple-wrong .ensures) ∙ c .if1 .left)
 
 returns-2 : tie.Need-returns-2 Inv-loop μ-loop
-returns-2 c = codes-end _ _ _ (c .before .loop .inv) (c .loop-test .left)
+returns-2 c = codes-end _ _ _ _ (c .before .loop .inv) (c .loop-test .left)
 
 pub codes-wrong-spec : {M : Type 1} → statement M
 codes-wrong-spec =

@@ -8,13 +8,13 @@ use Rattle.checks.proofs.end_wrong.Lts as lts
 use Rattle.lists.proofs.Code.is_reserved.Reads as is-reserved-reads
 
 returns : tie.Need-returns
-returns c = end-over _ _ (c .if1 .taken)
+returns c = end-over _ _ _ (c .if1 .taken)
 
 is-reserved-requires : tie.Need-is-reserved-requires
 is-reserved-requires c κs = search needs
 
 returns-2 : tie.Need-returns-2
-returns-2 c = c .is-reserved .ensures ∙ end-below _ _ (c .before .if1 .left)
+returns-2 c = c .is-reserved .ensures ∙ end-below _ _ _ (c .before .if1 .left)
 
 pub end-wrong-spec : {M : Type 1} → statement M
 end-wrong-spec = tie.close (tie.spec returns is-reserved-requires returns-2)

@@ -10,7 +10,7 @@ empty-requires : tie.Need-empty-requires
 empty-requires c κs = search needs
 
 link-table-requires : tie.Need-link-table-requires
-link-table-requires c κs = let s = c .before .before .before .before .before .before .before .before .pre in (s .0, grouped-start _ _ _ _ _ (s .0) (s .1) (c .before .before .before .empty .ensures))
+link-table-requires c κs = let s = c .before .before .before .before .before .before .before .before .pre in (s .0, grouped-start _ _ _ _ _ _ (s .0) (s .1) (c .before .before .before .empty .ensures))
 
 clear-nodes-requires : tie.Need-clear-nodes-requires
 clear-nodes-requires c κs = c .before .before .before .link-table .ensures .state .size
@@ -22,7 +22,7 @@ same-length : tie.Need-same-length
 same-length c = search needs
 
 returns : tie.Need-returns
-returns c = grouped-end _ _ _ _ _ _ (c .before .before .before .before .before .before .before .before .before .before .before .before .before .before .before .before .before .before .before .pre .0) (c .before .before .before .before .before .before .before .before .before .before .link-table .ensures) (c .before .before .before .before .before .before .clear-nodes .ensures) (c .before .before .flatten .ensures)
+returns c = grouped-end _ _ _ _ _ _ _ (c .before .before .before .before .before .before .before .before .before .before .before .before .before .before .before .before .before .before .before .pre .0) (c .before .before .before .before .before .before .before .before .before .before .link-table .ensures) (c .before .before .before .before .before .before .clear-nodes .ensures) (c .before .before .flatten .ensures)
 
 pub clique-side-spec : {M : Type 1} → statement M
 clique-side-spec =

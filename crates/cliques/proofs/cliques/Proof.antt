@@ -1,4 +1,4 @@
--- `cliques::cliques` meets its contract: a refusal of the checks 1 to 4, or the lists of both sides.
+-- `cliques::cliques` meets its contract: a refusal of the checks, or the lists of both sides.
 -- Assumes nothing.
 use borrow.Author.Needs.{needs}
 use Rattle.cliques.proofs.Call.{by-refused, by-sides, right, sources-length, targets-length}
@@ -23,8 +23,8 @@ clique-side-requires c κs =
     let t = c .before .before .before .table-refusal in
     let l = c .before .before .before .before .lengths-wrong in
     let q = c .before .enum-told .given .1 in (
-      right (s .table .now) (s .roster .now) (s .sources .now) (s .targets .now) _ (l .ensures) _ (t .ensures) q,
-      sources-length (s .table .now) (s .roster .now) (s .sources .now) (s .targets .now) _ (l .ensures) _ (t .ensures) q,
+      right _ (s .table .now) (s .roster .now) (s .sources .now) (s .targets .now) _ (l .ensures) _ (t .ensures) q,
+      sources-length _ (s .table .now) (s .roster .now) (s .sources .now) (s .targets .now) _ (l .ensures) _ (t .ensures) q,
     )
 
 clique-side-requires-2 : tie.Need-clique-side-requires-2
@@ -33,14 +33,14 @@ clique-side-requires-2 c κs =
     let t = c .before .before .before .before .before .before .before .table-refusal in
     let l = c .before .before .before .before .before .before .before .before .lengths-wrong in
     let q = c .before .before .before .before .before .enum-told .given .1 in (
-      right (s .table .now) (s .roster .now) (s .sources .now) (s .targets .now) _ (l .ensures) _ (t .ensures) q,
-      targets-length (s .table .now) (s .roster .now) (s .sources .now) (s .targets .now) _ (l .ensures) _ (t .ensures) q,
+      right _ (s .table .now) (s .roster .now) (s .sources .now) (s .targets .now) _ (l .ensures) _ (t .ensures) q,
+      targets-length _ (s .table .now) (s .roster .now) (s .sources .now) (s .targets .now) _ (l .ensures) _ (t .ensures) q,
     )
 
 returns : tie.Need-returns
 returns c =
     let s = c .before .before .before .before .before .before .before .before .before .args in
-    by-refused (s .table .now) (s .roster .now) (s .sources .now) (s .targets .now) _ (c .before .before .before .before .lengths-wrong .ensures) _ (c .before .before .before .table-refusal .ensures) _ (c .before .r .given .1)
+    by-refused _ (s .table .now) (s .roster .now) (s .sources .now) (s .targets .now) _ (c .before .before .before .before .lengths-wrong .ensures) _ (c .before .before .before .table-refusal .ensures) _ (c .before .r .given .1)
 
 same-length : tie.Need-same-length
 same-length c = search needs
@@ -51,7 +51,7 @@ same-length-2 c = search needs
 returns-2 : tie.Need-returns-2
 returns-2 c =
     let s = c .before .before .before .before .before .before .before .before .before .before .before .before .before .before .before .before .args in
-    by-sides (s .table .now) (s .roster .now) (s .sources .now) (s .targets .now) _ (c .before .before .before .before .before .before .before .before .before .before .before .lengths-wrong .ensures) _ (c .before .before .before .before .before .before .before .before .before .before .table-refusal .ensures) (c .before .before .before .before .before .before .before .before .enum-told .given .1) _ _
+    by-sides _ (s .table .now) (s .roster .now) (s .sources .now) (s .targets .now) _ (c .before .before .before .before .before .before .before .before .before .before .before .lengths-wrong .ensures) _ (c .before .before .before .before .before .before .before .before .before .before .table-refusal .ensures) (c .before .before .before .before .before .before .before .before .enum-told .given .1) _ _
     (c .before .before .before .before .before .before .clique-side .ensures) (c .before .before .clique-side2 .ensures)
 
 pub cliques-spec : {M : Type 1} → statement M

@@ -14,18 +14,18 @@ triple-at-requires c κs = search needs
 links-at-requires : tie.Need-links-at-requires
 links-at-requires c κs =
     let s = c .before .before .before .before in
-    place-below (s .args .table .now) (s .args .i) (s .args .roster .now) (sideOf (s .args .sources)) _ (c .triple-at .ensures) (s .pre .0) (s .pre .1)
+    place-below _ (s .args .table .now) (s .args .i) (s .args .roster .now) (sideOf (s .args .sources)) _ (c .triple-at .ensures) (s .pre .0) (s .pre .1)
 
 returns : tie.Need-returns
 returns c =
     let s = c .before .before .before .before .before .before in
-    place-skipped (s .args .table .now) (s .args .i) (s .args .roster .now) (sideOf (s .args .sources)) _ (c .before .before .triple-at .ensures) _
+    place-skipped _ (s .args .table .now) (s .args .i) (s .args .roster .now) (sideOf (s .args .sources)) _ (c .before .before .triple-at .ensures) _
     (sym (c .before .links-at .ensures) ∙ not-true _ (c .if1 .taken)) (s .pre .2)
 
 open-property-requires : tie.Need-open-property-requires
 open-property-requires c κs =
     let s = c .before .before .before .before .before .before .before in
-    property-inside (s .args .table .now) (s .args .i) (s .args .roster .now) (sideOf (s .args .sources)) _ (c .before .before .before .triple-at .ensures) (s .pre .0) (s .pre .1) _ (s .pre .2)
+    property-inside _ (s .args .table .now) (s .args .i) (s .args .roster .now) (sideOf (s .args .sources)) _ (c .before .before .before .triple-at .ensures) (s .pre .0) (s .pre .1) _ (s .pre .2)
     (sym (c .before .before .links-at .ensures) ∙ not-false _ (c .before .if1 .left))
 
 side-end-requires : tie.Need-side-end-requires
@@ -34,7 +34,7 @@ side-end-requires c κs = search needs
 link-node-requires : tie.Need-link-node-requires
 link-node-requires c κs =
     let s = c .before .before .before .before .before .before .before .before .before .before .before .before in
-    place-linkable (s .args .table .now) (s .args .i) (s .args .roster .now) (sideOf (s .args .sources)) _ (c .before .before .before .before .before .before .before .before .triple-at .ensures) (s .pre .0) (s .pre .1) _ (s .pre .2)
+    place-linkable _ (s .args .table .now) (s .args .i) (s .args .roster .now) (sideOf (s .args .sources)) _ (c .before .before .before .before .before .before .before .before .triple-at .ensures) (s .pre .0) (s .pre .1) _ (s .pre .2)
     (sym (c .before .before .before .before .before .before .before .links-at .ensures) ∙ not-false _ (c .before .before .before .before .before .before .if1 .left)) _ (c .before .before .before .before .open-property .ensures) _ (c .side-end .ensures)
 
 same-length : tie.Need-same-length
@@ -43,7 +43,7 @@ same-length c = search needs
 returns-2 : tie.Need-returns-2
 returns-2 c =
     let s = c .before .before .before .before .before .before .before .before .before .before .before .before .before .before .before in
-    place-linked (s .args .table .now) (s .args .i) (s .args .roster .now) (sideOf (s .args .sources)) _ (c .before .before .before .before .before .before .before .before .before .before .before .triple-at .ensures) (s .pre .0) (s .pre .1) _ (s .pre .2)
+    place-linked _ (s .args .table .now) (s .args .i) (s .args .roster .now) (sideOf (s .args .sources)) _ (c .before .before .before .before .before .before .before .before .before .before .before .triple-at .ensures) (s .pre .0) (s .pre .1) _ (s .pre .2)
     (sym (c .before .before .before .before .before .before .before .before .before .before .links-at .ensures) ∙ not-false _ (c .before .before .before .before .before .before .before .before .before .if1 .left)) _ (c .before .before .before .before .before .before .before .open-property .ensures) _ (c .before .before .before .side-end .ensures) _ (c .before .before .link-node .ensures)
 
 pub link-at-spec : {M : Type 1} → statement M

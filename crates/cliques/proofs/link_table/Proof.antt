@@ -11,10 +11,10 @@ use Rattle.cliques.proofs.link_table.Statement.{statement}
 use Rattle.cliques.proofs.link_table.Tie as tie
 
 abbrev Inv-loop : tie.InvT-loop
-Inv-loop table roster sources list₀ n i₀ list i = (n ≡ length table / 3) × (i ≤ n) × Grouped table roster (sideOf sources) i list
+Inv-loop words table roster sources list₀ n i₀ list i = (n ≡ length table / 3) × (i ≤ n) × Grouped words table roster (sideOf sources) i list
 
 abbrev μ-loop : tie.MeasureT-loop
-μ-loop table roster sources list₀ n i₀ list i = n - i
+μ-loop words table roster sources list₀ n i₀ list i = n - i
 
 loop-holds : tie.Need-loop-holds Inv-loop μ-loop
 loop-holds c = (refl, omega arith, c .before .before .before .pre .1)
@@ -35,7 +35,7 @@ same-length : tie.Need-same-length Inv-loop μ-loop
 same-length c = c .before .loop .inv .2 .state .size ∙ sym (c .before .before .before .before .before .pre .1 .state .size)
 
 returns : tie.Need-returns Inv-loop μ-loop
-returns c = grouped-all _ _ _ _ _ _ (c .before .loop .inv .0) (omega arith) (c .before .loop .inv .2)
+returns c = grouped-all _ _ _ _ _ _ _ (c .before .loop .inv .0) (omega arith) (c .before .loop .inv .2)
 
 pub link-table-spec : {M : Type 1} → statement M
 link-table-spec =

@@ -12,7 +12,7 @@ is-reserved-requires : tie.Need-is-reserved-requires
 is-reserved-requires c κs = search needs
 
 returns : tie.Need-returns
-returns c = let s = c .before .before .before .args in links-reserved (s .roster .now) (sideOf (s .sources)) (s .t) (sym (c .before .is-reserved .ensures) ∙ c .if1 .taken)
+returns c = let s = c .before .before .before .args in links-reserved _ (s .roster .now) (sideOf (s .sources)) (s .t) (sym (c .before .is-reserved .ensures) ∙ c .if1 .taken)
 
 side-end-requires : tie.Need-side-end-requires
 side-end-requires c κs = search needs
@@ -28,7 +28,7 @@ shared-slice-read-result c =
 returns-2 : tie.Need-returns-2
 returns-2 c =
     let s = c .before .before .before .before .before .before .args in
-    links-data (s .roster .now) (sideOf (s .sources)) (s .t) (sym (c .before .before .before .before .is-reserved .ensures) ∙ c .before .before .before .if1 .left) _ _ (c .before .wide .ensures) (c .before .before .side-end .ensures)
+    links-data _ (s .roster .now) (sideOf (s .sources)) (s .t) (sym (c .before .before .before .before .is-reserved .ensures) ∙ c .before .before .before .if1 .left) _ _ (c .before .wide .ensures) (c .before .before .side-end .ensures)
 
 pub links-at-spec : {M : Type 1} → statement M
 links-at-spec =

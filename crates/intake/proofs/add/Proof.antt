@@ -11,7 +11,7 @@ image-known-requires : tie.Need-image-known-requires
 image-known-requires c κs =
     let a = c .before .before .before .before .before .before .before .args in
     let p = c .before .before .before .before .before .before .before .pre in
-    below-map (a .roster .now) (a .triples .now) (a .summary .now) (a .map .now) (a .work .now) (a .held) (a .summarised) (a .t) (a .i) (p .0) (p .1) (p .2)
+    below-map _ (a .roster .now) (a .triples .now) (a .summary .now) (a .map .now) (a .work .now) (a .held) (a .summarised) (a .t) (a .i) (p .0) (p .1) (p .2)
 
 insert-at-requires : tie.Need-insert-at-requires
 insert-at-requires c κs = search needs
@@ -19,8 +19,8 @@ insert-at-requires c κs = search needs
 clear-requires : tie.Need-clear-requires
 clear-requires c κs = search needs
 
-add-t23 : tie.Need-add-t23
-add-t23 c = search needs
+add-t24 : tie.Need-add-t24
+add-t24 c = search needs
 
 same-length : tie.Need-same-length
 same-length c = search needs
@@ -38,7 +38,7 @@ returns : tie.Need-returns
 returns c =
     let a = c .before .before .before .before .before .before .before .before .before .before .before .before .before .before .before .before .before .args in
     let p = c .before .before .before .before .before .before .before .before .before .before .before .before .before .before .before .before .before .pre in
-    added-quick (a .roster .now) (a .triples .now) (a .summary .now) (a .map .now) (a .work .now) (a .held) (a .summarised) (a .t) (a .i) (p .0) (p .1) (p .2) _ (c .before .before .before .before .before .before .insert-at .ensures) (c .before .before .before .before .before .before .before .before .before .image-known .ensures (c .before .before .before .before .before .before .before .before .if1 .taken)) _ (c .before .before .clear .ensures)
+    added-quick _ (a .roster .now) (a .triples .now) (a .summary .now) (a .map .now) (a .work .now) (a .held) (a .summarised) (a .t) (a .i) (p .0) (p .1) (p .2) _ (c .before .before .before .before .before .before .insert-at .ensures) (c .before .before .before .before .before .before .before .before .before .image-known .ensures (c .before .before .before .before .before .before .before .before .if1 .taken)) _ (c .before .before .clear .ensures)
 
 held-wrong-requires : tie.Need-held-wrong-requires
 held-wrong-requires c κs = search needs
@@ -59,7 +59,7 @@ returns-2 : tie.Need-returns-2
 returns-2 c =
     let a = c .before .before .before .before .before .before .before .before .before .before .before .before .before .args in
     let p = c .before .before .before .before .before .before .before .before .before .before .before .before .before .pre in
-    refused-wrong (a .roster .now) (a .triples .now) (a .summary .now) (a .map .now) (a .work .now) (a .held) (a .summarised) (a .t) (a .i) (p .0) (p .1) (p .2) (sym (c .before .before .held-wrong .ensures) ∙ c .before .if2 .taken) _ (c .refuse .ensures)
+    refused-wrong _ (a .roster .now) (a .triples .now) (a .summary .now) (a .map .now) (a .work .now) (a .held) (a .summarised) (a .t) (a .i) (p .0) (p .1) (p .2) (sym (c .before .before .held-wrong .ensures) ∙ c .before .if2 .taken) _ (c .refuse .ensures)
 
 insert-at-requires-2 : tie.Need-insert-at-requires-2
 insert-at-requires-2 c κs = search needs
@@ -73,7 +73,7 @@ condense-requires c κs =
     let p = c .before .before .before .before .before .before .before .before .before .before .before .before .before .before .before .before .before .before .before .before .pre in
     let q = c .before .before .before .before .before .before .insert-at2 .ensures in (
       omega (arith, q .size, p .2),
-      right-after (a .roster .now) (a .triples .now) (a .summary .now) (a .map .now) (a .work .now) (a .held) (a .summarised) (a .t) (a .i) (p .0) (p .1) (p .2) _ q (sym (c .before .before .before .before .before .before .before .before .before .held-wrong .ensures) ∙ c .before .before .before .before .before .before .before .before .if2 .left),
+      right-after _ (a .roster .now) (a .triples .now) (a .summary .now) (a .map .now) (a .work .now) (a .held) (a .summarised) (a .t) (a .i) (p .0) (p .1) (p .2) _ q (sym (c .before .before .before .before .before .before .before .before .before .held-wrong .ensures) ∙ c .before .before .before .before .before .before .before .before .if2 .left),
       p .0 .map-size,
       p .0 .work-size,
     )
@@ -103,7 +103,7 @@ returns-3 : tie.Need-returns-3
 returns-3 c =
     let a = c .before .before .before .before .before .before .before .before .before .before .before .before .before .before .before .before .before .before .before .before .before .before .before .before .before .before .before .before .before .before .before .args in
     let p = c .before .before .before .before .before .before .before .before .before .before .before .before .before .before .before .before .before .before .before .before .before .before .before .before .before .before .before .before .before .before .before .pre in
-    added-never (a .roster .now) (a .triples .now) (a .summary .now) (a .map .now) (a .work .now) (a .held) (a .summarised) (a .t) (a .i) (p .0) (p .1) (p .2) _ (c .before .before .before .before .before .before .before .before .before .before .before .before .before .before .before .before .before .insert-at2 .ensures) _ _ _ _ (c .before .before .before .before .before .before .before .before .before .before .condense .ensures) _ (c .before .before .r .given .1)
+    added-never _ (a .roster .now) (a .triples .now) (a .summary .now) (a .map .now) (a .work .now) (a .held) (a .summarised) (a .t) (a .i) (p .0) (p .1) (p .2) _ (c .before .before .before .before .before .before .before .before .before .before .before .before .before .before .before .before .before .insert-at2 .ensures) _ _ _ _ (c .before .before .before .before .before .before .before .before .before .before .condense .ensures) _ (c .before .before .r .given .1)
 
 same-length-12 : tie.Need-same-length-12
 same-length-12 c = search needs
@@ -121,7 +121,7 @@ returns-4 : tie.Need-returns-4
 returns-4 c =
     let a = c .before .before .before .before .before .before .before .before .before .before .before .before .before .before .before .before .before .before .before .before .before .before .before .before .before .before .before .before .before .before .args in
     let p = c .before .before .before .before .before .before .before .before .before .before .before .before .before .before .before .before .before .before .before .before .before .before .before .before .before .before .before .before .before .before .pre in
-    added-slow (a .roster .now) (a .triples .now) (a .summary .now) (a .map .now) (a .work .now) (a .held) (a .summarised) (a .t) (a .i) (p .0) (p .1) (p .2) _ (c .before .before .before .before .before .before .before .before .before .before .before .before .before .before .before .before .insert-at2 .ensures) _ _ _ _ (c .before .before .before .before .before .before .before .before .before .condense .ensures) _ (c .before .k .given .1)
+    added-slow _ (a .roster .now) (a .triples .now) (a .summary .now) (a .map .now) (a .work .now) (a .held) (a .summarised) (a .t) (a .i) (p .0) (p .1) (p .2) _ (c .before .before .before .before .before .before .before .before .before .before .before .before .before .before .before .before .insert-at2 .ensures) _ _ _ _ (c .before .before .before .before .before .before .before .before .before .condense .ensures) _ (c .before .k .given .1)
 
 pub add-spec : {M : Type 1} → statement M
 add-spec =
@@ -130,7 +130,7 @@ add-spec =
     image-known-requires
     insert-at-requires
     clear-requires
-    add-t23
+    add-t24
     same-length
     same-length-2
     same-length-3

@@ -10,13 +10,13 @@ use Rattle.intake.proofs.held_wrong.Statement.{statement}
 use Rattle.intake.proofs.held_wrong.Tie as tie
 
 abbrev Inv-loop : tie.InvT-loop
-Inv-loop list count roster n i₀ i = GoodBefore list roster i
+Inv-loop words list count roster n i₀ i = GoodBefore words list roster i
 
 abbrev μ-loop : tie.MeasureT-loop
-μ-loop list count roster n i₀ i = count - i
+μ-loop words list count roster n i₀ i = count - i
 
 loop-holds : tie.Need-loop-holds Inv-loop μ-loop
-loop-holds c = good-start _ _
+loop-holds c = good-start _ _ _
 
 triple-at-requires : tie.Need-triple-at-requires Inv-loop μ-loop
 triple-at-requires c κs = omega (arith, c .loop-test .taken, c .before .before .before .before .pre)
@@ -25,13 +25,13 @@ triple-wrong-requires : tie.Need-triple-wrong-requires Inv-loop μ-loop
 triple-wrong-requires c κs = search needs
 
 returns : tie.Need-returns Inv-loop μ-loop
-returns c = bad-code (c .before .before .before .before .before .before .before .args .list .now) (c .before .before .before .before .before .before .before .args .roster .now) _ _ (c .before .before .triple-at .ensures) _ (c .before .before .before .loop-test .taken) (sym (c .before .triple-wrong .ensures) ∙ c .if1 .taken)
+returns c = bad-code _ (c .before .before .before .before .before .before .before .args .list .now) (c .before .before .before .before .before .before .before .args .roster .now) _ _ (c .before .before .triple-at .ensures) _ (c .before .before .before .loop-test .taken) (sym (c .before .triple-wrong .ensures) ∙ c .if1 .taken)
 
 covers-triple-requires : tie.Need-covers-triple-requires Inv-loop μ-loop
-covers-triple-requires c κs = below-of _ _ (sym (c .before .triple-wrong .ensures) ∙ c .if1 .left)
+covers-triple-requires c κs = below-of _ _ _ (sym (c .before .triple-wrong .ensures) ∙ c .if1 .left)
 
 returns-2 : tie.Need-returns-2 Inv-loop μ-loop
-returns-2 c = bad-cover (c .before .before .before .before .before .before .before .before .before .args .list .now) (c .before .before .before .before .before .before .before .before .before .args .roster .now) _ _ (c .before .before .before .before .triple-at .ensures) _ (c .before .before .before .before .before .loop-test .taken) (sym (c .before .covers-triple .ensures) ∙ not-true _ (c .if2 .taken))
+returns-2 c = bad-cover _ (c .before .before .before .before .before .before .before .before .before .args .list .now) (c .before .before .before .before .before .before .before .before .before .args .roster .now) _ _ (c .before .before .before .before .triple-at .ensures) _ (c .before .before .before .before .before .loop-test .taken) (sym (c .before .covers-triple .ensures) ∙ not-true _ (c .if2 .taken))
 
 add-i : tie.Need-add-i Inv-loop μ-loop
 add-i c = omega (arith, c .before .before .before .before .before .loop-test .taken)
@@ -41,11 +41,11 @@ loop-less c = omega (arith, c .before .before .before .before .before .loop-test
 
 loop-again : tie.Need-loop-again Inv-loop μ-loop
 loop-again c =
-    good-step (c .before .before .before .before .before .before .before .before .before .args .list .now) (c .before .before .before .before .before .before .before .before .before .args .roster .now) _ _ (c .before .before .before .before .triple-at .ensures) (c .before .before .before .before .before .before .loop .inv) (sym (c .before .before .before .triple-wrong .ensures) ∙ c .before .before .if1 .left)
+    good-step _ (c .before .before .before .before .before .before .before .before .before .args .list .now) (c .before .before .before .before .before .before .before .before .before .args .roster .now) _ _ (c .before .before .before .before .triple-at .ensures) (c .before .before .before .before .before .before .loop .inv) (sym (c .before .before .before .triple-wrong .ensures) ∙ c .before .before .if1 .left)
     (sym (c .before .covers-triple .ensures) ∙ not-false _ (c .if2 .left))
 
 returns-3 : tie.Need-returns-3 Inv-loop μ-loop
-returns-3 c = good-end _ _ _ _ (c .before .loop .inv) (c .loop-test .left)
+returns-3 c = good-end _ _ _ _ _ (c .before .loop .inv) (c .loop-test .left)
 
 pub held-wrong-spec : {M : Type 1} → statement M
 held-wrong-spec =

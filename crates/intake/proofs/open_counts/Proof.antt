@@ -26,7 +26,7 @@ same-length-3 c = search needs
 returns : tie.Need-returns
 returns c =
     let a = c .before .before .before .before .before .before .before .before .before .before .before .before .before .before .before .before .before .args in
-    opens-refused (a .roster .now) (a .triples .now) (a .summary .now) (a .map .now) (a .held) (a .summarised) _ _ _ _ (c .before .before .before .before .before .before .before .before .before .open-lists .ensures) _ (c .before .r .given .1)
+    opens-refused _ (a .roster .now) (a .triples .now) (a .summary .now) (a .map .now) (a .held) (a .summarised) _ _ _ _ (c .before .before .before .before .before .before .before .before .before .open-lists .ensures) _ (c .before .r .given .1)
 
 same-length-4 : tie.Need-same-length-4
 same-length-4 c = search needs
@@ -40,7 +40,7 @@ same-length-6 c = search needs
 returns-2 : tie.Need-returns-2
 returns-2 c =
     let a = c .before .before .before .before .before .before .before .before .before .before .before .before .before .before .before .before .args in
-    opens-accepted (a .roster .now) (a .triples .now) (a .summary .now) (a .map .now) (a .held) (a .summarised) _ _ _ _ (c .before .before .before .before .before .before .before .before .open-lists .ensures) (c .enum-told .given .1)
+    opens-accepted _ (a .roster .now) (a .triples .now) (a .summary .now) (a .map .now) (a .held) (a .summarised) _ _ _ _ (c .before .before .before .before .before .before .before .before .open-lists .ensures) (c .enum-told .given .1)
 
 pub open-counts-spec : {M : Type 1} → statement M
 open-counts-spec =

@@ -1,6 +1,6 @@
 -- `intake::take_in` meets its contract.
 -- Assumes nothing.
-use Rattle.intake.proofs.Taking.{taken-refused, taken-over, taken-same, taken-full, taken-new}
+use Rattle.intake.proofs.Taking.{taken-is, taken-over, taken-same, taken-full, taken-new}
 use borrow.Author.Needs.{needs}
 use Rattle.intake.proofs.take_in.Statement.{statement}
 use Rattle.intake.proofs.take_in.Tie as tie
@@ -11,7 +11,7 @@ refuse-requires c κs = search needs
 returns : tie.Need-returns
 returns c =
     let a = c .before .before .before .before .before .before .before .args in
-    taken-refused (a .roster .now) (a .triples .now) (a .summary .now) (a .map .now) (a .work .now) (a .held) (a .summarised) (a .t) _ (c .refuse .ensures) (taken-over (a .roster .now) (a .triples .now) (a .summary .now) (a .map .now) (a .work .now) (a .held) (a .summarised) (a .t) (c .before .if1 .taken))
+    taken-is _ (a .roster .now) (a .triples .now) (a .summary .now) (a .map .now) (a .work .now) (a .held) (a .summarised) (a .t) _ _ (c .refuse .ensures) _ (taken-over _ (a .roster .now) (a .triples .now) (a .summary .now) (a .map .now) (a .work .now) (a .held) (a .summarised) (a .t) (c .before .if1 .taken))
 
 lower-bound-requires : tie.Need-lower-bound-requires
 lower-bound-requires c κs = search needs
@@ -22,6 +22,9 @@ stands-at-requires c κs = search needs
 clear-requires : tie.Need-clear-requires
 clear-requires c κs = search needs
 
+not-new-requires : tie.Need-not-new-requires
+not-new-requires c κs = search needs
+
 same-length : tie.Need-same-length
 same-length c = search needs
 
@@ -30,8 +33,9 @@ same-length-2 c = search needs
 
 returns-2 : tie.Need-returns-2
 returns-2 c =
-    let a = c .before .before .before .before .before .before .before .before .before .before .before .before .before .before .before .args in
-    taken-same (a .roster .now) (a .triples .now) (a .summary .now) (a .map .now) (a .work .now) (a .held) (a .summarised) (a .t) _ (c .before .before .before .before .before .before .before .lower-bound .ensures) _ (c .before .before .before .before .before .stands-at .ensures) (c .before .before .before .before .if2 .taken) _ (c .before .before .clear .ensures)
+    let a = c .before .before .before .before .before .before .before .before .before .before .before .before .before .before .before .before .args in
+    taken-is _ (a .roster .now) (a .triples .now) (a .summary .now) (a .map .now) (a .work .now) (a .held) (a .summarised) (a .t) _ _ (c .not-new .ensures) _
+    (taken-same _ (a .roster .now) (a .triples .now) (a .summary .now) (a .map .now) (a .work .now) (a .held) (a .summarised) (a .t) _ (c .before .before .before .before .before .before .before .before .lower-bound .ensures) _ (c .before .before .before .before .before .before .stands-at .ensures) (c .before .before .before .before .before .if2 .taken) _ (c .before .before .before .clear .ensures))
 
 add-requires : tie.Need-add-requires
 add-requires c κs = search needs
@@ -51,7 +55,7 @@ same-length-6 c = search needs
 returns-3 : tie.Need-returns-3
 returns-3 c =
     let a = c .before .before .before .before .before .before .before .before .before .before .before .before .before .before .before .before .before .before .before .before .before .before .before .before .before .args in
-    taken-new (a .roster .now) (a .triples .now) (a .summary .now) (a .map .now) (a .work .now) (a .held) (a .summarised) (a .t) _ (c .before .before .before .before .before .before .before .before .before .before .before .before .before .before .before .before .before .lower-bound .ensures) _ (c .before .before .before .before .before .before .before .before .before .before .before .before .before .before .before .stands-at .ensures) (c .before .before .before .before .before .before .before .before .before .before .before .before .before .before .if2 .left) (c .before .before .before .before .before .before .before .before .before .before .before .before .before .if3 .taken) _ _ _ (c .before .before .before .before .before .before .before .before .add .ensures)
+    taken-new _ (a .roster .now) (a .triples .now) (a .summary .now) (a .map .now) (a .work .now) (a .held) (a .summarised) (a .t) _ (c .before .before .before .before .before .before .before .before .before .before .before .before .before .before .before .before .before .lower-bound .ensures) _ (c .before .before .before .before .before .before .before .before .before .before .before .before .before .before .before .stands-at .ensures) (c .before .before .before .before .before .before .before .before .before .before .before .before .before .before .if2 .left) (c .before .before .before .before .before .before .before .before .before .before .before .before .before .if3 .taken) _ _ _ (c .before .before .before .before .before .before .before .before .add .ensures)
 
 refuse-requires-2 : tie.Need-refuse-requires-2
 refuse-requires-2 c κs = search needs
@@ -62,8 +66,8 @@ same-length-7 c = search needs
 returns-4 : tie.Need-returns-4
 returns-4 c =
     let a = c .before .before .before .before .before .before .before .before .before .before .before .before .before .args in
-    taken-refused (a .roster .now) (a .triples .now) (a .summary .now) (a .map .now) (a .work .now) (a .held) (a .summarised) (a .t) _ (c .refuse2 .ensures)
-    (taken-full (a .roster .now) (a .triples .now) (a .summary .now) (a .map .now) (a .work .now) (a .held) (a .summarised) (a .t) _ (c .before .before .before .before .before .lower-bound .ensures) _ (c .before .before .before .stands-at .ensures) (c .before .before .if2 .left) (c .before .if3 .left))
+    taken-is _ (a .roster .now) (a .triples .now) (a .summary .now) (a .map .now) (a .work .now) (a .held) (a .summarised) (a .t) _ _ (c .refuse2 .ensures) _
+    (taken-full _ (a .roster .now) (a .triples .now) (a .summary .now) (a .map .now) (a .work .now) (a .held) (a .summarised) (a .t) _ (c .before .before .before .before .before .lower-bound .ensures) _ (c .before .before .before .stands-at .ensures) (c .before .before .if2 .left) (c .before .if3 .left))
 
 pub take-in-spec : {M : Type 1} → statement M
 take-in-spec =
@@ -74,6 +78,7 @@ take-in-spec =
     lower-bound-requires
     stands-at-requires
     clear-requires
+    not-new-requires
     same-length
     same-length-2
     returns-2

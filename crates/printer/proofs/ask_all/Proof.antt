@@ -9,13 +9,13 @@ use Rattle.printer.proofs.ask_all.Lts as lts
 use Rattle.query.proofs.ask.Reads as ask-reads
 
 abbrev Inv-loop : tie.InvT-loop
-Inv-loop table map count queries answers₀ i₀ answers i = Asking table map queries answers i
+Inv-loop words table map count queries answers₀ i₀ answers i = Asking words table map queries answers i
 
 abbrev μ-loop : tie.MeasureT-loop
-μ-loop table map count queries answers₀ i₀ answers i = count - i
+μ-loop words table map count queries answers₀ i₀ answers i = count - i
 
 loop-holds : tie.Need-loop-holds Inv-loop μ-loop
-loop-holds c = asks-start _ _ _
+loop-holds c = asks-start _ _ _ _
 
 mul-ask : tie.Need-mul-ask Inv-loop μ-loop
 mul-ask c = search needs
@@ -39,10 +39,10 @@ loop-less : tie.Need-loop-less Inv-loop μ-loop
 loop-less c = omega arith
 
 loop-again : tie.Need-loop-again Inv-loop μ-loop
-loop-again c = asks-step _ _ _ _ _ (c .before .before .before .loop .inv) (omega (arith, c .before .before .before .before .before .before .pre, c .before .before .loop-test .taken)) _ (c .ask .ensures)
+loop-again c = asks-step _ _ _ _ _ _ (c .before .before .before .loop .inv) (omega (arith, c .before .before .before .before .before .before .pre, c .before .before .loop-test .taken)) _ (c .ask .ensures)
 
 returns : tie.Need-returns Inv-loop μ-loop
-returns c = asks-end _ _ _ _ _ _ (c .before .loop .inv) (c .loop-test .left)
+returns c = asks-end _ _ _ _ _ _ _ (c .before .loop .inv) (c .loop-test .left)
 
 pub ask-all-spec : {M : Type 1} → statement M
 ask-all-spec =

@@ -36,10 +36,10 @@ same-length-3 : tie.Need-same-length-3
 same-length-3 c = search needs
 
 returns : tie.Need-returns
-returns c = shows _ _ _ (sat-refused _ _ _ (c .before .before .before .before .before .before .before .before .before .before .before .before .before .before .before .before .before .before .before .pre .1) (c .before .before .before .before .before .before .before .before .before .before .before .before .before .before .before .before .before .before .before .pre .2) _ _ (c .before .before .before .before .before .before .before .before .before .before .before .before .before .own-roster .ensures) _ _ (c .before .before .before .before .before .before .before .before .saturate .ensures) _ (c .before .before .before .before .enum-told .given .1) _ _) _ _ (c .before .before .refuse .ensures)
+returns c = shows _ _ _ (sat-refused _ _ _ _ (c .before .before .before .before .before .before .before .before .before .before .before .before .before .before .before .before .before .before .before .pre .1) (c .before .before .before .before .before .before .before .before .before .before .before .before .before .before .before .before .before .before .before .pre .2) _ _ (c .before .before .before .before .before .before .before .before .before .before .before .before .before .own-roster .ensures) _ _ (c .before .before .before .before .before .before .before .before .saturate .ensures) _ (c .before .before .before .before .enum-told .given .1) _ _) _ _ (c .before .before .refuse .ensures)
 
 mul-print-saturated : tie.Need-mul-print-saturated
-mul-print-saturated c = let h = sat-few _ _ _ (c .before .before .before .before .before .before .before .before .before .before .before .before .before .before .before .before .before .pre .1) (c .before .before .before .before .before .before .before .before .before .before .before .before .before .before .before .before .before .pre .2) _ _ (c .before .before .before .before .before .before .before .before .before .before .before .own-roster .ensures) _ _ (c .before .before .before .before .before .before .saturate .ensures) _ (c .before .before .k .given .1) in omega arith
+mul-print-saturated c = let h = sat-few _ _ _ _ (c .before .before .before .before .before .before .before .before .before .before .before .before .before .before .before .before .before .pre .1) (c .before .before .before .before .before .before .before .before .before .before .before .before .before .before .before .before .before .pre .2) _ _ (c .before .before .before .before .before .before .before .before .before .before .before .own-roster .ensures) _ _ (c .before .before .before .before .before .before .saturate .ensures) _ (c .before .before .k .given .1) in omega arith
 
 sub-print-saturated : tie.Need-sub-print-saturated
 sub-print-saturated c = search needs
@@ -48,10 +48,10 @@ part-print-saturated-start : tie.Need-part-print-saturated-start
 part-print-saturated-start c = search needs
 
 part-print-saturated-end : tie.Need-part-print-saturated-end
-part-print-saturated-end c = sat-end _ _ _ (c .before .before .before .before .before .before .before .before .before .before .before .before .before .before .before .before .before .before .pre .1) (c .before .before .before .before .before .before .before .before .before .before .before .before .before .before .before .before .before .before .pre .2) _ _ (c .before .before .before .before .before .before .before .before .before .before .before .before .own-roster .ensures) _ _ (c .before .before .before .before .before .before .before .saturate .ensures) _ (c .before .before .before .k .given .1)
+part-print-saturated-end c = sat-end _ _ _ _ (c .before .before .before .before .before .before .before .before .before .before .before .before .before .before .before .before .before .before .pre .1) (c .before .before .before .before .before .before .before .before .before .before .before .before .before .before .before .before .before .before .pre .2) _ _ (c .before .before .before .before .before .before .before .before .before .before .before .before .own-roster .ensures) _ _ (c .before .before .before .before .before .before .before .saturate .ensures) _ (c .before .before .before .k .given .1)
 
 print-saturated-requires : tie.Need-print-saturated-requires
-print-saturated-requires c κs = (c .before .before .before .before .before .before .before .before .before .before .before .before .before .before .before .before .before .before .before .before .pre .0, sat-whole _ _ _ (c .before .before .before .before .before .before .before .before .before .before .before .before .before .before .before .before .before .before .before .before .pre .1) (c .before .before .before .before .before .before .before .before .before .before .before .before .before .before .before .before .before .before .before .before .pre .2) _ _ (c .before .before .before .before .before .before .before .before .before .before .before .before .before .before .own-roster .ensures) _ _ (c .before .before .before .before .before .before .before .before .before .saturate .ensures) _ (c .before .before .before .before .before .k .given .1))
+print-saturated-requires c κs = (c .before .before .before .before .before .before .before .before .before .before .before .before .before .before .before .before .before .before .before .before .pre .0, sat-whole _ _ _ _ (c .before .before .before .before .before .before .before .before .before .before .before .before .before .before .before .before .before .before .before .before .pre .1) (c .before .before .before .before .before .before .before .before .before .before .before .before .before .before .before .before .before .before .before .before .pre .2) _ _ (c .before .before .before .before .before .before .before .before .before .before .before .before .before .before .own-roster .ensures) _ _ (c .before .before .before .before .before .before .before .before .before .saturate .ensures) _ (c .before .before .before .before .before .k .given .1))
 
 same-length-4 : tie.Need-same-length-4
 same-length-4 c = search needs
@@ -63,7 +63,7 @@ same-length-6 : tie.Need-same-length-6
 same-length-6 c = search needs
 
 returns-2 : tie.Need-returns-2
-returns-2 c = sat-put _ _ _ (c .before .before .before .before .before .before .before .before .before .before .before .before .before .before .before .before .before .before .before .before .before .before .before .pre .1) (c .before .before .before .before .before .before .before .before .before .before .before .before .before .before .before .before .before .before .before .before .before .before .before .pre .2) _ _ (c .before .before .before .before .before .before .before .before .before .before .before .before .before .before .before .before .before .own-roster .ensures) _ _ (c .before .before .before .before .before .before .before .before .before .before .before .before .saturate .ensures) _ (c .before .before .before .before .before .before .before .before .k .given .1) _ _ _ _ _ (c .before .before .print-saturated .ensures)
+returns-2 c = sat-put _ _ _ _ (c .before .before .before .before .before .before .before .before .before .before .before .before .before .before .before .before .before .before .before .before .before .before .before .pre .1) (c .before .before .before .before .before .before .before .before .before .before .before .before .before .before .before .before .before .before .before .before .before .before .before .pre .2) _ _ (c .before .before .before .before .before .before .before .before .before .before .before .before .before .before .before .before .before .own-roster .ensures) _ _ (c .before .before .before .before .before .before .before .before .before .before .before .before .saturate .ensures) _ (c .before .before .before .before .before .before .before .before .k .given .1) _ _ _ _ _ (c .before .before .print-saturated .ensures)
 
 pub print-saturation-spec : {M : Type 1} → statement M
 print-saturation-spec =

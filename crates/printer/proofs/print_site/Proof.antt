@@ -41,7 +41,7 @@ returns-2 : tie.Need-returns-2
 returns-2 c = text-refused _ _ refl (c .before .before .before .before .before .before .before .before .before .before .if1 .left) _ _ (c .before .before .before .before .before .before .before .before .read .ensures) _ (c .before .before .before .before .enum-told2 .given .1) _ _ _ (c .before .before .refuse2 .ensures)
 
 mul-print-table : tie.Need-mul-print-table
-mul-print-table c = let h = count-few _ _ refl (c .before .before .before .before .before .before .before .before .before .if1 .left) _ _ (c .before .before .before .before .before .before .before .read .ensures) (c .before .before .before .enum-told .given .1) in omega arith
+mul-print-table c = let h = count-few _ _ refl (c .before .before .before .before .before .before .before .before .before .before .if1 .left) _ _ (c .before .before .before .before .before .before .before .before .read .ensures) (c .before .before .before .before .enum-told .given .1) in omega arith
 
 sub-print-table : tie.Need-sub-print-table
 sub-print-table c = search needs
@@ -50,16 +50,16 @@ part-print-table-start : tie.Need-part-print-table-start
 part-print-table-start c = search needs
 
 part-print-table-end : tie.Need-part-print-table-end
-part-print-table-end c = count-end _ _ refl (c .before .before .before .before .before .before .before .before .before .before .if1 .left) _ _ (c .before .before .before .before .before .before .before .before .read .ensures) (c .before .before .before .before .enum-told .given .1)
+part-print-table-end c = count-end _ _ refl (c .before .before .before .before .before .before .before .before .before .before .before .if1 .left) _ _ (c .before .before .before .before .before .before .before .before .before .read .ensures) (c .before .before .before .before .before .enum-told .given .1)
 
 print-table-requires : tie.Need-print-table-requires
-print-table-requires c κs = (asks-few _ _ refl (c .before .before .before .before .before .before .before .before .before .before .before .if1 .left) _ _ (c .before .before .before .before .before .before .before .before .before .read .ensures) (c .before .before .before .before .before .enum-told .given .1), part-flat _ _ refl (c .before .before .before .before .before .before .before .before .before .before .before .if1 .left) _ _ (c .before .before .before .before .before .before .before .before .before .read .ensures) (c .before .before .before .before .before .enum-told .given .1), part-few _ _ refl (c .before .before .before .before .before .before .before .before .before .before .before .if1 .left) _ _ (c .before .before .before .before .before .before .before .before .before .read .ensures) (c .before .before .before .before .before .enum-told .given .1))
+print-table-requires c κs = (asks-few _ _ refl (c .before .before .before .before .before .before .before .before .before .before .before .before .if1 .left) _ _ (c .before .before .before .before .before .before .before .before .before .before .read .ensures) (c .before .before .before .before .before .before .enum-told .given .1), part-flat _ _ refl (c .before .before .before .before .before .before .before .before .before .before .before .before .if1 .left) _ _ (c .before .before .before .before .before .before .before .before .before .before .read .ensures) (c .before .before .before .before .before .before .enum-told .given .1), part-few _ _ refl (c .before .before .before .before .before .before .before .before .before .before .before .before .if1 .left) _ _ (c .before .before .before .before .before .before .before .before .before .before .read .ensures) (c .before .before .before .before .before .before .enum-told .given .1))
 
 same-length-3 : tie.Need-same-length-3
 same-length-3 c = search needs
 
 returns-3 : tie.Need-returns-3
-returns-3 c = text-put _ _ refl (c .before .before .before .before .before .before .before .before .before .before .before .before .before .before .if1 .left) _ _ (c .before .before .before .before .before .before .before .before .before .before .before .before .read .ensures) (c .before .before .before .before .before .before .before .before .enum-told .given .1) _ _ _ (c .before .before .print-table .ensures)
+returns-3 c = text-put _ _ refl (c .before .before .before .before .before .before .before .before .before .before .before .before .before .before .before .if1 .left) _ _ (c .before .before .before .before .before .before .before .before .before .before .before .before .before .read .ensures) (c .before .before .before .before .before .before .before .before .before .enum-told .given .1) _ _ _ (c .before .before .print-table .ensures)
 
 pub print-site-spec : {M : Type 1} → statement M
 print-site-spec =

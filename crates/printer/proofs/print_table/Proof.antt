@@ -1,6 +1,6 @@
 use mathlib.Core.Path.{sym, _∙_}
 use Rattle.printer.proofs.Reports.{shows}
-use Rattle.printer.proofs.Parts.{site-small, site-large, site-codes, site-valid, is-valid}
+use Rattle.printer.proofs.Parts.{site-small, site-large, site-words, site-codes, site-valid, is-valid}
 use borrow.Author.Needs.{needs}
 use Rattle.printer.proofs.print_table.Statement.{statement}
 use Rattle.printer.proofs.print_table.Tie as tie
@@ -8,6 +8,7 @@ use Rattle.printer.proofs.print_table.Reads as reads
 use Rattle.printer.proofs.print_table.Lts as lts
 use Rattle.checks.proofs.codes_wrong.Reads as codes-wrong-reads
 use Rattle.checks.proofs.size_wrong.Reads as size-wrong-reads
+use Rattle.checks.proofs.words_wrong.Reads as words-wrong-reads
 use Rattle.printer.proofs.print_valid.Reads as print-valid-reads
 use Rattle.printer.proofs.refuse.Reads as refuse-reads
 use Rattle.lists.proofs.wide.Reads as wide-reads
@@ -25,7 +26,7 @@ same-length : tie.Need-same-length
 same-length c = search needs
 
 returns : tie.Need-returns
-returns c = shows _ _ _ (site-small _ _ (c .before .before .before .before .before .before .wide .ensures) _ _ _ (sym (c .before .before .before .before .before .size-wrong .ensures) ∙ c .before .before .before .before .if1 .taken)) _ _ (c .before .before .refuse .ensures)
+returns c = shows _ _ _ (site-small _ _ _ (c .before .before .before .before .before .before .wide .ensures) _ _ _ (sym (c .before .before .before .before .before .size-wrong .ensures) ∙ c .before .before .before .before .if1 .taken)) _ _ (c .before .before .refuse .ensures)
 
 refuse-requires-2 : tie.Need-refuse-requires-2
 refuse-requires-2 c κs = search needs
@@ -34,10 +35,10 @@ same-length-2 : tie.Need-same-length-2
 same-length-2 c = search needs
 
 returns-2 : tie.Need-returns-2
-returns-2 c = shows _ _ _ (site-large _ _ (c .before .before .before .before .before .before .before .wide .ensures) _ _ _ (c .before .before .before .before .if2 .taken)) _ _ (c .before .before .refuse2 .ensures)
+returns-2 c = shows _ _ _ (site-large _ _ _ (c .before .before .before .before .before .before .before .wide .ensures) _ _ _ (c .before .before .before .before .if2 .taken)) _ _ (c .before .before .refuse2 .ensures)
 
-codes-wrong-requires : tie.Need-codes-wrong-requires
-codes-wrong-requires c κs = search needs
+words-wrong-requires : tie.Need-words-wrong-requires
+words-wrong-requires c κs = search needs
 
 refuse-requires-3 : tie.Need-refuse-requires-3
 refuse-requires-3 c κs = search needs
@@ -46,16 +47,28 @@ same-length-3 : tie.Need-same-length-3
 same-length-3 c = search needs
 
 returns-3 : tie.Need-returns-3
-returns-3 c = shows _ _ _ (site-codes _ _ (c .before .before .before .before .before .before .before .before .before .wide .ensures) _ _ _ (sym (c .before .before .before .before .before .before .before .before .size-wrong .ensures) ∙ c .before .before .before .before .before .before .before .if1 .left) (c .before .before .before .before .before .before .if2 .left) (sym (c .before .before .before .before .before .codes-wrong .ensures) ∙ c .before .before .before .before .if3 .taken)) _ _ (c .before .before .refuse3 .ensures)
+returns-3 c = shows _ _ _ (site-words _ _ _ (c .before .before .before .before .before .before .before .before .before .wide .ensures) _ _ _ (sym (c .before .before .before .before .before .before .before .before .size-wrong .ensures) ∙ c .before .before .before .before .before .before .before .if1 .left) (c .before .before .before .before .before .before .if2 .left) (sym (c .before .before .before .before .before .words-wrong .ensures) ∙ c .before .before .before .before .if3 .taken)) _ _ (c .before .before .refuse3 .ensures)
 
-print-valid-requires : tie.Need-print-valid-requires
-print-valid-requires c κs = (c .before .before .before .before .before .before .before .before .before .pre .0, is-valid (c .before .before .before .before .before .before .before .before .before .args .size) _ (c .before .before .before .before .before .before .wide .ensures) _ (c .before .before .before .before .before .before .before .before .before .args .queries) (c .before .before .before .before .before .before .before .before .before .args .count) (sym (c .before .before .before .before .before .size-wrong .ensures) ∙ c .before .before .before .before .if1 .left) (c .before .before .before .if2 .left) (sym (c .before .before .codes-wrong .ensures) ∙ c .before .if3 .left) (c .before .before .before .before .before .before .before .before .before .pre .1) (c .before .before .before .before .before .before .before .before .before .pre .2))
+codes-wrong-requires : tie.Need-codes-wrong-requires
+codes-wrong-requires c κs = search needs
+
+refuse-requires-4 : tie.Need-refuse-requires-4
+refuse-requires-4 c κs = search needs
 
 same-length-4 : tie.Need-same-length-4
 same-length-4 c = search needs
 
 returns-4 : tie.Need-returns-4
-returns-4 c = shows _ _ _ (site-valid _ _ (c .before .before .before .before .before .before .before .before .before .wide .ensures) _ _ _ (sym (c .before .before .before .before .before .before .before .before .size-wrong .ensures) ∙ c .before .before .before .before .before .before .before .if1 .left) (c .before .before .before .before .before .before .if2 .left) (sym (c .before .before .before .before .before .codes-wrong .ensures) ∙ c .before .before .before .before .if3 .left)) _ _ (c .before .before .print-valid .ensures)
+returns-4 c = shows _ _ _ (site-codes _ _ _ (c .before .before .before .before .before .before .before .before .before .before .before .wide .ensures) _ _ _ (sym (c .before .before .before .before .before .before .before .before .before .before .size-wrong .ensures) ∙ c .before .before .before .before .before .before .before .before .before .if1 .left) (c .before .before .before .before .before .before .before .before .if2 .left) (sym (c .before .before .before .before .before .before .before .words-wrong .ensures) ∙ c .before .before .before .before .before .before .if3 .left) (sym (c .before .before .before .before .before .codes-wrong .ensures) ∙ c .before .before .before .before .if4 .taken)) _ _ (c .before .before .refuse4 .ensures)
+
+print-valid-requires : tie.Need-print-valid-requires
+print-valid-requires c κs = (c .before .before .before .before .before .before .before .before .before .before .before .pre .0, is-valid _ (c .before .before .before .before .before .before .before .before .before .before .before .args .size) _ (c .before .before .before .before .before .before .before .before .wide .ensures) _ (c .before .before .before .before .before .before .before .before .before .before .before .args .queries) (c .before .before .before .before .before .before .before .before .before .before .before .args .count) (sym (c .before .before .before .before .before .before .before .size-wrong .ensures) ∙ c .before .before .before .before .before .before .if1 .left) (c .before .before .before .before .before .if2 .left) (sym (c .before .before .before .before .words-wrong .ensures) ∙ c .before .before .before .if3 .left) (sym (c .before .before .codes-wrong .ensures) ∙ c .before .if4 .left) (c .before .before .before .before .before .before .before .before .before .before .before .pre .1) (c .before .before .before .before .before .before .before .before .before .before .before .pre .2))
+
+same-length-5 : tie.Need-same-length-5
+same-length-5 c = search needs
+
+returns-5 : tie.Need-returns-5
+returns-5 c = shows _ _ _ (site-valid _ _ _ (c .before .before .before .before .before .before .before .before .before .before .before .wide .ensures) _ _ _ (sym (c .before .before .before .before .before .before .before .before .before .before .size-wrong .ensures) ∙ c .before .before .before .before .before .before .before .before .before .if1 .left) (c .before .before .before .before .before .before .before .before .if2 .left) (sym (c .before .before .before .before .before .before .before .words-wrong .ensures) ∙ c .before .before .before .before .before .before .if3 .left) (sym (c .before .before .before .before .before .codes-wrong .ensures) ∙ c .before .before .before .before .if4 .left)) _ _ (c .before .before .print-valid .ensures)
 
 pub print-table-spec : {M : Type 1} → statement M
 print-table-spec =
@@ -69,10 +82,14 @@ print-table-spec =
     refuse-requires-2
     same-length-2
     returns-2
-    codes-wrong-requires
+    words-wrong-requires
     refuse-requires-3
     same-length-3
     returns-3
-    print-valid-requires
+    codes-wrong-requires
+    refuse-requires-4
     same-length-4
-    returns-4)
+    returns-4
+    print-valid-requires
+    same-length-5
+    returns-5)

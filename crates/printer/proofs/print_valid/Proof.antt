@@ -20,13 +20,13 @@ slice-aggregate-print-saturation : tie.Need-slice-aggregate-print-saturation
 slice-aggregate-print-saturation c = search needs
 
 print-saturation-requires : tie.Need-print-saturation-requires
-print-saturation-requires c κs = (c .before .before .before .before .before .pre .0, valid-as _ _ _ (part-length _ _ (c .before .before .before .before .before .pre .1 .printed)) (c .before .before .before .before .before .pre .1), refl)
+print-saturation-requires c κs = (c .before .before .before .before .before .pre .0, valid-as _ _ _ _ (part-length _ _ (c .before .before .before .before .before .pre .1 .printed)) (c .before .before .before .before .before .pre .1), refl)
 
 same-length : tie.Need-same-length
 same-length c = search needs
 
 returns : tie.Need-returns
-returns c = sat-as-put _ _ (part-length _ _ (c .before .before .before .before .before .before .before .before .before .before .pre .1 .printed)) _ _ _ _ _ _ (c .before .before .before .before .print-saturation .ensures)
+returns c = sat-as-put _ _ _ (part-length _ _ (c .before .before .before .before .before .before .before .before .before .before .pre .1 .printed)) _ _ _ _ _ _ (c .before .before .before .before .print-saturation .ensures)
 
 pub print-valid-spec : {M : Type 1} → statement M
 print-valid-spec =

@@ -18,31 +18,31 @@ property-at-requires : tie.Need-property-at-requires
 property-at-requires c κs = search needs
 
 returns : tie.Need-returns
-returns c = covers-data (c .before .before .before .before .args .roster .now) (c .before .before .before .before .args .t) _ (c .before .before .kind .ensures) (c .before .if1 .taken) _ (c .property-at .ensures)
+returns c = covers-data _ (c .before .before .before .before .args .roster .now) (c .before .before .before .before .args .t) _ (c .before .before .kind .ensures) (c .before .if1 .taken) _ (c .property-at .ensures)
 
 class-at-requires : tie.Need-class-at-requires
 class-at-requires c κs = search needs
 
 returns-2 : tie.Need-returns-2
-returns-2 c = covers-type (c .before .before .before .before .before .args .roster .now) (c .before .before .before .before .before .args .t) _ (c .before .before .before .kind .ensures) (c .before .if2 .taken) _ (c .class-at .ensures)
+returns-2 c = covers-type _ (c .before .before .before .before .before .args .roster .now) (c .before .before .before .before .before .args .t) _ (c .before .before .before .kind .ensures) (c .before .if2 .taken) _ (c .class-at .ensures)
 
 both-classes-requires : tie.Need-both-classes-requires
 both-classes-requires c κs = search needs
 
 returns-3 : tie.Need-returns-3
-returns-3 c = covers-subclass (c .before .before .before .before .before .before .args .roster .now) (c .before .before .before .before .before .before .args .t) _ (c .before .before .before .before .kind .ensures) (c .before .if3 .taken) _ (c .both-classes .ensures)
+returns-3 c = covers-subclass _ (c .before .before .before .before .before .before .args .roster .now) (c .before .before .before .before .before .before .args .t) _ (c .before .before .before .before .kind .ensures) (c .before .if3 .taken) _ (c .both-classes .ensures)
 
 both-properties-requires : tie.Need-both-properties-requires
 both-properties-requires c κs = search needs
 
 returns-4 : tie.Need-returns-4
-returns-4 c = covers-subproperty (c .before .before .before .before .before .before .before .args .roster .now) (c .before .before .before .before .before .before .before .args .t) _ (c .before .before .before .before .before .kind .ensures) (c .before .if4 .taken) _ (c .both-properties .ensures)
+returns-4 c = covers-subproperty _ (c .before .before .before .before .before .before .before .args .roster .now) (c .before .before .before .before .before .before .before .args .t) _ (c .before .before .before .before .before .kind .ensures) (c .before .if4 .taken) _ (c .both-properties .ensures)
 
 property-to-class-requires : tie.Need-property-to-class-requires
 property-to-class-requires c κs = search needs
 
 returns-5 : tie.Need-returns-5
-returns-5 c = covers-rest (c .before .before .before .before .before .before .before .args .roster .now) (c .before .before .before .before .before .before .before .args .t) _ (c .before .before .before .before .before .kind .ensures) (c .before .before .before .before .if1 .left) (c .before .before .before .if2 .left) (c .before .before .if3 .left) (c .before .if4 .left) _ (c .property-to-class .ensures)
+returns-5 c = covers-rest _ (c .before .before .before .before .before .before .before .args .roster .now) (c .before .before .before .before .before .before .before .args .t) _ (c .before .before .before .before .before .kind .ensures) (c .before .before .before .before .if1 .left) (c .before .before .before .if2 .left) (c .before .before .if3 .left) (c .before .if4 .left) _ (c .property-to-class .ensures)
 
 pub covers-triple-spec : {M : Type 1} → statement M
 covers-triple-spec =

@@ -18,7 +18,7 @@ same-length : tie.Need-same-length
 same-length c = search needs
 
 returns : tie.Need-returns
-returns c = roles-data (c .before .before .before .before .before .before .before .args .roster .now) (c .before .before .before .before .before .before .before .args .t) _ (c .before .before .before .before .before .kind .ensures) (c .before .before .before .before .if1 .taken) _ (c .before .before .mark-property .ensures)
+returns c = roles-data _ (c .before .before .before .before .before .before .before .args .roster .now) (c .before .before .before .before .before .before .before .args .t) _ (c .before .before .before .before .before .kind .ensures) (c .before .before .before .before .if1 .taken) _ (c .before .before .mark-property .ensures)
 
 mark-property-requires-2 : tie.Need-mark-property-requires-2
 mark-property-requires-2 c κs = search needs
@@ -30,7 +30,7 @@ same-length-2 : tie.Need-same-length-2
 same-length-2 c = search needs
 
 returns-2 : tie.Need-returns-2
-returns-2 c = roles-subproperty (c .before .before .before .before .before .before .before .before .before .before .before .before .args .roster .now) (c .before .before .before .before .before .before .before .before .before .before .before .before .args .t) _ (c .before .before .before .before .before .before .before .before .before .before .kind .ensures) (c .before .before .before .before .before .before .before .before .if2 .taken) _ _ (c .before .before .before .before .before .before .mark-property2 .ensures) (c .before .before .mark-property3 .ensures)
+returns-2 c = roles-subproperty _ (c .before .before .before .before .before .before .before .before .before .before .before .before .args .roster .now) (c .before .before .before .before .before .before .before .before .before .before .before .before .args .t) _ (c .before .before .before .before .before .before .before .before .before .before .kind .ensures) (c .before .before .before .before .before .before .before .before .if2 .taken) _ _ (c .before .before .before .before .before .before .mark-property2 .ensures) (c .before .before .mark-property3 .ensures)
 
 mark-class-requires : tie.Need-mark-class-requires
 mark-class-requires c κs = search needs
@@ -39,7 +39,7 @@ same-length-3 : tie.Need-same-length-3
 same-length-3 c = search needs
 
 returns-3 : tie.Need-returns-3
-returns-3 c = roles-type (c .before .before .before .before .before .before .before .before .before .args .roster .now) (c .before .before .before .before .before .before .before .before .before .args .t) _ (c .before .before .before .before .before .before .before .kind .ensures) (c .if3 .taken) _ (c .before .before .before .mark-class .ensures)
+returns-3 c = roles-type _ (c .before .before .before .before .before .before .before .before .before .args .roster .now) (c .before .before .before .before .before .before .before .before .before .args .t) _ (c .before .before .before .before .before .before .before .kind .ensures) (c .if3 .taken) _ (c .before .before .before .mark-class .ensures)
 
 mark-class-requires-2 : tie.Need-mark-class-requires-2
 mark-class-requires-2 c κs = search needs
@@ -48,7 +48,7 @@ same-length-4 : tie.Need-same-length-4
 same-length-4 c = search needs
 
 returns-4 : tie.Need-returns-4
-returns-4 c = roles-subclass (c .before .before .before .before .before .before .before .before .before .before .before .before .before .before .args .roster .now) (c .before .before .before .before .before .before .before .before .before .before .before .before .before .before .args .t) _ (c .before .before .before .before .before .before .before .before .before .before .before .before .kind .ensures) (c .before .before .before .before .if4 .taken) _ _ (c .before .before .before .before .before .before .before .before .mark-class .ensures) (c .before .before .mark-class2 .ensures)
+returns-4 c = roles-subclass _ (c .before .before .before .before .before .before .before .before .before .before .before .before .before .before .args .roster .now) (c .before .before .before .before .before .before .before .before .before .before .before .before .before .before .args .t) _ (c .before .before .before .before .before .before .before .before .before .before .before .before .kind .ensures) (c .before .before .before .before .if4 .taken) _ _ (c .before .before .before .before .before .before .before .before .mark-class .ensures) (c .before .before .mark-class2 .ensures)
 
 mark-property-requires-4 : tie.Need-mark-property-requires-4
 mark-property-requires-4 c κs = search needs
@@ -57,7 +57,7 @@ same-length-5 : tie.Need-same-length-5
 same-length-5 c = search needs
 
 returns-5 : tie.Need-returns-5
-returns-5 c = roles-rest (c .before .before .before .before .before .before .before .before .before .before .before .before .before .before .args .roster .now) (c .before .before .before .before .before .before .before .before .before .before .before .before .before .before .args .t) _ (c .before .before .before .before .before .before .before .before .before .before .before .before .kind .ensures) (c .before .before .before .before .before .before .before .before .before .before .before .if1 .left) (c .before .before .before .before .before .before .before .before .before .before .if2 .left) (c .before .before .before .before .before .if3 .left) (c .before .before .before .before .if4 .left) _ _ (c .before .before .before .before .before .before .before .before .mark-class .ensures) (c .before .before .mark-property4 .ensures)
+returns-5 c = roles-rest _ (c .before .before .before .before .before .before .before .before .before .before .before .before .before .before .args .roster .now) (c .before .before .before .before .before .before .before .before .before .before .before .before .before .before .args .t) _ (c .before .before .before .before .before .before .before .before .before .before .before .before .kind .ensures) (c .before .before .before .before .before .before .before .before .before .before .before .if1 .left) (c .before .before .before .before .before .before .before .before .before .before .if2 .left) (c .before .before .before .before .before .if3 .left) (c .before .before .before .before .if4 .left) _ _ (c .before .before .before .before .before .before .before .before .mark-class .ensures) (c .before .before .mark-property4 .ensures)
 
 pub mark-roles-spec : {M : Type 1} → statement M
 mark-roles-spec =

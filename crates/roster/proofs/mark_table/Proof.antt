@@ -12,13 +12,13 @@ use Rattle.lists.proofs.triple_at.Reads as triple-at-reads
 use Rattle.roster.proofs.mark_roles.Reads as mark-roles-reads
 
 abbrev Inv-loop : tie.InvT-loop
-Inv-loop table roster₀ n i₀ roster i = (n ≡ length table / 3) × (i ≤ n) × (length roster ≡ length roster₀) × Left table roster₀ n i roster
+Inv-loop words table roster₀ n i₀ roster i = (n ≡ length table / 3) × (i ≤ n) × (length roster ≡ length roster₀) × Left words table roster₀ n i roster
 
 abbrev μ-loop : tie.MeasureT-loop
-μ-loop table roster₀ n i₀ roster i = n - i
+μ-loop words table roster₀ n i₀ roster i = n - i
 
 loop-holds : tie.Need-loop-holds Inv-loop μ-loop
-loop-holds c = (refl, omega arith, refl, left-start (c .before .before .args .table .now) (c .before .before .args .roster .now))
+loop-holds c = (refl, omega arith, refl, left-start _ (c .before .before .args .table .now) (c .before .before .args .roster .now))
 
 triple-at-requires : tie.Need-triple-at-requires Inv-loop μ-loop
 triple-at-requires c κs = omega (arith, c .before .loop .inv .0)
@@ -33,13 +33,13 @@ loop-less : tie.Need-loop-less Inv-loop μ-loop
 loop-less c = omega arith
 
 loop-again : tie.Need-loop-again Inv-loop μ-loop
-loop-again c = (c .before .before .before .before .before .before .loop .inv .0, omega arith, ap length (c .before .before .mark-roles .ensures) ∙ roles-length _ _ ∙ c .before .before .before .before .before .before .loop .inv .2, left-step _ _ _ _ _ _ _ (c .before .before .before .before .before .loop-test .taken) (c .before .before .before .before .triple-at .ensures) (c .before .before .mark-roles .ensures) (c .before .before .before .before .before .before .loop .inv .3))
+loop-again c = (c .before .before .before .before .before .before .loop .inv .0, omega arith, ap length (c .before .before .mark-roles .ensures) ∙ roles-length _ _ _ ∙ c .before .before .before .before .before .before .loop .inv .2, left-step _ _ _ _ _ _ _ _ (c .before .before .before .before .before .loop-test .taken) (c .before .before .before .before .triple-at .ensures) (c .before .before .mark-roles .ensures) (c .before .before .before .before .before .before .loop .inv .3))
 
 same-length : tie.Need-same-length Inv-loop μ-loop
 same-length c = c .before .loop .inv .2
 
 returns : tie.Need-returns Inv-loop μ-loop
-returns c = left-end _ _ _ _ _ (c .loop-test .left) (c .before .loop .inv .3)
+returns c = left-end _ _ _ _ _ _ (c .loop-test .left) (c .before .loop .inv .3)
 
 pub mark-table-spec : {M : Type 1} → statement M
 mark-table-spec =

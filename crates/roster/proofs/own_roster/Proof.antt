@@ -1,5 +1,5 @@
 use mathlib.Core.Path.{sym, _∙_}
-use Rattle.roster.proofs.Own.{by-size, by-table, by-codes, by-marking, codes-below}
+use Rattle.roster.proofs.Own.{by-size, by-table, by-words, by-codes, by-marking, codes-below}
 use borrow.Author.Needs.{needs}
 use Rattle.roster.proofs.own_roster.Statement.{statement}
 use Rattle.roster.proofs.own_roster.Tie as tie
@@ -15,31 +15,37 @@ size-wrong-requires : tie.Need-size-wrong-requires
 size-wrong-requires c κs = search needs
 
 returns : tie.Need-returns
-returns c = by-size (c .before .before .before .before .args .table .now) (c .before .before .before .before .args .roster .now) (sym (c .before .size-wrong .ensures) ∙ c .if1 .taken)
+returns c = by-size _ (c .before .before .before .before .args .table .now) (c .before .before .before .before .args .roster .now) (sym (c .before .size-wrong .ensures) ∙ c .if1 .taken)
 
 length-wrong-requires : tie.Need-length-wrong-requires
 length-wrong-requires c κs = search needs
 
 returns-2 : tie.Need-returns-2
-returns-2 c = by-table (c .before .before .before .before .before .before .args .table .now) (c .before .before .before .before .before .before .args .roster .now) (sym (c .before .length-wrong .ensures) ∙ c .if2 .taken)
+returns-2 c = by-table _ (c .before .before .before .before .before .before .args .table .now) (c .before .before .before .before .before .before .args .roster .now) (sym (c .before .length-wrong .ensures) ∙ c .if2 .taken)
+
+words-wrong-requires : tie.Need-words-wrong-requires
+words-wrong-requires c κs = search needs
+
+returns-3 : tie.Need-returns-3
+returns-3 c = by-words _ (c .before .before .before .before .before .before .before .before .args .table .now) (c .before .before .before .before .before .before .before .before .args .roster .now) (sym (c .before .before .before .before .before .size-wrong .ensures) ∙ c .before .before .before .before .if1 .left) (sym (c .before .before .before .length-wrong .ensures) ∙ c .before .before .if2 .left) (sym (c .before .words-wrong .ensures) ∙ c .if3 .taken)
 
 codes-wrong-requires : tie.Need-codes-wrong-requires
 codes-wrong-requires c κs = search needs
 
-returns-3 : tie.Need-returns-3
-returns-3 c = by-codes (c .before .before .before .before .before .before .before .before .args .table .now) (c .before .before .before .before .before .before .before .before .args .roster .now) (sym (c .before .before .before .before .before .size-wrong .ensures) ∙ c .before .before .before .before .if1 .left) (sym (c .before .before .before .length-wrong .ensures) ∙ c .before .before .if2 .left) (sym (c .before .codes-wrong .ensures) ∙ c .if3 .taken)
+returns-4 : tie.Need-returns-4
+returns-4 c = by-codes _ (c .before .before .before .before .before .before .before .before .before .before .args .table .now) (c .before .before .before .before .before .before .before .before .before .before .args .roster .now) (sym (c .before .before .before .before .before .before .before .size-wrong .ensures) ∙ c .before .before .before .before .before .before .if1 .left) (sym (c .before .before .before .before .before .length-wrong .ensures) ∙ c .before .before .before .before .if2 .left) (sym (c .before .before .before .words-wrong .ensures) ∙ c .before .before .if3 .left) (sym (c .before .codes-wrong .ensures) ∙ c .if4 .taken)
 
 clear-marks-requires : tie.Need-clear-marks-requires
 clear-marks-requires c κs = search needs
 
 mark-table-requires : tie.Need-mark-table-requires
-mark-table-requires c κs = codes-below (c .before .before .before .before .before .before .before .before .before .before .before .before .before .args .table .now) (c .before .before .before .before .before .before .before .before .before .before .before .before .before .args .roster .now) (sym (c .before .before .before .before .before .before .codes-wrong .ensures) ∙ c .before .before .before .before .before .if3 .left) _ (c .before .before .before .clear-marks .ensures)
+mark-table-requires c κs = codes-below _ (c .before .before .before .before .before .before .before .before .before .before .before .before .before .before .before .args .table .now) (c .before .before .before .before .before .before .before .before .before .before .before .before .before .before .before .args .roster .now) (sym (c .before .before .before .before .before .before .codes-wrong .ensures) ∙ c .before .before .before .before .before .if4 .left) _ (c .before .before .before .clear-marks .ensures)
 
 same-length : tie.Need-same-length
 same-length c = search needs
 
-returns-4 : tie.Need-returns-4
-returns-4 c = by-marking (c .before .before .before .before .before .before .before .before .before .before .before .before .before .before .before .before .args .table .now) (c .before .before .before .before .before .before .before .before .before .before .before .before .before .before .before .before .args .roster .now) (sym (c .before .before .before .before .before .before .before .before .before .before .before .before .before .size-wrong .ensures) ∙ c .before .before .before .before .before .before .before .before .before .before .before .before .if1 .left) (sym (c .before .before .before .before .before .before .before .before .before .before .before .length-wrong .ensures) ∙ c .before .before .before .before .before .before .before .before .before .before .if2 .left) (sym (c .before .before .before .before .before .before .before .before .before .codes-wrong .ensures) ∙ c .before .before .before .before .before .before .before .before .if3 .left) _ _ (c .before .before .before .before .before .before .clear-marks .ensures) (c .before .before .mark-table .ensures)
+returns-5 : tie.Need-returns-5
+returns-5 c = by-marking _ (c .before .before .before .before .before .before .before .before .before .before .before .before .before .before .before .before .before .before .args .table .now) (c .before .before .before .before .before .before .before .before .before .before .before .before .before .before .before .before .before .before .args .roster .now) (sym (c .before .before .before .before .before .before .before .before .before .before .before .before .before .before .before .size-wrong .ensures) ∙ c .before .before .before .before .before .before .before .before .before .before .before .before .before .before .if1 .left) (sym (c .before .before .before .before .before .before .before .before .before .before .before .before .before .length-wrong .ensures) ∙ c .before .before .before .before .before .before .before .before .before .before .before .before .if2 .left) (sym (c .before .before .before .before .before .before .before .before .before .before .before .words-wrong .ensures) ∙ c .before .before .before .before .before .before .before .before .before .before .if3 .left) (sym (c .before .before .before .before .before .before .before .before .before .codes-wrong .ensures) ∙ c .before .before .before .before .before .before .before .before .if4 .left) _ _ (c .before .before .before .before .before .before .clear-marks .ensures) (c .before .before .mark-table .ensures)
 
 pub own-roster-spec : {M : Type 1} → statement M
 own-roster-spec =
@@ -49,9 +55,11 @@ own-roster-spec =
     returns
     length-wrong-requires
     returns-2
-    codes-wrong-requires
+    words-wrong-requires
     returns-3
+    codes-wrong-requires
+    returns-4
     clear-marks-requires
     mark-table-requires
     same-length
-    returns-4)
+    returns-5)

@@ -12,13 +12,13 @@ value-wrong-requires : tie.Need-value-wrong-requires
 value-wrong-requires c κs = search needs
 
 returns : tie.Need-returns
-returns c = wrong-value (c .before .before .before .args .roster .now) (sym (c .before .value-wrong .ensures) ∙ c .if1 .taken)
+returns c = wrong-value _ (c .before .before .before .args .roster .now) (sym (c .before .value-wrong .ensures) ∙ c .if1 .taken)
 
 reserved-marked-requires : tie.Need-reserved-marked-requires
 reserved-marked-requires c κs = search needs
 
 returns-2 : tie.Need-returns-2
-returns-2 c = wrong-mark (c .before .before .before .before .args .roster .now) (sym (c .before .before .value-wrong .ensures) ∙ c .before .if1 .left) _ (c .reserved-marked .ensures)
+returns-2 c = wrong-mark _ (c .before .before .before .before .args .roster .now) (sym (c .before .before .value-wrong .ensures) ∙ c .before .if1 .left) _ (c .reserved-marked .ensures)
 
 pub roster-wrong-spec : {M : Type 1} → statement M
 roster-wrong-spec =

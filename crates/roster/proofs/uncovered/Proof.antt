@@ -5,7 +5,6 @@ use native.Mathlib.Omega.{arith}
 use lib.ListN.{length}
 use borrow.Author.Count.{below-more}
 use borrow.Author.Tests.{not-true, not-false}
-use Rattle.model.specs.Codes.{rdfs}
 use Rattle.model.specs.Roster.{coversTriple}
 use Rattle.lists.specs.Flat.{at}
 use Rattle.roster.proofs.Tables.{below-at, uncovered-at, covered-all}
@@ -17,10 +16,10 @@ use Rattle.lists.proofs.triple_at.Reads as triple-at-reads
 use Rattle.roster.proofs.covers_triple.Reads as covers-triple-reads
 
 abbrev Inv-loop : tie.InvT-loop
-Inv-loop table roster n i₀ i = (n ≡ length table / 3) × (i ≤ n) × ((k : ℕ) → k < i → coversTriple rdfs roster (at table k) ≡ true)
+Inv-loop words table roster n i₀ i = (n ≡ length table / 3) × (i ≤ n) × ((k : ℕ) → k < i → coversTriple words roster (at table k) ≡ true)
 
 abbrev μ-loop : tie.MeasureT-loop
-μ-loop table roster n i₀ i = n - i
+μ-loop words table roster n i₀ i = n - i
 
 loop-holds : tie.Need-loop-holds Inv-loop μ-loop
 loop-holds c = (refl, omega arith, λ k h. absurd (omega arith))
@@ -32,7 +31,7 @@ covers-triple-requires : tie.Need-covers-triple-requires Inv-loop μ-loop
 covers-triple-requires c κs = below-at _ (c .before .before .before .before .before .args .table .now) _ _ (c .before .before .before .before .before .pre) (omega (arith, c .before .before .loop .inv .0)) (c .triple-at .ensures)
 
 returns : tie.Need-returns Inv-loop μ-loop
-returns c = uncovered-at (c .before .before .before .before .before .before .before .args .roster .now) (c .before .before .before .before .before .before .before .args .table .now) _ (omega (arith, c .before .before .before .before .loop .inv .0)) (ap (coversTriple rdfs (c .before .before .before .before .before .before .before .args .roster .now)) (sym (c .before .before .triple-at .ensures)) ∙ sym (c .before .covers-triple .ensures) ∙ not-true _ (c .if1 .taken))
+returns c = uncovered-at _ (c .before .before .before .before .before .before .before .args .roster .now) (c .before .before .before .before .before .before .before .args .table .now) _ (omega (arith, c .before .before .before .before .loop .inv .0)) (ap (coversTriple _ (c .before .before .before .before .before .before .before .args .roster .now)) (sym (c .before .before .triple-at .ensures)) ∙ sym (c .before .covers-triple .ensures) ∙ not-true _ (c .if1 .taken))
 
 add-i : tie.Need-add-i Inv-loop μ-loop
 add-i c = omega arith
@@ -41,10 +40,10 @@ loop-less : tie.Need-loop-less Inv-loop μ-loop
 loop-less c = omega arith
 
 loop-again : tie.Need-loop-again Inv-loop μ-loop
-loop-again c = (c .before .before .before .before .loop .inv .0, omega arith, below-more _ _ (c .before .before .before .before .loop .inv .2) (ap (coversTriple rdfs (c .before .before .before .before .before .before .before .args .roster .now)) (sym (c .before .before .triple-at .ensures)) ∙ sym (c .before .covers-triple .ensures) ∙ not-false _ (c .if1 .left)))
+loop-again c = (c .before .before .before .before .loop .inv .0, omega arith, below-more _ _ (c .before .before .before .before .loop .inv .2) (ap (coversTriple _ (c .before .before .before .before .before .before .before .args .roster .now)) (sym (c .before .before .triple-at .ensures)) ∙ sym (c .before .covers-triple .ensures) ∙ not-false _ (c .if1 .left)))
 
 returns-2 : tie.Need-returns-2 Inv-loop μ-loop
-returns-2 c = covered-all (c .before .before .before .before .args .roster .now) (c .before .before .before .before .args .table .now) _ (omega (arith, c .before .loop .inv .0)) (c .before .loop .inv .2)
+returns-2 c = covered-all _ (c .before .before .before .before .args .roster .now) (c .before .before .before .before .args .table .now) _ (omega (arith, c .before .loop .inv .0)) (c .before .loop .inv .2)
 
 pub uncovered-spec : {M : Type 1} → statement M
 uncovered-spec =

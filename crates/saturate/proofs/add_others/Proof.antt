@@ -18,7 +18,7 @@ same-length : tie.Need-same-length
 same-length c = search needs
 
 returns : tie.Need-returns
-returns c = added-sorted _ _ _ _ _ _ _ _ (c .before .before .before .before .before .before .sort-distinct .ensures) (c .before .before .load .ensures)
+returns c = added-sorted _ _ _ _ _ _ _ _ _ (c .before .before .before .before .before .before .sort-distinct .ensures) (c .before .before .load .ensures)
 
 pub add-others-spec : {M : Type 1} → statement M
 add-others-spec = tie.close (tie.spec sort-distinct-requires load-requires same-length returns)

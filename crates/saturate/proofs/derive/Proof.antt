@@ -15,7 +15,7 @@ same-length : tie.Need-same-length
 same-length c = search needs
 
 returns : tie.Need-returns
-returns c = derived-schema-full _ (c .before .before .before .before .before .before .before .pre) _ _ _ (c .before .before .before .derive-schema .ensures) (c .if1 .taken)
+returns c = derived-schema-full _ _ (c .before .before .before .before .before .before .before .pre) _ _ _ (c .before .before .before .derive-schema .ensures) (c .if1 .taken)
 
 add-others-requires : tie.Need-add-others-requires
 add-others-requires c κs = c .before .before .before .before .derive-schema .ensures .room (c .before .if1 .left)
@@ -24,7 +24,7 @@ same-length-2 : tie.Need-same-length-2
 same-length-2 c = search needs
 
 returns-2 : tie.Need-returns-2
-returns-2 c = derived-others-full _ (c .before .before .before .before .before .before .before .before .before .before .before .before .pre) _ _ _ (c .before .before .before .before .before .before .before .before .derive-schema .ensures) (c .before .before .before .before .before .if1 .left) _ _ (c .before .before .before .add-others .ensures) (c .if2 .taken)
+returns-2 c = derived-others-full _ _ (c .before .before .before .before .before .before .before .before .before .before .before .before .pre) _ _ _ (c .before .before .before .before .before .before .before .before .derive-schema .ensures) (c .before .before .before .before .before .if1 .left) _ _ (c .before .before .before .add-others .ensures) (c .if2 .taken)
 
 draw-strata-requires : tie.Need-draw-strata-requires
 draw-strata-requires c κs = c .before .before .before .before .add-others .ensures .room (c .before .if2 .left)
@@ -33,7 +33,7 @@ same-length-3 : tie.Need-same-length-3
 same-length-3 c = search needs
 
 returns-3 : tie.Need-returns-3
-returns-3 c = derived-all _ (c .before .before .before .before .before .before .before .before .before .before .before .before .before .before .before .before .pre) _ _ _ (c .before .before .before .before .before .before .before .before .before .before .before .before .derive-schema .ensures) (c .before .before .before .before .before .before .before .before .before .if1 .left) _ _ (c .before .before .before .before .before .before .before .add-others .ensures) _ _ (c .before .before .draw-strata .ensures) (c .before .before .before .before .if2 .left)
+returns-3 c = derived-all _ _ (c .before .before .before .before .before .before .before .before .before .before .before .before .before .before .before .before .pre) _ _ _ (c .before .before .before .before .before .before .before .before .before .before .before .before .derive-schema .ensures) (c .before .before .before .before .before .before .before .before .before .if1 .left) _ _ (c .before .before .before .before .before .before .before .add-others .ensures) _ _ (c .before .before .draw-strata .ensures) (c .before .before .before .before .if2 .left)
 
 pub derive-spec : {M : Type 1} → statement M
 derive-spec =

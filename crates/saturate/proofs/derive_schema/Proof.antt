@@ -15,7 +15,7 @@ same-length : tie.Need-same-length
 same-length c = search needs
 
 returns : tie.Need-returns
-returns c = schema-full _ _ _ _ (c .before .before .before .load .ensures) (c .if1 .taken)
+returns c = schema-full _ _ _ _ _ (c .before .before .before .load .ensures) (c .if1 .taken)
 
 close-requires : tie.Need-close-requires
 close-requires c κs = c .before .before .before .before .load .ensures .room (c .before .if1 .left)
@@ -24,7 +24,7 @@ same-length-2 : tie.Need-same-length-2
 same-length-2 c = search needs
 
 returns-2 : tie.Need-returns-2
-returns-2 c = schema-loaded _ _ _ _ (c .before .before .before .before .before .before .before .load .ensures) (c .before .before .before .before .if1 .left) _ _ (c .before .before .close .ensures)
+returns-2 c = schema-loaded _ _ _ _ _ (c .before .before .before .before .before .before .before .load .ensures) (c .before .before .before .before .if1 .left) _ _ (c .before .before .close .ensures)
 
 pub derive-schema-spec : {M : Type 1} → statement M
 derive-schema-spec =

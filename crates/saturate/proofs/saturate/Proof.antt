@@ -19,7 +19,7 @@ enum-told : tie.Need-enum-told
 enum-told c = search needs
 
 derive-requires : tie.Need-derive-requires
-derive-requires c κs = free-ends _ _ _ (c .before .before .before .table-refusal .ensures) (c .before .enum-told .given .1)
+derive-requires c κs = free-ends _ _ _ _ (c .before .before .before .table-refusal .ensures) (c .before .enum-told .given .1)
 
 clear-requires : tie.Need-clear-requires
 clear-requires c κs = search needs
@@ -28,19 +28,19 @@ same-length : tie.Need-same-length
 same-length c = search needs
 
 returns : tie.Need-returns
-returns c = answer-slots _ _ _ _ (c .before .before .before .before .before .before .before .before .before .before .before .table-refusal .ensures) (c .before .before .before .before .before .before .before .before .before .enum-told .given .1) _ _ (c .before .before .before .before .before .before .before .derive .ensures) (c .before .before .before .before .if1 .taken) _ (c .before .before .clear .ensures)
+returns c = answer-slots _ _ _ _ _ (c .before .before .before .before .before .before .before .before .before .before .before .table-refusal .ensures) (c .before .before .before .before .before .before .before .before .before .enum-told .given .1) _ _ (c .before .before .before .before .before .before .before .derive .ensures) (c .before .before .before .before .if1 .taken) _ (c .before .before .clear .ensures)
 
 finish-requires : tie.Need-finish-requires
 finish-requires c κs = c .before .before .before .before .derive .ensures .room (c .before .if1 .left)
 
 returns-2 : tie.Need-returns-2
-returns-2 c = answer-refused _ _ _ _ _ (c .before .before .before .table-refusal .ensures) (c .before .r .given .1)
+returns-2 c = answer-refused _ _ _ _ _ _ (c .before .before .before .table-refusal .ensures) (c .before .r .given .1)
 
 same-length-2 : tie.Need-same-length-2
 same-length-2 c = search needs
 
 returns-3 : tie.Need-returns-3
-returns-3 c = answer-count _ _ _ _ (c .before .before .before .before .before .before .before .before .before .before .before .table-refusal .ensures) (c .before .before .before .before .before .before .before .before .before .enum-told .given .1) _ _ (c .before .before .before .before .before .before .before .derive .ensures) (c .before .before .before .before .if1 .left) _ _ (c .before .before .finish .ensures)
+returns-3 c = answer-count _ _ _ _ _ (c .before .before .before .before .before .before .before .before .before .before .before .table-refusal .ensures) (c .before .before .before .before .before .before .before .before .before .enum-told .given .1) _ _ (c .before .before .before .before .before .before .before .derive .ensures) (c .before .before .before .before .if1 .left) _ _ (c .before .before .finish .ensures)
 
 pub saturate-spec : {M : Type 1} → statement M
 saturate-spec =

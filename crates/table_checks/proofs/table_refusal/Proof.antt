@@ -2,7 +2,7 @@
 -- Assumes nothing.
 use mathlib.Core.Path.{sym, _∙_}
 use borrow.Author.Needs.{needs}
-use Rattle.table_checks.proofs.Laws.{by-size, by-table, by-list, by-roster, by-codes, by-cover, by-none, five, codes-below}
+use Rattle.table_checks.proofs.Laws.{by-size, by-table, by-list, by-words, by-roster, by-codes, by-cover, by-none, codes-below}
 use Rattle.table_checks.proofs.table_refusal.Statement.{statement}
 use Rattle.table_checks.proofs.table_refusal.Tie as tie
 
@@ -10,49 +10,59 @@ size-wrong-requires : tie.Need-size-wrong-requires
 size-wrong-requires c κs = search needs
 
 returns : tie.Need-returns
-returns c = let s = c .before .before .before .before .args in by-size (s .lengths) (s .table .now) (s .roster .now) (sym (c .before .size-wrong .ensures) ∙ c .if1 .taken)
+returns c =
+    let s = c .before .before .before .before .args in
+    by-size _ (s .lengths) (s .table .now) (s .roster .now) (sym (c .before .size-wrong .ensures) ∙ c .if1 .taken)
 
 length-wrong-requires : tie.Need-length-wrong-requires
 length-wrong-requires c κs = search needs
 
 returns-2 : tie.Need-returns-2
-returns-2 c = let s = c .before .before .before .before .before .before .args in by-table (s .lengths) (s .table .now) (s .roster .now) (sym (c .before .length-wrong .ensures) ∙ c .if2 .taken)
+returns-2 c =
+    let s = c .before .before .before .before .before .before .args in
+    by-table _ (s .lengths) (s .table .now) (s .roster .now) (sym (c .before .length-wrong .ensures) ∙ c .if2 .taken)
 
 returns-3 : tie.Need-returns-3
-returns-3 c = let s = c .before .before .before .before .before .before .before .args in by-list (s .lengths) (s .table .now) (s .roster .now) (c .if3 .taken)
+returns-3 c =
+    let s = c .before .before .before .before .before .before .before .args in
+    by-list _ (s .lengths) (s .table .now) (s .roster .now) (c .if3 .taken)
 
-roster-wrong-requires : tie.Need-roster-wrong-requires
-roster-wrong-requires c κs = five _ (sym (c .before .before .before .before .size-wrong .ensures) ∙ c .before .before .before .if1 .left)
+words-wrong-requires : tie.Need-words-wrong-requires
+words-wrong-requires c κs = search needs
 
 returns-4 : tie.Need-returns-4
 returns-4 c =
     let s = c .before .before .before .before .before .before .before .before .before .args in
-    by-roster (s .lengths) (s .table .now) (s .roster .now) (sym (c .before .before .before .before .before .before .size-wrong .ensures) ∙ c .before .before .before .before .before .if1 .left) (sym (c .before .before .before .before .length-wrong .ensures) ∙ c .before .before .before .if2 .left) (c .before .before .if3 .left)
-    (sym (c .before .roster-wrong .ensures) ∙ c .if4 .taken)
+    by-words _ (s .lengths) (s .table .now) (s .roster .now) (sym (c .before .before .before .before .before .before .size-wrong .ensures) ∙ c .before .before .before .before .before .if1 .left) (sym (c .before .before .before .before .length-wrong .ensures) ∙ c .before .before .before .if2 .left) (c .before .before .if3 .left) (sym (c .before .words-wrong .ensures) ∙ c .if4 .taken)
 
-codes-wrong-requires : tie.Need-codes-wrong-requires
-codes-wrong-requires c κs = search needs
+roster-wrong-requires : tie.Need-roster-wrong-requires
+roster-wrong-requires c κs = sym (c .before .words-wrong .ensures) ∙ c .if4 .left
 
 returns-5 : tie.Need-returns-5
 returns-5 c =
     let s = c .before .before .before .before .before .before .before .before .before .before .before .args in
-    by-codes (s .lengths) (s .table .now) (s .roster .now) (sym (c .before .before .before .before .before .before .before .before .size-wrong .ensures) ∙ c .before .before .before .before .before .before .before .if1 .left) (sym (c .before .before .before .before .before .before .length-wrong .ensures) ∙ c .before .before .before .before .before .if2 .left) (c .before .before .before .before .if3 .left)
-    (sym (c .before .before .before .roster-wrong .ensures) ∙ c .before .before .if4 .left) (sym (c .before .codes-wrong .ensures) ∙ c .if5 .taken)
+    by-roster _ (s .lengths) (s .table .now) (s .roster .now) (sym (c .before .before .before .before .before .before .before .before .size-wrong .ensures) ∙ c .before .before .before .before .before .before .before .if1 .left) (sym (c .before .before .before .before .before .before .length-wrong .ensures) ∙ c .before .before .before .before .before .if2 .left) (c .before .before .before .before .if3 .left) (sym (c .before .before .before .words-wrong .ensures) ∙ c .before .before .if4 .left) (sym (c .before .roster-wrong .ensures) ∙ c .if5 .taken)
 
-uncovered-requires : tie.Need-uncovered-requires
-uncovered-requires c κs = let s = c .before .before .before .before .before .before .before .before .before .before .before .args in codes-below (s .table .now) (s .roster .now) (sym (c .before .codes-wrong .ensures) ∙ c .if5 .left)
+codes-wrong-requires : tie.Need-codes-wrong-requires
+codes-wrong-requires c κs = search needs
 
 returns-6 : tie.Need-returns-6
 returns-6 c =
     let s = c .before .before .before .before .before .before .before .before .before .before .before .before .before .args in
-    by-cover (s .lengths) (s .table .now) (s .roster .now) (sym (c .before .before .before .before .before .before .before .before .before .before .size-wrong .ensures) ∙ c .before .before .before .before .before .before .before .before .before .if1 .left) (sym (c .before .before .before .before .before .before .before .before .length-wrong .ensures) ∙ c .before .before .before .before .before .before .before .if2 .left) (c .before .before .before .before .before .before .if3 .left)
-    (sym (c .before .before .before .before .before .roster-wrong .ensures) ∙ c .before .before .before .before .if4 .left) (sym (c .before .before .before .codes-wrong .ensures) ∙ c .before .before .if5 .left) (sym (c .before .uncovered .ensures) ∙ c .if6 .taken)
+    by-codes _ (s .lengths) (s .table .now) (s .roster .now) (sym (c .before .before .before .before .before .before .before .before .before .before .size-wrong .ensures) ∙ c .before .before .before .before .before .before .before .before .before .if1 .left) (sym (c .before .before .before .before .before .before .before .before .length-wrong .ensures) ∙ c .before .before .before .before .before .before .before .if2 .left) (c .before .before .before .before .before .before .if3 .left) (sym (c .before .before .before .before .before .words-wrong .ensures) ∙ c .before .before .before .before .if4 .left) (sym (c .before .before .before .roster-wrong .ensures) ∙ c .before .before .if5 .left) (sym (c .before .codes-wrong .ensures) ∙ c .if6 .taken)
+
+uncovered-requires : tie.Need-uncovered-requires
+uncovered-requires c κs = let s = c .before .before .before .before .before .before .before .before .before .before .before .before .before .args in codes-below _ (s .table .now) (s .roster .now) (sym (c .before .codes-wrong .ensures) ∙ c .if6 .left)
 
 returns-7 : tie.Need-returns-7
 returns-7 c =
-    let s = c .before .before .before .before .before .before .before .before .before .before .before .before .before .args in
-    by-none (s .lengths) (s .table .now) (s .roster .now) (sym (c .before .before .before .before .before .before .before .before .before .before .size-wrong .ensures) ∙ c .before .before .before .before .before .before .before .before .before .if1 .left) (sym (c .before .before .before .before .before .before .before .before .length-wrong .ensures) ∙ c .before .before .before .before .before .before .before .if2 .left) (c .before .before .before .before .before .before .if3 .left)
-    (sym (c .before .before .before .before .before .roster-wrong .ensures) ∙ c .before .before .before .before .if4 .left) (sym (c .before .before .before .codes-wrong .ensures) ∙ c .before .before .if5 .left) (sym (c .before .uncovered .ensures) ∙ c .if6 .left)
+    let s = c .before .before .before .before .before .before .before .before .before .before .before .before .before .before .before .args in
+    by-cover _ (s .lengths) (s .table .now) (s .roster .now) (sym (c .before .before .before .before .before .before .before .before .before .before .before .before .size-wrong .ensures) ∙ c .before .before .before .before .before .before .before .before .before .before .before .if1 .left) (sym (c .before .before .before .before .before .before .before .before .before .before .length-wrong .ensures) ∙ c .before .before .before .before .before .before .before .before .before .if2 .left) (c .before .before .before .before .before .before .before .before .if3 .left) (sym (c .before .before .before .before .before .before .before .words-wrong .ensures) ∙ c .before .before .before .before .before .before .if4 .left) (sym (c .before .before .before .before .before .roster-wrong .ensures) ∙ c .before .before .before .before .if5 .left) (sym (c .before .before .before .codes-wrong .ensures) ∙ c .before .before .if6 .left) (sym (c .before .uncovered .ensures) ∙ c .if7 .taken)
+
+returns-8 : tie.Need-returns-8
+returns-8 c =
+    let s = c .before .before .before .before .before .before .before .before .before .before .before .before .before .before .before .args in
+    by-none _ (s .lengths) (s .table .now) (s .roster .now) (sym (c .before .before .before .before .before .before .before .before .before .before .before .before .size-wrong .ensures) ∙ c .before .before .before .before .before .before .before .before .before .before .before .if1 .left) (sym (c .before .before .before .before .before .before .before .before .before .before .length-wrong .ensures) ∙ c .before .before .before .before .before .before .before .before .before .if2 .left) (c .before .before .before .before .before .before .before .before .if3 .left) (sym (c .before .before .before .before .before .before .before .words-wrong .ensures) ∙ c .before .before .before .before .before .before .if4 .left) (sym (c .before .before .before .before .before .roster-wrong .ensures) ∙ c .before .before .before .before .if5 .left) (sym (c .before .before .before .codes-wrong .ensures) ∙ c .before .before .if6 .left) (sym (c .before .uncovered .ensures) ∙ c .if7 .left)
 
 pub table-refusal-spec : {M : Type 1} → statement M
 table-refusal-spec =
@@ -63,10 +73,12 @@ table-refusal-spec =
     length-wrong-requires
     returns-2
     returns-3
-    roster-wrong-requires
+    words-wrong-requires
     returns-4
-    codes-wrong-requires
+    roster-wrong-requires
     returns-5
-    uncovered-requires
+    codes-wrong-requires
     returns-6
-    returns-7)
+    uncovered-requires
+    returns-7
+    returns-8)

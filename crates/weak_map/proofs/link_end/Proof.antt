@@ -14,7 +14,7 @@ links-at-requires c κs = search needs
 returns : tie.Need-returns
 returns c =
     let s = c .before .before .before .before .before in
-    end-skipped (s .args .roster .now) (sideOf (s .args .sources)) (s .args .t) (s .args .map .now) (s .args .work .now)
+    end-skipped _ (s .args .roster .now) (sideOf (s .args .sources)) (s .args .t) (s .args .map .now) (s .args .work .now)
     (sym (c .before .links-at .ensures) ∙ not-true _ (c .if1 .taken))
 
 side-end-requires : tie.Need-side-end-requires
@@ -26,14 +26,14 @@ slot-requires c κs = search needs
 link-node-requires : tie.Need-link-node-requires
 link-node-requires c κs =
     let s = c .before .before .before .before .before .before .before .before .before in
-    end-node (s .args .roster .now) (sideOf (s .args .sources)) (s .args .t) (s .args .map .now) (s .args .work .now)
+    end-node _ (s .args .roster .now) (sideOf (s .args .sources)) (s .args .t) (s .args .map .now) (s .args .work .now)
     (sym (c .before .before .before .before .before .links-at .ensures) ∙ not-false _ (c .before .before .before .before .if1 .left)) _ _
     (c .before .before .slot .ensures) (c .before .before .before .side-end .ensures) (s .pre)
 
 own-entry-requires : tie.Need-own-entry-requires
 own-entry-requires c κs =
     let s = c .before .before .before .before .before .before .before .before .before .before .before .before .before .before .before in
-    end-inside (s .args .roster .now) (sideOf (s .args .sources)) (s .args .t) (s .args .map .now) (s .args .work .now)
+    end-inside _ (s .args .roster .now) (sideOf (s .args .sources)) (s .args .t) (s .args .map .now) (s .args .work .now)
     (sym (c .before .before .before .before .before .before .before .before .before .before .before .links-at .ensures) ∙ not-false _ (c .before .before .before .before .before .before .before .before .before .before .if1 .left))
     _ _ (c .before .before .before .before .before .before .before .before .slot .ensures)
     (c .before .before .before .before .before .before .before .before .before .side-end .ensures) _ _ (c .before .before .before .before .before .link-node .ensures)
@@ -48,7 +48,7 @@ same-length-2 c = search needs
 returns-2 : tie.Need-returns-2
 returns-2 c =
     let s = c .before .before .before .before .before .before .before .before .before .before .before .before .before .before .before .before .before .before in
-    end-both (s .args .roster .now) (sideOf (s .args .sources)) (s .args .t) (s .args .map .now) (s .args .work .now)
+    end-both _ (s .args .roster .now) (sideOf (s .args .sources)) (s .args .t) (s .args .map .now) (s .args .work .now)
     (sym (c .before .before .before .before .before .before .before .before .before .before .before .before .before .before .links-at .ensures) ∙ not-false _ (c .before .before .before .before .before .before .before .before .before .before .before .before .before .if1 .left))
     _ _ (c .before .before .before .before .before .before .before .before .before .before .before .slot .ensures)
     (c .before .before .before .before .before .before .before .before .before .before .before .before .side-end .ensures) _ _

@@ -11,10 +11,10 @@ use Rattle.weak_map.proofs.link_table.Statement.{statement}
 use Rattle.weak_map.proofs.link_table.Tie as tie
 
 abbrev Inv-loop : tie.InvT-loop
-Inv-loop table count roster map₀ work₀ i₀ map work i = (i ≤ count) × Linked roster (tabulate (at table) 0 count) (Seen table roster i i) map work
+Inv-loop words table count roster map₀ work₀ i₀ map work i = (i ≤ count) × Linked words roster (tabulate (at table) 0 count) (Seen words table roster i i) map work
 
 abbrev μ-loop : tie.MeasureT-loop
-μ-loop table count roster map₀ work₀ i₀ map work i = count - i
+μ-loop words table count roster map₀ work₀ i₀ map work i = count - i
 
 loop-holds : tie.Need-loop-holds Inv-loop μ-loop
 loop-holds c = (omega arith, c .before .before .before .before .pre .linked)
@@ -22,12 +22,12 @@ loop-holds c = (omega arith, c .before .before .before .before .pre .linked)
 triple-at-requires : tie.Need-triple-at-requires Inv-loop μ-loop
 triple-at-requires c κs =
     let s = c .before .before .before .before .before .before in
-    place-inside (s .args .table .now) (s .args .count) (s .args .roster .now) (s .pre .places) _ (c .loop-test .taken)
+    place-inside (s .args .words) (s .args .table .now) (s .args .count) (s .args .roster .now) (s .pre .places) _ (c .loop-test .taken)
 
 link-end-requires : tie.Need-link-end-requires Inv-loop μ-loop
 link-end-requires c κs =
     let s = c .before .before .before .before .before .before .before .before .before in
-    source-linkable (s .args .table .now) (s .args .count) (s .args .roster .now) (s .pre .right) _ (c .before .before .before .loop-test .taken) _
+    source-linkable _ (s .args .table .now) (s .args .count) (s .args .roster .now) (s .pre .right) _ (c .before .before .before .loop-test .taken) _
     (c .before .before .triple-at .ensures) _ _ (c .before .before .before .before .loop .inv .1)
 
 link-end-requires-2 : tie.Need-link-end-requires-2 Inv-loop μ-loop
@@ -35,8 +35,8 @@ link-end-requires-2 c κs =
     let s = c .before .before .before .before .before .before .before .before .before .before .before .before .before .before .before .before in
     let h = c .before .before .before .before .before .before .before .before .before .before .loop-test .taken in
     let t = c .before .before .before .before .before .before .before .before .before .triple-at .ensures in
-    target-linkable (s .args .table .now) (s .args .count) (s .args .roster .now) (s .pre .right) _ h _ t _ _
-    (source-linked (s .args .table .now) (s .args .count) (s .args .roster .now) (s .pre .right) _ h _ t _ _ (c .before .before .before .before .before .before .before .before .before .before .before .loop .inv .1) _ _ (c .before .before .before .before .before .before .link-end .ensures))
+    target-linkable _ (s .args .table .now) (s .args .count) (s .args .roster .now) (s .pre .right) _ h _ t _ _
+    (source-linked _ (s .args .table .now) (s .args .count) (s .args .roster .now) (s .pre .right) _ h _ t _ _ (c .before .before .before .before .before .before .before .before .before .before .before .loop .inv .1) _ _ (c .before .before .before .before .before .before .link-end .ensures))
 
 add-i : tie.Need-add-i Inv-loop μ-loop
 add-i c = omega arith
@@ -50,8 +50,8 @@ loop-again c =
     let h = c .before .before .before .before .before .before .before .before .before .before .before .before .before .before .before .loop-test .taken in
     let t = c .before .before .before .before .before .before .before .before .before .before .before .before .before .before .triple-at .ensures in (
       omega arith,
-      target-linked (s .args .table .now) (s .args .count) (s .args .roster .now) (s .pre .right) _ h _ t _ _
-          (source-linked (s .args .table .now) (s .args .count) (s .args .roster .now) (s .pre .right) _ h _ t _ _ (c .before .before .before .before .before .before .before .before .before .before .before .before .before .before .before .before .loop .inv .1) _ _ (c .before .before .before .before .before .before .before .before .before .before .before .link-end .ensures))
+      target-linked _ (s .args .table .now) (s .args .count) (s .args .roster .now) (s .pre .right) _ h _ t _ _
+          (source-linked _ (s .args .table .now) (s .args .count) (s .args .roster .now) (s .pre .right) _ h _ t _ _ (c .before .before .before .before .before .before .before .before .before .before .before .before .before .before .before .before .loop .inv .1) _ _ (c .before .before .before .before .before .before .before .before .before .before .before .link-end .ensures))
           _ _ (c .before .before .before .before .link-end2 .ensures),
     )
 
@@ -64,7 +64,7 @@ same-length-2 c = c .before .loop .inv .1 .size ∙ sym (c .before .before .befo
 returns : tie.Need-returns Inv-loop μ-loop
 returns c =
     let s = c .before .before .before .before .before .before in
-    linked-all (s .args .table .now) (s .args .count) (s .args .roster .now) (s .pre .right) _ _ _ (c .before .loop .inv .0) (c .loop-test .left)
+    linked-all _ (s .args .table .now) (s .args .count) (s .args .roster .now) (s .pre .right) _ _ _ (c .before .loop .inv .0) (c .loop-test .left)
     (c .before .loop .inv .1)
 
 pub link-table-spec : {M : Type 1} → statement M

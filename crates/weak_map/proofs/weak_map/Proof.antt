@@ -15,18 +15,18 @@ empty-requires-2 c κs = search needs
 open-nodes-requires : tie.Need-open-nodes-requires
 open-nodes-requires c κs =
     let s = c .before .before .before .before .before .before .before .before .before .before .before .before .before in
-    openable (s .args .table .now) (s .args .count) (s .args .roster .now) (s .args .map .now) (s .args .work .now) (s .pre) _
+    openable _ (s .args .table .now) (s .args .count) (s .args .roster .now) (s .args .map .now) (s .args .work .now) (s .pre) _
     (c .before .before .before .before .before .before .before .empty .ensures)
 
 link-table-requires : tie.Need-link-table-requires
 link-table-requires c κs =
     let s = c .before .before .before .before .before .before .before .before .before .before .before .before .before .before .before .before .before .before in
-    started (s .args .table .now) (s .args .count) (s .args .roster .now) (s .args .map .now) (s .args .work .now) (s .pre) _
+    started _ (s .args .table .now) (s .args .count) (s .args .roster .now) (s .args .map .now) (s .args .work .now) (s .pre) _
     (c .before .before .before .before .before .before .before .before .before .before .before .before .empty .ensures) _
     (c .before .before .before .before .before .before .before .before .empty2 .ensures) _ (c .before .before .before .before .open-nodes .ensures)
 
 join-bare-requires : tie.Need-join-bare-requires
-join-bare-requires c κs = record { ts = _; state = c .before .before .before .before .before .before .link-table .ensures }
+join-bare-requires c κs = record { words = _; ts = _; state = c .before .before .before .before .before .before .link-table .ensures }
 
 flatten-requires : tie.Need-flatten-requires
 flatten-requires c κs = search needs
@@ -43,9 +43,9 @@ same-length-2 c = search needs
 returns : tie.Need-returns
 returns c =
     let s = c .before .before .before .before .before .before .before .before .before .before .before .before .before .before .before .before .before .before .before .before .before .before .before .before .before .before .before .before .before .before .before .before .before .before .before .before in
-    called (s .args .table .now) (s .args .count) (s .args .roster .now) (s .args .map .now) (s .args .work .now) (s .pre) _ _ _ _ _ _
+    called _ (s .args .table .now) (s .args .count) (s .args .roster .now) (s .args .map .now) (s .args .work .now) (s .pre) _ _ _ _ _ _
     (c .before .before .before .before .before .before .before .before .before .before .before .before .before .before .before .before .before .link-table .ensures)
-    (c .before .before .before .before .before .before .before .before .before .before .join-bare .ensures _ (c .before .before .before .before .before .before .before .before .before .before .before .before .before .before .before .before .before .link-table .ensures))
+    (c .before .before .before .before .before .before .before .before .before .before .join-bare .ensures _ _ (c .before .before .before .before .before .before .before .before .before .before .before .before .before .before .before .before .before .link-table .ensures))
     (c .before .before .before .before .before .before .flatten .ensures) (c .before .before .clear .ensures) (omega arith)
 
 pub weak-map-spec : {M : Type 1} → statement M

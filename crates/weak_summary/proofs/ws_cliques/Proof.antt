@@ -1,10 +1,20 @@
 -- `weak_summary::ws_cliques` meets its contract.
 -- Assumes nothing.
-use mathlib.Core.Path.{_∙_, ap}
+use mathlib.Core.Path.{_∙_, ap, refl}
 use borrow.Author.Needs.{needs}
+use Rattle.weak_summary.proofs.Words.{one, by-wrong, by-right}
 use Rattle.weak_summary.specs.Status.{statusOf}
 use Rattle.weak_summary.proofs.ws_cliques.Statement.{statement}
 use Rattle.weak_summary.proofs.ws_cliques.Tie as tie
+
+refusal-number-requires : tie.Need-refusal-number-requires
+refusal-number-requires c κs = search needs
+
+returns : tie.Need-returns
+returns c = by-wrong (c .before .if1 .taken) (one (c .refusal-number .ensures), refl, refl)
+
+words-of-requires : tie.Need-words-of-requires
+words-of-requires c κs = c .if1 .left
 
 cliques-requires : tie.Need-cliques-requires
 cliques-requires c κs = search needs
@@ -18,9 +28,18 @@ same-length c = search needs
 same-length-2 : tie.Need-same-length-2
 same-length-2 c = search needs
 
-returns : tie.Need-returns
-returns c = (c .done-status .ensures ∙ ap statusOf (c .before .before .before .before .before .cliques .ensures .answer), c .before .before .before .before .before .cliques .ensures .in-sources, c .before .before .before .before .before .cliques .ensures .in-targets)
+returns-2 : tie.Need-returns-2
+returns-2 c = by-right (c .before .before .before .before .before .before .before .before .before .if1 .left) _ (c .before .before .before .before .before .before .before .before .words-of .ensures) (c .done-status .ensures ∙ ap statusOf (c .before .before .before .before .before .cliques .ensures .answer), c .before .before .before .before .before .cliques .ensures .in-sources, c .before .before .before .before .before .cliques .ensures .in-targets)
 
 pub ws-cliques-spec : {M : Type 1} → statement M
 ws-cliques-spec =
-    tie.close (tie.spec cliques-requires done-status-requires same-length same-length-2 returns)
+    tie.close
+    (tie.spec
+    refusal-number-requires
+    returns
+    words-of-requires
+    cliques-requires
+    done-status-requires
+    same-length
+    same-length-2
+    returns-2)

@@ -1,9 +1,20 @@
 -- `weak_summary::ws_feed` meets its contract.
 -- Assumes nothing.
+use mathlib.Core.Path.{refl}
 use borrow.Author.Needs.{needs}
+use Rattle.weak_summary.proofs.Words.{one, by-wrong, by-right}
 use Rattle.model.specs.Outcomes.{found}
 use Rattle.weak_summary.proofs.ws_feed.Statement.{statement}
 use Rattle.weak_summary.proofs.ws_feed.Tie as tie
+
+refusal-number-requires : tie.Need-refusal-number-requires
+refusal-number-requires c κs = search needs
+
+returns : tie.Need-returns
+returns c = by-wrong (c .before .if1 .taken) (one (c .refusal-number .ensures), refl, refl, refl)
+
+words-of-requires : tie.Need-words-of-requires
+words-of-requires c κs = c .if1 .left
 
 feed-lists-requires : tie.Need-feed-lists-requires
 feed-lists-requires c κs = search needs
@@ -23,19 +34,21 @@ same-length-3 c = search needs
 same-length-4 : tie.Need-same-length-4
 same-length-4 c = search needs
 
-returns : tie.Need-returns
-returns c =
-    let f = c .before .before .before .before .before .before .before .before .before .before .feed-lists in
-    record { outcome = found (f .result .answer); fed = f .ensures; stores = c .found-status .ensures }
+returns-2 : tie.Need-returns-2
+returns-2 c = let f = c .before .before .before .before .before .before .before .before .before .before .feed-lists in
+    by-right (c .before .before .before .before .before .before .before .before .before .before .before .before .before .before .before .before .before .before .if1 .left) _ (c .before .before .before .before .before .before .before .before .before .before .before .before .before .before .before .before .before .words-of .ensures) (record { outcome = found (f .result .answer); fed = f .ensures; stores = c .found-status .ensures })
 
 pub ws-feed-spec : {M : Type 1} → statement M
 ws-feed-spec =
     tie.close
     (tie.spec
+    refusal-number-requires
+    returns
+    words-of-requires
     feed-lists-requires
     found-status-requires
     same-length
     same-length-2
     same-length-3
     same-length-4
-    returns)
+    returns-2)

@@ -2,7 +2,7 @@
 -- Assumes nothing.
 use borrow.Author.Needs.{needs}
 use Rattle.weak_summary.specs.Calls.{lent}
-use Rattle.weak_summary.proofs.Calls.{read-length, read-status}
+use Rattle.weak_summary.proofs.Calls.{wrong-queries, wrong-words, right-lengths, read-length, read-status}
 use Rattle.weak_summary.proofs.ws_read.Statement.{statement}
 use Rattle.weak_summary.proofs.ws_read.Tie as tie
 
@@ -10,13 +10,22 @@ refusal-number-requires : tie.Need-refusal-number-requires
 refusal-number-requires c κs = search needs
 
 returns : tie.Need-returns
-returns c = let a = c .before .before .before .before .before .args in read-length (a .text .now) (lent (a .list .now) (a .queries .now) (a .n .now) (a .count .now) (a .asks .now)) _ (c .before .if1 .taken) (c .refusal-number .ensures)
+returns c = let a = c .before .before .before .before .before .before .args in let s = lent (a .list .now) (a .queries .now) (a .words .now) (a .n .now) (a .count .now) (a .asks .now) in read-length (a .text .now) s _ (wrong-queries (a .text .now) s (c .before .if1 .taken)) (c .refusal-number .ensures)
+
+refusal-number-requires-2 : tie.Need-refusal-number-requires-2
+refusal-number-requires-2 c κs = search needs
+
+returns-2 : tie.Need-returns-2
+returns-2 c = let a = c .before .before .before .before .before .before .before .args in let s = lent (a .list .now) (a .queries .now) (a .words .now) (a .n .now) (a .count .now) (a .asks .now) in read-length (a .text .now) s _ (wrong-words (a .text .now) s (c .before .before .if1 .left) (c .before .if2 .taken)) (c .refusal-number2 .ensures)
 
 read-requires : tie.Need-read-requires
 read-requires c κs = search needs
 
 put-queries-requires : tie.Need-put-queries-requires
 put-queries-requires c κs = search needs
+
+put-words-requires : tie.Need-put-words-requires
+put-words-requires c κs = search needs
 
 form-status-requires : tie.Need-form-status-requires
 form-status-requires c κs = search needs
@@ -27,10 +36,11 @@ same-length c = search needs
 same-length-2 : tie.Need-same-length-2
 same-length-2 c = search needs
 
-returns-2 : tie.Need-returns-2
-returns-2 c =
-    let a = c .before .before .before .before .before .before .before .before .before .before .before .before .before .before .before .args in
-    read-status (a .text .now) (lent (a .list .now) (a .queries .now) (a .n .now) (a .count .now) (a .asks .now)) (c .before .before .before .before .before .before .before .before .before .before .before .if1 .left) (c .before .before .before .before .before .before .before .before .before .read .result) _ (c .before .before .before .before .before .before .before .before .before .read .ensures) _ (c .before .before .before .put-queries .ensures) _ (c .form-status .ensures)
+same-length-3 : tie.Need-same-length-3
+same-length-3 c = search needs
+
+returns-3 : tie.Need-returns-3
+returns-3 c = let a = c .before .before .before .before .before .before .before .before .before .before .before .before .before .before .before .before .before .before .before .before .before .before .args in let s = lent (a .list .now) (a .queries .now) (a .words .now) (a .n .now) (a .count .now) (a .asks .now) in read-status (a .text .now) s (right-lengths (a .text .now) s (c .before .before .before .before .before .before .before .before .before .before .before .before .before .before .before .before .before .if1 .left) (c .before .before .before .before .before .before .before .before .before .before .before .before .before .before .before .before .if2 .left)) (c .before .before .before .before .before .before .before .before .before .before .before .before .before .before .read .result) _ (c .before .before .before .before .before .before .before .before .before .before .before .before .before .before .read .ensures) _ (c .before .before .before .before .before .before .before .before .put-queries .ensures) _ (c .before .before .before .put-words .ensures) _ (c .form-status .ensures)
 
 pub ws-read-spec : {M : Type 1} → statement M
 ws-read-spec =
@@ -38,9 +48,13 @@ ws-read-spec =
     (tie.spec
     refusal-number-requires
     returns
+    refusal-number-requires-2
+    returns-2
     read-requires
     put-queries-requires
+    put-words-requires
     form-status-requires
     same-length
     same-length-2
-    returns-2)
+    same-length-3
+    returns-3)

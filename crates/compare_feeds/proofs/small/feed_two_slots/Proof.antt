@@ -8,12 +8,16 @@ use Rattle.compare_feeds.proofs.small.feed_two_slots.Reads as reads
 use Rattle.compare_feeds.proofs.small.feed_two_slots.Lts as lts
 use Rattle.compare_feeds.proofs.feeds.opened.Reads as opened-reads
 use Rattle.compare_feeds.proofs.small.feed.Reads as feed-reads
+use Rattle.lists.proofs.rdfs_words.Reads as rdfs-words-reads
 
 abbrev Inv-loop : tie.InvT-loop
 Inv-loop tally₀ list roster triples₀ summary₀ map₀ h₀ state₀ i₀ tally triples summary map h state i = (length triples ≡ length triples₀) × (length summary ≡ length summary₀) × (length map ≡ length map₀) × (length h ≡ length h₀)
 
 abbrev μ-loop : tie.MeasureT-loop
 μ-loop tally₀ list roster triples₀ summary₀ map₀ h₀ state₀ i₀ tally triples summary map h state i = 10 - i
+
+rdfs-words-requires : tie.Need-rdfs-words-requires Inv-loop μ-loop
+rdfs-words-requires c κs = search needs
 
 opened-requires : tie.Need-opened-requires Inv-loop μ-loop
 opened-requires c κs = search needs
@@ -54,6 +58,7 @@ feed-two-slots-spec =
     (tie.spec
     Inv-loop
     μ-loop
+    rdfs-words-requires
     opened-requires
     loop-holds
     feed-requires

@@ -10,7 +10,7 @@ abbrev Inv-loop : tie.InvT-loop
 Inv-loop tally call number₀ number = Unit {0}
 
 abbrev μ-loop : tie.MeasureT-loop
-μ-loop tally call number₀ number = 9 - number
+μ-loop tally call number₀ number = 15 - number
 
 loop-holds : tie.Need-loop-holds Inv-loop μ-loop
 loop-holds c = search needs

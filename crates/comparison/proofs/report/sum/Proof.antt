@@ -11,7 +11,7 @@ abbrev Inv-loop : tie.InvT-loop
 Inv-loop tally call total₀ column₀ total column = Unit {0}
 
 abbrev μ-loop : tie.MeasureT-loop
-μ-loop tally call total₀ column₀ total column = 10 - column
+μ-loop tally call total₀ column₀ total column = 16 - column
 
 loop-holds : tie.Need-loop-holds Inv-loop μ-loop
 loop-holds c = search needs

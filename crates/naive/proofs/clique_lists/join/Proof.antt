@@ -10,10 +10,10 @@ use Rattle.naive.proofs.clique_lists.join_pair.Reads as join-pair-reads
 use Rattle.naive.proofs.flat.triple_at.Reads as triple-at-reads
 
 abbrev Inv-loop : tie.InvT-loop
-Inv-loop table roster sources list₀ i t count changed₀ j₀ list changed j = (length list ≡ length list₀)
+Inv-loop words table roster sources list₀ i t count changed₀ j₀ list changed j = (length list ≡ length list₀)
 
 abbrev μ-loop : tie.MeasureT-loop
-μ-loop table roster sources list₀ i t count changed₀ j₀ list changed j = count - j
+μ-loop words table roster sources list₀ i t count changed₀ j₀ list changed j = count - j
 
 triple-at-requires : tie.Need-triple-at-requires Inv-loop μ-loop
 triple-at-requires c κs = search needs

@@ -9,10 +9,10 @@ use Rattle.naive.proofs.clique_lists.join_all.Lts as lts
 use Rattle.naive.proofs.clique_lists.join.Reads as join-reads
 
 abbrev Inv-loop : tie.InvT-loop
-Inv-loop table roster sources list₀ count changed₀ i₀ list changed i = (length list ≡ length list₀)
+Inv-loop words table roster sources list₀ count changed₀ i₀ list changed i = (length list ≡ length list₀)
 
 abbrev μ-loop : tie.MeasureT-loop
-μ-loop table roster sources list₀ count changed₀ i₀ list changed i = count - i
+μ-loop words table roster sources list₀ count changed₀ i₀ list changed i = count - i
 
 loop-holds : tie.Need-loop-holds Inv-loop μ-loop
 loop-holds c = search needs

@@ -10,10 +10,10 @@ use Rattle.naive.proofs.clique_lists.join_all.Reads as join-all-reads
 use Rattle.naive.proofs.clique_lists.start.Reads as start-reads
 
 abbrev Inv-loop : tie.InvT-loop
-Inv-loop table roster sources list₀ count rounds₀ list rounds = (length list ≡ length list₀)
+Inv-loop words table roster sources list₀ count rounds₀ list rounds = (length list ≡ length list₀)
 
 abbrev μ-loop : tie.MeasureT-loop
-μ-loop table roster sources list₀ count rounds₀ list rounds = count - rounds
+μ-loop words table roster sources list₀ count rounds₀ list rounds = count - rounds
 
 start-requires : tie.Need-start-requires Inv-loop μ-loop
 start-requires c κs = search needs

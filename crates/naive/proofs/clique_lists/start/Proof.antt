@@ -11,10 +11,10 @@ use Rattle.naive.proofs.flat.fill.Reads as fill-reads
 use Rattle.naive.proofs.flat.triple_at.Reads as triple-at-reads
 
 abbrev Inv-loop : tie.InvT-loop
-Inv-loop table roster sources list₀ count i₀ list i = (length list ≡ length list₀)
+Inv-loop words table roster sources list₀ count i₀ list i = (length list ≡ length list₀)
 
 abbrev μ-loop : tie.MeasureT-loop
-μ-loop table roster sources list₀ count i₀ list i = count - i
+μ-loop words table roster sources list₀ count i₀ list i = count - i
 
 fill-requires : tie.Need-fill-requires Inv-loop μ-loop
 fill-requires c κs = search needs

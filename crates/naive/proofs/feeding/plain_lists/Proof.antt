@@ -14,10 +14,10 @@ use Rattle.naive.proofs.flat.triple_at.Reads as triple-at-reads
 use Rattle.naive.proofs.summary.summarise.Reads as summarise-reads
 
 abbrev Inv-loop : tie.InvT-loop
-Inv-loop h roster triples₀ summary map work count answer₀ i₀ triples answer i = (length triples ≡ length triples₀)
+Inv-loop words h roster triples₀ summary map work count answer₀ i₀ triples answer i = (length triples ≡ length triples₀)
 
 abbrev μ-loop : tie.MeasureT-loop
-μ-loop h roster triples₀ summary map work count answer₀ i₀ triples answer i = count - i
+μ-loop words h roster triples₀ summary map work count answer₀ i₀ triples answer i = count - i
 
 fill-requires : tie.Need-fill-requires Inv-loop μ-loop
 fill-requires c κs = search needs

@@ -8,10 +8,10 @@ use Rattle.naive.proofs.refusals.triple_wrong.Reads as triple-wrong-rea
 use Rattle.naive.proofs.flat.triple_at.Reads as triple-at-reads
 
 abbrev Inv-loop : tie.InvT-loop
-Inv-loop table n count i₀ i = Unit {0}
+Inv-loop words table n count i₀ i = Unit {0}
 
 abbrev μ-loop : tie.MeasureT-loop
-μ-loop table n count i₀ i = count - i
+μ-loop words table n count i₀ i = count - i
 
 loop-holds : tie.Need-loop-holds Inv-loop μ-loop
 loop-holds c = search needs

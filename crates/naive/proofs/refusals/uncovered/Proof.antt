@@ -8,10 +8,10 @@ use Rattle.naive.proofs.refusals.covered.Reads as covered-reads
 use Rattle.naive.proofs.flat.triple_at.Reads as triple-at-reads
 
 abbrev Inv-loop : tie.InvT-loop
-Inv-loop table roster count i₀ i = Unit {0}
+Inv-loop words table roster count i₀ i = Unit {0}
 
 abbrev μ-loop : tie.MeasureT-loop
-μ-loop table roster count i₀ i = count - i
+μ-loop words table roster count i₀ i = count - i
 
 loop-holds : tie.Need-loop-holds Inv-loop μ-loop
 loop-holds c = search needs

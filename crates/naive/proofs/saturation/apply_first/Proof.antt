@@ -10,10 +10,10 @@ use Rattle.naive.proofs.flat.triple_at.Reads as triple-at-reads
 use Rattle.naive.proofs.saturation.apply.Reads as apply-reads
 
 abbrev Inv-loop : tie.InvT-loop
-Inv-loop list₀ i count answer₀ j₀ list answer j = (length list ≡ length list₀)
+Inv-loop words list₀ i count answer₀ j₀ list answer j = (length list ≡ length list₀)
 
 abbrev μ-loop : tie.MeasureT-loop
-μ-loop list₀ i count answer₀ j₀ list answer j = count - j
+μ-loop words list₀ i count answer₀ j₀ list answer j = count - j
 
 loop-holds : tie.Need-loop-holds Inv-loop μ-loop
 loop-holds c = search needs

@@ -9,10 +9,10 @@ use Rattle.naive.proofs.saturation.close.Lts as lts
 use Rattle.naive.proofs.saturation.round.Reads as round-reads
 
 abbrev Inv-loop : tie.InvT-loop
-Inv-loop list₀ slots answer₀ rounds₀ list answer rounds = (length list ≡ length list₀)
+Inv-loop words list₀ slots answer₀ rounds₀ list answer rounds = (length list ≡ length list₀)
 
 abbrev μ-loop : tie.MeasureT-loop
-μ-loop list₀ slots answer₀ rounds₀ list answer rounds = slots + 1 - rounds
+μ-loop words list₀ slots answer₀ rounds₀ list answer rounds = slots + 1 - rounds
 
 loop-holds : tie.Need-loop-holds Inv-loop μ-loop
 loop-holds c = search needs

@@ -9,10 +9,10 @@ use Rattle.naive.proofs.saturation.round.Lts as lts
 use Rattle.naive.proofs.saturation.apply_first.Reads as apply-first-reads
 
 abbrev Inv-loop : tie.InvT-loop
-Inv-loop list₀ count answer₀ i₀ list answer i = (length list ≡ length list₀)
+Inv-loop words list₀ count answer₀ i₀ list answer i = (length list ≡ length list₀)
 
 abbrev μ-loop : tie.MeasureT-loop
-μ-loop list₀ count answer₀ i₀ list answer i = count - i
+μ-loop words list₀ count answer₀ i₀ list answer i = count - i
 
 loop-holds : tie.Need-loop-holds Inv-loop μ-loop
 loop-holds c = search needs

@@ -10,10 +10,10 @@ use Rattle.naive.proofs.flat.entry.Reads as entry-reads
 use Rattle.naive.proofs.flat.triple_at.Reads as triple-at-reads
 
 abbrev Inv-loop : tie.InvT-loop
-Inv-loop table cliques sources node count i₀ i = Unit {0}
+Inv-loop words table cliques sources node count i₀ i = Unit {0}
 
 abbrev μ-loop : tie.MeasureT-loop
-μ-loop table cliques sources node count i₀ i = count - i
+μ-loop words table cliques sources node count i₀ i = count - i
 
 loop-holds : tie.Need-loop-holds Inv-loop μ-loop
 loop-holds c = search needs
@@ -21,11 +21,11 @@ loop-holds c = search needs
 triple-at-requires : tie.Need-triple-at-requires Inv-loop μ-loop
 triple-at-requires c κs = search needs
 
-is-data-requires : tie.Need-is-data-requires Inv-loop μ-loop
-is-data-requires c κs = search needs
-
 end-of-requires : tie.Need-end-of-requires Inv-loop μ-loop
 end-of-requires c κs = search needs
+
+is-data-requires : tie.Need-is-data-requires Inv-loop μ-loop
+is-data-requires c κs = search needs
 
 entry-requires : tie.Need-entry-requires Inv-loop μ-loop
 entry-requires c κs = search needs
@@ -53,8 +53,8 @@ clique-of-spec =
     μ-loop
     loop-holds
     triple-at-requires
-    is-data-requires
     end-of-requires
+    is-data-requires
     entry-requires
     returns
     add-i

@@ -1,10 +1,10 @@
 use borrow.Author.Needs.{needs}
 use Prim.Native.Nat.{_-_}
 use lib.ListN.{length}
-use Rattle.naive.proofs.refusals.roster_wrong.Statement.{statement}
-use Rattle.naive.proofs.refusals.roster_wrong.Tie as tie
-use Rattle.naive.proofs.refusals.roster_wrong.Reads as reads
-use Rattle.naive.proofs.refusals.roster_wrong.Lts as lts
+use Rattle.naive.proofs.refusals.value_wrong.Statement.{statement}
+use Rattle.naive.proofs.refusals.value_wrong.Tie as tie
+use Rattle.naive.proofs.refusals.value_wrong.Reads as reads
+use Rattle.naive.proofs.refusals.value_wrong.Lts as lts
 
 abbrev Inv-loop : tie.InvT-loop
 Inv-loop roster i₀ i = Unit {0}
@@ -21,12 +21,6 @@ shared-slice-read-if1 c = search needs
 returns : tie.Need-returns Inv-loop μ-loop
 returns c = search needs
 
-shared-slice-read-if3 : tie.Need-shared-slice-read-if3 Inv-loop μ-loop
-shared-slice-read-if3 c = search needs
-
-returns-2 : tie.Need-returns-2 Inv-loop μ-loop
-returns-2 c = search needs
-
 add-i : tie.Need-add-i Inv-loop μ-loop
 add-i c = search needs
 
@@ -36,11 +30,11 @@ loop-less c = search needs
 loop-again : tie.Need-loop-again Inv-loop μ-loop
 loop-again c = search needs
 
-returns-3 : tie.Need-returns-3 Inv-loop μ-loop
-returns-3 c = search needs
+returns-2 : tie.Need-returns-2 Inv-loop μ-loop
+returns-2 c = search needs
 
-pub roster-wrong-spec : {M : Type 1} → statement M
-roster-wrong-spec =
+pub value-wrong-spec : {M : Type 1} → statement M
+value-wrong-spec =
     tie.close
     (tie.spec
     Inv-loop
@@ -48,9 +42,7 @@ roster-wrong-spec =
     loop-holds
     shared-slice-read-if1
     returns
-    shared-slice-read-if3
-    returns-2
     add-i
     loop-less
     loop-again
-    returns-3)
+    returns-2)
