@@ -121,7 +121,7 @@ fn clear_nodes(roster: &[u8], list: &mut [u32])
 }
 
 // The clique list of a side.
-fn clique_side(words: Vocabulary, table: &[u32], roster: &[u8], sources: bool, list: &mut [u32])
+pub fn clique_side(words: Vocabulary, table: &[u32], roster: &[u8], sources: bool, list: &mut [u32])
     requires { ⌜ Right words (now roster) (triples (now table)) × (length (now list) ≡ length (now roster)) ⌝ }
     ensures { λ r. ⌜ now (list .exit) ≡ cliques words (now (roster .entry)) (sideOf sources) (triples (now (table .entry))) ⌝ }
 {

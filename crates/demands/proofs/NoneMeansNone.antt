@@ -43,5 +43,5 @@ module _ (v : Vocabulary) where
       let map = mapOf v roster sat in
       let p = answered-passes (flat sum) map q e in
       let choice = match-carried (label map) sat sum map q
-      (λ t n. (summaries.summary-exact v roster sat (moved (label map) t)) .1 (t, n, refl)) (λ c l n. refl) (query-right (flat sum) map q p) m in
+      (λ t n. (summaries.condensed-exact _ sat (moved (label map) t)) .1 (t, n, refl)) (λ c l n. refl) (query-right (flat sum) map q p) m in
       (ask-exact v (flat sum) map q p) .none .0 e (subst (λ (us : List Triple). Choice us map q) (sym (triples-flat sum)) choice)

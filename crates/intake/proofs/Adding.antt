@@ -35,7 +35,7 @@ use Rattle.theory.proofs.Saturated.{In}
 use Rattle.theory.proofs.Flat.{length-listed}
 use Rattle.theory.proofs.Mapped.{node-or, map-absent, length-map-of}
 use Rattle.theory.proofs.Accepted.{Right, size-bounds}
-use Rattle.theory.proofs.Feeding.{summary-length}
+use Rattle.theory.proofs.Summaries.{condensed-length}
 use Rattle.table_checks.proofs.Laws.{enough, left-after}
 use Rattle.lists.specs.Flat.{at, RisingPart, Bound, Cleared}
 use Rattle.lists.proofs.Places.{rising-places}
@@ -197,7 +197,7 @@ module _ (v : Vocabulary) where
           ts = first m (held + 1)
 
           few-enough : 3 * length (summary v roster ts) ≤ length sums
-          few-enough = omega (arith, summary-length v roster ts, length-tabulate (at m) 0 (held + 1), R .equal, free)
+          few-enough = omega (arith, condensed-length (mapOf v roster ts) ts, length-tabulate (at m) 0 (held + 1), R .equal, free)
 
           ok : condensedOutcome v roster ts sums ≡ accepted (length (summary v roster ts))
           unfolding slots

@@ -20,7 +20,7 @@ use Rattle.theory.proofs.Covered.{Below, AllBelow, Marked, Plain, by-mark}
 use Rattle.theory.proofs.Saturated.{In}
 use Rattle.theory.proofs.Weak.{node-map, HasData, data-map, Weak, by-side, by-none, itself, turned, chained, weak-nodes, weak-data, weak-map, has-node, Reps}
 use Rattle.theory.proofs.Mapped.{map-reps, map-absent, length-map-of}
-use Rattle.theory.proofs.Summaries.{summary-rising, summary-exact, summary-unique, map-unique}
+use Rattle.theory.proofs.Summaries.{condensed-rising, condensed-exact, condensed-unique, map-unique}
 
 module _ (v : Vocabulary) (roster : List ℕ) (ts : List Triple) (t : Triple) (below : AllBelow (length roster) ts) (right : Below (length roster) t) (room : length roster ≤ absent)
     (subject : Node (In ts) (t .subject)) (object : Node (In ts) (t .object)) (known : Mem (moved (label (mapOf v roster ts)) t) (summary v roster ts)) where
@@ -38,7 +38,7 @@ module _ (v : Vocabulary) (roster : List ℕ) (ts : List Triple) (t : Triple) (b
 
   -- a held triple with the same image
   abbrev image : Image f G (moved f t)
-  image = (summary-exact v roster ts (moved f t)) .0 known
+  image = (condensed-exact _ ts (moved f t)) .0 known
 
   abbrev u : Triple
   u = image .0
@@ -163,8 +163,8 @@ module _ (v : Vocabulary) (roster : List ℕ) (ts : List Triple) (t : Triple) (b
 
   pub quick-summary : summary v roster ts ≡ summary v roster (insert t ts)
   quick-summary =
-      summary-unique v roster (insert t ts) (summary v roster ts) (summary-rising v roster ts)
+      condensed-unique _ (insert t ts) (summary v roster ts) (condensed-rising _ ts)
       (λ x.
-      let s = summary-exact v roster ts x in
+      let s = condensed-exact _ ts x in
       subst (λ (m : List ℕ). mathlib.Core.Logic._↔_ (Mem x (summary v roster ts)) (Image (label m) H x)) quick-map
       (λ m. let w = s .0 m in (w .0, kept (w .0) (w .1), w .2), λ w. s .1 (images x w)))

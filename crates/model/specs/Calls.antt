@@ -1,4 +1,4 @@
--- The calls on tables: own roster, saturate, cliques, summarise, look up. For each its outcome and the contents of every lent list
+-- The calls on tables: own roster, saturate, cliques, summarise, weak and strong, look up. For each its outcome and the contents of every lent list
 -- after it, as functions of the contents before.
 -- 01: "Own roster uses 1 and 3; cliques 1 to 4; saturation and summarise 1 to 5; .. look up 1"; 02: "It refuses with 10 a word table in which
 -- two codes are equal or one is not below N, straight after 1, with nothing altered."
@@ -16,8 +16,8 @@ use Rattle.model.specs.Triples.{triples, slots, holds, listed}
 use Rattle.model.specs.Roster.{covers, ownRoster, wrongRoster, wrongCodes}
 use Rattle.model.specs.Saturation.{saturation}
 use Rattle.model.specs.Cliques.{Side, source, target, cliques}
-use Rattle.model.specs.Classes.{mapOf}
-use Rattle.model.specs.Summary.{summary}
+use Rattle.model.specs.Classes.{mapOf, strongMapOf}
+use Rattle.model.specs.Summary.{condensed}
 use Rattle.model.specs.Outcomes.{Outcome, Check, check, checked, Passes, left, wrongSize, wrongLength, wrongWork}
 
 module _ (v : Vocabulary) where
@@ -73,10 +73,10 @@ module _ (v : Vocabulary) where
   cliquesLeave target table roster sources targets =
       left (cliquesOutcome table roster sources targets) targets (cliques v roster target (triples table))
 
-  -- ── summarise: table, roster, result (lent), map (lent), work (lent) ──
-  unfoldable pub summariseOutcome : List ℕ → List ℕ → List ℕ → List ℕ → List ℕ → Outcome ℕ
-  summariseOutcome table roster result map work =
-      let sum = summary v roster (triples table) in
+  -- ── summarise, by a map m of the table's nodes: table, roster, result (lent), map (lent), work (lent) ──
+  unfoldable pub summariseOutcomeBy : List ℕ → List ℕ → List ℕ → List ℕ → List ℕ → List ℕ → Outcome ℕ
+  summariseOutcomeBy m table roster result map work =
+      let sum = condensed m (triples table) in
       checked
       (tableChecks (not (eqb (length map) (length roster)) || wrongWork (length roster) (length work)) table roster
       ++ check 5 (ltb (slots result) (length sum)) ∷ [])
@@ -87,14 +87,28 @@ module _ (v : Vocabulary) where
     pub map : List ℕ
     pub work : List ℕ
 
-  unfoldable pub summariseLeaves : List ℕ → List ℕ → List ℕ → List ℕ → List ℕ → Summarised
-  summariseLeaves table roster result map work =
-      let outcome = summariseOutcome table roster result map work in
+  unfoldable pub summariseLeavesBy : List ℕ → List ℕ → List ℕ → List ℕ → List ℕ → List ℕ → Summarised
+  summariseLeavesBy m table roster result map work =
+      let outcome = summariseOutcomeBy m table roster result map work in
       record {
-        result = left outcome result (listed (length result) (summary v roster (triples table)));
-        map = left outcome map (mapOf v roster (triples table));
+        result = left outcome result (listed (length result) (condensed m (triples table)));
+        map = left outcome map m;
         work = left outcome work (zeros (length work));
       }
+
+  -- the summary
+  abbrev pub summariseOutcome : List ℕ → List ℕ → List ℕ → List ℕ → List ℕ → Outcome ℕ
+  summariseOutcome table roster result map work = summariseOutcomeBy (mapOf v roster (triples table)) table roster result map work
+
+  abbrev pub summariseLeaves : List ℕ → List ℕ → List ℕ → List ℕ → List ℕ → Summarised
+  summariseLeaves table roster result map work = summariseLeavesBy (mapOf v roster (triples table)) table roster result map work
+
+  -- the strong summary; 02: "Representatives, lists and checks are those of the weak one."
+  abbrev pub strongSummariseOutcome : List ℕ → List ℕ → List ℕ → List ℕ → List ℕ → Outcome ℕ
+  strongSummariseOutcome table roster result map work = summariseOutcomeBy (strongMapOf v roster (triples table)) table roster result map work
+
+  abbrev pub strongSummariseLeaves : List ℕ → List ℕ → List ℕ → List ℕ → List ℕ → Summarised
+  strongSummariseLeaves table roster result map work = summariseLeavesBy (strongMapOf v roster (triples table)) table roster result map work
 
 -- ── look up: list, triple ──
 unfoldable pub lookUpOutcome : List ℕ → Triple → Outcome Bool

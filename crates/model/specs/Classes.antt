@@ -28,6 +28,10 @@ together a b =
     || not (eqb (a .to) absent) && eqb (a .to) (b .to)
     || eqb (a .from) absent && (eqb (a .to) absent && (eqb (b .from) absent && eqb (b .to) absent))
 
+-- the same source clique and the same target clique, none counting as a value: absent stands for none
+unfoldable pub alike : Placed → Placed → Bool
+alike a b = eqb (a .from) (b .from) && eqb (a .to) (b .to)
+
 module _ (v : Vocabulary) (roster : List ℕ) where
   -- 01: "A data node is an unmarked node."
   pub record DataNode (G : Graph) (n : ℕ) : Type 0 where
@@ -44,6 +48,17 @@ module _ (v : Vocabulary) (roster : List ℕ) where
     same-clique : {e : Side} {n m p q : ℕ} → Has v roster G e n p → Has v roster G e m q → Clique v roster G e p q → Weakly G n m
     no-clique : {n m : ℕ} → DataNode G n → DataNode G m → NoClique G n → NoClique G m → Weakly G n m
     chain : {n k m : ℕ} → Weakly G n k → Weakly G k m → Weakly G n m
+
+  -- the same clique at a side, none counting as a value
+  pub data SameClique (G : Graph) (e : Side) (n m : ℕ) : Type 0 where
+    neither : ((p : ℕ) → Has v roster G e n p → ⊥) → ((p : ℕ) → Has v roster G e m p → ⊥) → SameClique G e n m
+    in-one : {p q : ℕ} → Has v roster G e n p → Has v roster G e m q → Clique v roster G e p q → SameClique G e n m
+
+  -- 02: "data nodes are together exactly if they have the same source clique and the same target clique, none counting as a value"
+  pub record Strongly (G : Graph) (n m : ℕ) : Type 0 where
+    pub one : DataNode G n
+    pub two : DataNode G m
+    pub at-side : (e : Side) → SameClique G e n m
 
   -- 01: "A representative is the smallest code of its class; a marked node represents itself."
   -- f gives the representatives of the nodes by the equivalence E of its data nodes.
@@ -69,8 +84,15 @@ module _ (v : Vocabulary) (roster : List ℕ) where
   placed sources targets ts =
       collect (λ c. when (isNode ts c && unmarked roster c) (placedAt sources targets ts c)) (tabulate (λ c. c) 0 (length roster))
 
-  -- 01: "a map of N u32 with each node's representative, absent for a code that is no node"
-  unfoldable pub mapOf : List Triple → List ℕ
-  mapOf ts =
-      merged (pairs together (λ (a : Placed). a .node) (placed (cliques v roster source ts) (cliques v roster target ts) ts))
+  -- 01: "a map of N u32 with each node's representative, absent for a code that is no node", where a test puts data nodes together
+  unfoldable pub mapBy : (Placed → Placed → Bool) → List Triple → List ℕ
+  mapBy test ts =
+      merged (pairs test (λ (a : Placed). a .node) (placed (cliques v roster source ts) (cliques v roster target ts) ts))
       (tabulate (λ c. cond (isNode ts c) c absent) 0 (length roster))
+
+  -- the map by weak equivalence, and that by strong equivalence
+  unfoldable pub mapOf : List Triple → List ℕ
+  mapOf ts = mapBy together ts
+
+  unfoldable pub strongMapOf : List Triple → List ℕ
+  strongMapOf ts = mapBy alike ts

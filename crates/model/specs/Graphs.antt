@@ -1,5 +1,6 @@
 -- The small graphs of 01 that are marked to be proved, as one table: with the own roster, the saturation, the plain summary, the map and
--- both clique lists of each; the last two have reserved codes of their own (02). Behind it, the saturations of small schemas, for the rules of 02.
+-- both clique lists of each; the last two have reserved codes of their own (02). Behind it, the saturations of small schemas, for the rules of 02,
+-- and the strong summaries of small graphs.
 -- Assumes nothing.
 use Prim.Native.Nat.{ℕ}
 use mathlib.Core.Bool.{Bool, true, false, not, _&&_}
@@ -12,8 +13,8 @@ use Rattle.model.specs.Triples.{triples, flat}
 use Rattle.model.specs.Roster.{ownRoster}
 use Rattle.model.specs.Saturation.{saturation}
 use Rattle.model.specs.Cliques.{source, target, cliques}
-use Rattle.model.specs.Classes.{mapOf}
-use Rattle.model.specs.Summary.{summary}
+use Rattle.model.specs.Classes.{mapOf, strongMapOf}
+use Rattle.model.specs.Summary.{summary, strongSummary}
 use Rattle.model.specs.Outcomes.{Check}
 use Rattle.model.specs.Calls.{tableChecks}
 
@@ -177,4 +178,88 @@ closures =
     ∷ {- a cycle of subclasses -}
     closure 10 (5 ∷ 3 ∷ 8 ∷ 8 ∷ 1 ∷ 9 ∷ 9 ∷ 1 ∷ 8 ∷ [])
     (5 ∷ 3 ∷ 8 ∷ 5 ∷ 3 ∷ 9 ∷ 8 ∷ 1 ∷ 8 ∷ 8 ∷ 1 ∷ 9 ∷ 9 ∷ 1 ∷ 8 ∷ 9 ∷ 1 ∷ 9 ∷ [])
+    ∷ []
+
+-- a graph with its own roster: its strong summary, the strong map, and its weak summary beside it
+pub record StrongExample : Type 0 where
+  pub words : Vocabulary
+  pub size : ℕ
+  pub table : List ℕ
+  pub strong : List ℕ
+  pub representatives : List ℕ
+  pub plain : List ℕ
+
+unfoldable pub strongRight : StrongExample → Bool
+strongRight g =
+    let v = g .words in
+    let ts = triples (g .table) in
+    let own = ownRoster v (g .size) ts in
+    not (any (λ (c : Check). c .fails) (tableChecks v false (g .table) own))
+    && (equal (flat (strongSummary v own ts)) (g .strong)
+    && (equal (strongMapOf v own ts) (g .representatives)
+    && equal (flat (summary v own ts)) (g .plain)))
+
+unfoldable pub allStrongRight : List StrongExample → Bool
+allStrongRight gs = all strongRight gs
+
+abbrev pub strongGraph : Vocabulary → ℕ → List ℕ → List ℕ → List ℕ → List ℕ → StrongExample
+strongGraph v n t s m p = record { words = v; size = n; table = t; strong = s; representatives = m; plain = p }
+
+abbrev pub strongGraphs : List StrongExample
+strongGraphs =
+    {- no triples -}
+    strongGraph rdfs 5 []
+    []
+    (absent ∷ absent ∷ absent ∷ absent ∷ absent ∷ [])
+    []
+    ∷ {- a loop -}
+    strongGraph rdfs 11 (10 ∷ 5 ∷ 10 ∷ [])
+    (10 ∷ 5 ∷ 10 ∷ [])
+    (absent ∷ absent ∷ absent ∷ absent ∷ absent ∷ absent ∷ absent ∷ absent ∷ absent ∷ absent ∷ 10 ∷ [])
+    (10 ∷ 5 ∷ 10 ∷ [])
+    ∷ {- a chain: each node is fed differently -}
+    strongGraph rdfs 13 (10 ∷ 5 ∷ 11 ∷ 11 ∷ 5 ∷ 12 ∷ [])
+    (10 ∷ 5 ∷ 11 ∷ 11 ∷ 5 ∷ 12 ∷ [])
+    (absent ∷ absent ∷ absent ∷ absent ∷ absent ∷ absent ∷ absent ∷ absent ∷ absent ∷ absent ∷ 10 ∷ 11 ∷ 12 ∷ [])
+    (10 ∷ 5 ∷ 10 ∷ [])
+    ∷ {- types only -}
+    strongGraph rdfs 12 (10 ∷ 0 ∷ 8 ∷ 11 ∷ 0 ∷ 9 ∷ [])
+    (10 ∷ 0 ∷ 8 ∷ 10 ∷ 0 ∷ 9 ∷ [])
+    (absent ∷ absent ∷ absent ∷ absent ∷ absent ∷ absent ∷ absent ∷ absent ∷ 8 ∷ 9 ∷ 10 ∷ 10 ∷ [])
+    (10 ∷ 0 ∷ 8 ∷ 10 ∷ 0 ∷ 9 ∷ [])
+    ∷ {- types with a data triple -}
+    strongGraph rdfs 13 (10 ∷ 0 ∷ 8 ∷ 11 ∷ 0 ∷ 9 ∷ 11 ∷ 5 ∷ 12 ∷ [])
+    (10 ∷ 0 ∷ 8 ∷ 11 ∷ 0 ∷ 9 ∷ 11 ∷ 5 ∷ 12 ∷ [])
+    (absent ∷ absent ∷ absent ∷ absent ∷ absent ∷ absent ∷ absent ∷ absent ∷ 8 ∷ 9 ∷ 10 ∷ 11 ∷ 12 ∷ [])
+    (10 ∷ 0 ∷ 8 ∷ 11 ∷ 0 ∷ 9 ∷ 11 ∷ 5 ∷ 12 ∷ [])
+    ∷ {- one source clique -}
+    strongGraph rdfs 24 (10 ∷ 5 ∷ 20 ∷ 10 ∷ 6 ∷ 21 ∷ 11 ∷ 6 ∷ 22 ∷ 11 ∷ 7 ∷ 23 ∷ [])
+    (10 ∷ 5 ∷ 20 ∷ 10 ∷ 6 ∷ 21 ∷ 10 ∷ 7 ∷ 23 ∷ [])
+    (absent ∷ absent ∷ absent ∷ absent ∷ absent ∷ absent ∷ absent ∷ absent ∷ absent ∷ absent ∷ 10 ∷ 10 ∷ absent ∷ absent ∷ absent ∷ absent ∷ absent ∷ absent ∷ absent ∷ absent ∷ 20 ∷ 21 ∷ 21 ∷ 23 ∷ [])
+    (10 ∷ 5 ∷ 20 ∷ 10 ∷ 6 ∷ 21 ∷ 10 ∷ 7 ∷ 23 ∷ [])
+    ∷ {- one source clique and three target cliques, none among them -}
+    strongGraph rdfs 32 (10 ∷ 5 ∷ 20 ∷ 10 ∷ 6 ∷ 21 ∷ 11 ∷ 6 ∷ 22 ∷ 12 ∷ 6 ∷ 23 ∷ 13 ∷ 5 ∷ 24 ∷ 30 ∷ 7 ∷ 12 ∷ 31 ∷ 8 ∷ 13 ∷ [])
+    (10 ∷ 5 ∷ 20 ∷ 10 ∷ 6 ∷ 21 ∷ 12 ∷ 6 ∷ 21 ∷ 13 ∷ 5 ∷ 20 ∷ 30 ∷ 7 ∷ 12 ∷ 31 ∷ 8 ∷ 13 ∷ [])
+    (absent ∷ absent ∷ absent ∷ absent ∷ absent ∷ absent ∷ absent ∷ absent ∷ absent ∷ absent ∷ 10 ∷ 10 ∷ 12 ∷ 13 ∷ absent ∷ absent ∷ absent ∷ absent ∷ absent ∷ absent ∷ 20 ∷ 21 ∷ 21 ∷ 21 ∷ 20 ∷ absent ∷ absent ∷ absent ∷ absent ∷ absent ∷ 30 ∷ 31 ∷ [])
+    (10 ∷ 5 ∷ 20 ∷ 10 ∷ 6 ∷ 21 ∷ 30 ∷ 7 ∷ 10 ∷ 31 ∷ 8 ∷ 10 ∷ [])
+    ∷ {- one target clique, with and without a source clique -}
+    strongGraph rdfs 15 (10 ∷ 5 ∷ 12 ∷ 11 ∷ 5 ∷ 13 ∷ 12 ∷ 6 ∷ 14 ∷ [])
+    (10 ∷ 5 ∷ 12 ∷ 10 ∷ 5 ∷ 13 ∷ 12 ∷ 6 ∷ 14 ∷ [])
+    (absent ∷ absent ∷ absent ∷ absent ∷ absent ∷ absent ∷ absent ∷ absent ∷ absent ∷ absent ∷ 10 ∷ 10 ∷ 12 ∷ 13 ∷ 14 ∷ [])
+    (10 ∷ 5 ∷ 12 ∷ 12 ∷ 6 ∷ 14 ∷ [])
+    ∷ {- a class links nothing -}
+    strongGraph rdfs 14 (10 ∷ 0 ∷ 8 ∷ 8 ∷ 5 ∷ 12 ∷ 8 ∷ 6 ∷ 13 ∷ [])
+    (8 ∷ 5 ∷ 12 ∷ 8 ∷ 6 ∷ 13 ∷ 10 ∷ 0 ∷ 8 ∷ [])
+    (absent ∷ absent ∷ absent ∷ absent ∷ absent ∷ absent ∷ absent ∷ absent ∷ 8 ∷ absent ∷ 10 ∷ absent ∷ 12 ∷ 13 ∷ [])
+    (8 ∷ 5 ∷ 12 ∷ 8 ∷ 6 ∷ 13 ∷ 10 ∷ 0 ∷ 8 ∷ [])
+    ∷ {- the smallest code represents, not the first seen -}
+    strongGraph rdfs 14 (13 ∷ 5 ∷ 12 ∷ 11 ∷ 5 ∷ 10 ∷ [])
+    (11 ∷ 5 ∷ 10 ∷ [])
+    (absent ∷ absent ∷ absent ∷ absent ∷ absent ∷ absent ∷ absent ∷ absent ∷ absent ∷ absent ∷ 10 ∷ 11 ∷ 10 ∷ 11 ∷ [])
+    (11 ∷ 5 ∷ 10 ∷ [])
+    ∷ {- a word table that falls, and 0 represents -}
+    strongGraph (vocabulary 9 8 7 6 5) 10 (3 ∷ 9 ∷ 1 ∷ 4 ∷ 9 ∷ 1 ∷ 0 ∷ 2 ∷ 3 ∷ 4 ∷ 2 ∷ 3 ∷ [])
+    (0 ∷ 2 ∷ 3 ∷ 0 ∷ 9 ∷ 1 ∷ 3 ∷ 9 ∷ 1 ∷ [])
+    (0 ∷ 1 ∷ absent ∷ 3 ∷ 0 ∷ absent ∷ absent ∷ absent ∷ absent ∷ absent ∷ [])
+    (0 ∷ 2 ∷ 3 ∷ 0 ∷ 9 ∷ 1 ∷ 3 ∷ 9 ∷ 1 ∷ [])
     ∷ []

@@ -9,7 +9,7 @@ use Rattle.model.specs.declared.Vocabulary.{Vocabulary}
 use Rattle.model.specs.Triples.{triple, sorted}
 use Rattle.model.specs.Partition.{label}
 use Rattle.model.specs.Cliques.{Graph}
-use Rattle.model.specs.Classes.{mapOf}
+use Rattle.model.specs.Classes.{mapOf, strongMapOf}
 
 -- a triple with its two ends replaced
 abbrev pub moved : (ℕ → ℕ) → Triple → Triple
@@ -19,6 +19,15 @@ moved f t = triple (f (t .subject)) (t .property) (f (t .object))
 abbrev pub Image : (ℕ → ℕ) → Graph → Graph
 Image f G t = (u : Triple) × G u × (t ≡ moved f u)
 
--- the summary of the table as it is given: 01's "plain summary"
-unfoldable pub summary : Vocabulary → List ℕ → List Triple → List Triple
-summary v roster ts = sorted (map (moved (label (mapOf v roster ts))) ts)
+-- the images of the triples under a map, each once, in rising order
+unfoldable pub condensed : List ℕ → List Triple → List Triple
+condensed m ts = sorted (map (moved (label m)) ts)
+
+-- 01: "The summary is the set of triples with each subject and object replaced by its representative; of the table as given, not saturated
+-- first, it is the plain summary."
+abbrev pub summary : Vocabulary → List ℕ → List Triple → List Triple
+summary v roster ts = condensed (mapOf v roster ts) ts
+
+-- 02: "Add the strong summary": the same by the strong map
+abbrev pub strongSummary : Vocabulary → List ℕ → List Triple → List Triple
+strongSummary v roster ts = condensed (strongMapOf v roster ts) ts

@@ -24,7 +24,7 @@ use Rattle.theory.proofs.Tests.{cond-cases, or-false}
 use Rattle.theory.proofs.Lists.{length-tabulate}
 use Rattle.theory.proofs.Covered.{AllBelow}
 use Rattle.theory.proofs.Accepted.{Right, room, below, saturation-right, summary-right}
-use Rattle.theory.proofs.Feeding.{summary-length}
+use Rattle.theory.proofs.Summaries.{condensed-length}
 use Rattle.theory.proofs.Mapped.{node-or, node-below, map-absent, map-node, length-map-of}
 use Rattle.theory.proofs.Theorems.{own-roster-least}
 use Rattle.query.specs.declared.Query.{Query}
@@ -134,7 +134,7 @@ module _ (v : Vocabulary) where
     summary-fits answers h l =
         let s = summary-right v roster ts r in
         let b = below v roster (summary v roster ts) s in
-        report-fits (summary v roster ts) (mapOf v roster ts) answers (omega (arith, summary-length v roster ts))
+        report-fits (summary v roster ts) (mapOf v roster ts) answers (omega (arith, condensed-length (mapOf v roster ts) ts))
         (λ t m. let x = b t m in record { subject = omega (arith, x .subject); property = omega (arith, x .property); object = omega (arith, x .object) })
         (omega (arith, length-map-of v roster ts)) entries l
 

@@ -30,7 +30,7 @@ use Rattle.theory.proofs.Tests.{or-left, or-right, or-neither, bool-cases}
 use Rattle.theory.proofs.Checks.{first-passes, no-checks, decided-passes, not-accepted, passed-all}
 use Rattle.theory.proofs.Flat.{triples-flat, flat-triples, length-flat, length-triples, length-listed}
 use Rattle.theory.proofs.Accepted.{Right, right-accepted}
-use Rattle.theory.proofs.Feeding.{summary-length}
+use Rattle.theory.proofs.Summaries.{condensed-length}
 use Rattle.theory.proofs.Mapped.{length-map-of}
 use Rattle.table_checks.proofs.Laws.{too-few, enough, left-after}
 use Rattle.roster.specs.Calls.{OwnRosterCall}
@@ -81,10 +81,10 @@ module _ (words : Vocabulary) where
     few = omega (arith, length-triples table, W .slots)
 
     outcome : summariseOutcome words table roster result map work ≡ accepted (length sum)
-    unfolding summariseOutcome slots
+    unfolding summariseOutcomeBy slots
     outcome =
         let f = few in
-        enough (tableChecks words lengths table roster) (length result / 3) (length sum) passes (omega (arith, summary-length words roster (triples table)))
+        enough (tableChecks words lengths table roster) (length result / 3) (length sum) passes (omega (arith, condensed-length (mapOf words roster (triples table)) (triples table)))
 
     module _ (r : Counted) (result′ map′ work′ : List ℕ) (S : SummariseCall words table roster result map work r result′ map′ work′) where
       pub never-refused : (x : Refusal) → r ≡ counted-refused x → ⊥
@@ -92,11 +92,11 @@ module _ (words : Vocabulary) where
       never-refused x e = not-accepted (sym (ap counted e) ∙ S .answer ∙ outcome)
 
       result-is : result′ ≡ listed (length result) sum
-      unfolding summariseLeaves
+      unfolding summariseLeavesBy
       result-is = ap (λ (s : Summarised words). s .result) (S .leaves) ∙ left-after _ _ _ _ outcome
 
       map-is : map′ ≡ mapOf words roster (triples table)
-      unfolding summariseLeaves
+      unfolding summariseLeavesBy
       map-is = ap (λ (s : Summarised words). s .map) (S .leaves) ∙ left-after _ _ _ _ outcome
 
       module _ (k : ℕ) (e : r ≡ Count k) where
@@ -105,7 +105,7 @@ module _ (words : Vocabulary) where
         count-is = same-value _ _ (sym outcome ∙ sym (S .answer) ∙ ap counted e)
 
         pub sum-few : 3 * k ≤ 6144
-        sum-few = let f = few in omega (arith, count-is, summary-length words roster (triples table))
+        sum-few = let f = few in omega (arith, count-is, condensed-length (mapOf words roster (triples table)) (triples table))
 
         pub sum-end : 3 * k ≤ length result′
         sum-end =

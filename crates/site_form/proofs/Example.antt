@@ -16,8 +16,8 @@ use Rattle.model.specs.Rules.{place, fits, gives}
 use Rattle.model.specs.Saturation.{conclusions, round, rounds, saturation}
 use Rattle.model.specs.Partition.{union, merged, pairs}
 use Rattle.model.specs.Cliques.{links, shares, hasClique, cliques}
-use Rattle.model.specs.Classes.{together, cliqueOf, placed, mapOf}
-use Rattle.model.specs.Summary.{summary}
+use Rattle.model.specs.Classes.{together, cliqueOf, placed, mapBy, mapOf}
+use Rattle.model.specs.Summary.{condensed, summary}
 use Rattle.model.specs.Outcomes.{Outcome, accepted, decided, wrongSize, wrongLength}
 use Rattle.query.specs.declared.Pattern.{Pattern}
 use Rattle.query.specs.Ask.{askOutcome, askChecks, wrongQuery, wrongPattern, wrongEnd, counted, search, tried, fitTriple, fitEnd}
@@ -55,11 +55,11 @@ unfolding triples
 summarised = triples exampleSummary
 
 summary-is : summary rdfs own saturated ≡ summarised
-unfolding own saturated summarised given kind reserved any all collect among tabulate triples isData before same insert sorted isClass isProperty unmarked classRoles propertyRoles classIn propertyIn ownRoster isNode place fits gives conclusions round rounds saturation union merged pairs links shares hasClique cliques together cliqueOf placed mapOf summary
+unfolding own saturated summarised given kind reserved any all collect among tabulate triples isData before same insert sorted isClass isProperty unmarked classRoles propertyRoles classIn propertyIn ownRoster isNode place fits gives conclusions round rounds saturation union merged pairs links shares hasClique cliques together cliqueOf placed mapBy mapOf condensed
 summary-is = refl
 
 map-is : mapOf rdfs own saturated ≡ exampleMap
-unfolding own saturated given kind reserved any all collect among tabulate triples isData before same insert sorted isClass isProperty unmarked classRoles propertyRoles classIn propertyIn ownRoster isNode place fits gives conclusions round rounds saturation union merged pairs links shares hasClique cliques together cliqueOf placed mapOf
+unfolding own saturated given kind reserved any all collect among tabulate triples isData before same insert sorted isClass isProperty unmarked classRoles propertyRoles classIn propertyIn ownRoster isNode place fits gives conclusions round rounds saturation union merged pairs links shares hasClique cliques together cliqueOf placed mapBy mapOf
 map-is = refl
 
 -- ── printing ──

@@ -18,7 +18,7 @@ use Rattle.model.specs.Lists.{tabulate, zeros}
 use Rattle.model.specs.Triples.{triples, slots, sorted, listed}
 use Rattle.model.specs.Partition.{label}
 use Rattle.model.specs.Classes.{mapOf}
-use Rattle.model.specs.Summary.{moved, summary}
+use Rattle.model.specs.Summary.{moved, condensed, summary}
 use Rattle.model.specs.Outcomes.{Outcome, accepted, number, counted, check, checked, Passes, left, wrongWork}
 use Rattle.model.specs.Calls.{tableChecks, summariseOutcome, summariseLeaves}
 use Rattle.theory.proofs.Checks.{no-checks}
@@ -61,7 +61,7 @@ module _ (words : Vocabulary) where
 
     module _ (l : List ℕ) (b : Builder) (C : Collected (λ i. moved (label map′) (at table i)) count result l b) where
       images-sum : sorted (tabulate (λ i. moved (label map′) (at table i)) 0 count) ≡ sum
-      unfolding summary
+      unfolding summary condensed
       images-sum = sorted-members _ _ (images-mapped (moved (label map′)) table count) ∙ (λ i. sorted (map (moved (label (m i))) (first table count)))
 
       pub condensed-full : b .full ≡ true → (n k : List ℕ) → Cleared l n 0 (length l) → Cleared map′ k 0 (length map′) → Condensed words roster (first table count) result map₀ work (counted-refused Slots) n k work′

@@ -87,7 +87,7 @@ pub fn condense(
 }
 
 // Whether the map has not n entries, or the work list not two for each.
-fn lengths_wrong(n: usize, map: usize, work: usize) -> bool
+pub fn lengths_wrong(n: usize, map: usize, work: usize) -> bool
     ensures { λ r. ⌜ r ≡ (not (eqb map n) || wrongWork n work) ⌝ }
 {
     if map != n {

@@ -17,7 +17,7 @@ use Rattle.model.specs.Saturation.{saturation}
 use Rattle.model.specs.Partition.{label}
 use Rattle.model.specs.Cliques.{source, target, Node}
 use Rattle.model.specs.Classes.{mapOf}
-use Rattle.model.specs.Summary.{moved, summary}
+use Rattle.model.specs.Summary.{moved, condensed, summary}
 use Rattle.model.specs.Outcomes.{wrongSize, wrongLength}
 use Rattle.model.specs.Calls.{tableChecks, Accepted}
 use Rattle.theory.proofs.Tests.{or-false, or-neither}
@@ -25,12 +25,12 @@ use Rattle.theory.proofs.Checks.{passes-first, first-passes, no-checks}
 use Rattle.theory.proofs.Lists.{any-none}
 use Rattle.model.specs.Lists.{any}
 use Rattle.theory.proofs.Flat.{triples-flat, length-flat, length-triples}
-use Rattle.theory.proofs.Covered.{AllBelow, Codes, Covered, Class, Property, class-marked, property-marked, one-of, two-of, all-codes, codes-all, all-covered, covered-all}
+use Rattle.theory.proofs.Covered.{Below, AllBelow, Marked, Codes, Covered, Class, Property, class-marked, property-marked, one-of, two-of, all-codes, codes-all, all-covered, covered-all}
 use Rattle.theory.proofs.Saturated.{In, saturation-exact, saturation-below}
 use Rattle.theory.proofs.Weak.{Reps}
 use Rattle.theory.proofs.Images.{Covers, derives-covered}
-use Rattle.theory.proofs.Mapped.{map-reps, map-node}
-use Rattle.theory.proofs.Summaries.{summary-exact, summary-below}
+use Rattle.theory.proofs.Mapped.{node-below, map-reps, map-node}
+use Rattle.theory.proofs.Summaries.{condensed-exact}
 
 pub few-triples : (table : List ℕ) → wrongLength (length table) ≡ false → length (triples table) ≤ mostTriples
 unfolding wrongLength
@@ -99,12 +99,6 @@ module _ (v : Vocabulary) (roster : List ℕ) (ts : List Triple) (R : Right v ro
   pub covered : Covers v roster (In ts)
   covered t m = all-covered v roster (length roster) ts (R .codes) (R .cover) t m
 
-  abbrev f : ℕ → ℕ
-  f = label (mapOf v roster ts)
-
-  reps : Reps v roster (In ts) f
-  reps = map-reps v roster ts below room
-
   -- ── the saturation ──
   pub saturation-right : Right v roster (saturation v (length roster) ts)
   saturation-right =
@@ -120,7 +114,7 @@ module _ (v : Vocabulary) (roster : List ℕ) (ts : List Triple) (R : Right v ro
         cover = covered-all v roster (saturation v (length roster) ts) (λ t m. derives-covered v roster (In ts) covered ((exact t) .0 m));
       }
 
-  -- ── the summary ──
+  -- ── nodes ──
   node-free : (c : ℕ) → Node (In ts) c → 5 ≤ kind v c
   node-free c x = at (x .side) (x .is-end)
     where
@@ -132,55 +126,70 @@ module _ (v : Vocabulary) (roster : List ℕ) (ts : List Triple) (R : Right v ro
   unfolding reserved
   word-no-node c e x = omega (arith, node-free c x, ltb-true (kind v c) 5 e)
 
-  -- a marked end represents itself, so that it keeps its mark
-  class-kept : (c : ℕ) → Node (In ts) c → Class roster c → Class roster (f c)
-  class-kept c x h = subst (Class roster) (sym (reps .of-marked c x (class-marked roster c h))) h
+  -- ── the images under a map that leaves marked nodes alone and leads from nodes to nodes ──
+  module _ (m : List ℕ) (own : (n : ℕ) → Node (In ts) n → Marked roster n → label m n ≡ n) (kept : (c : ℕ) → Node (In ts) c → Node (In ts) (label m c)) where
+    abbrev f : ℕ → ℕ
+    f = label m
 
-  property-kept : (c : ℕ) → Node (In ts) c → Property roster c → Property roster (f c)
-  property-kept c x h = subst (Property roster) (sym (reps .of-marked c x (property-marked roster c h))) h
+    -- a marked end represents itself, so that it keeps its mark
+    class-kept : (c : ℕ) → Node (In ts) c → Class roster c → Class roster (f c)
+    class-kept c x h = subst (Class roster) (sym (own c x (class-marked roster c h))) h
 
-  image-covered : (u : Triple) → Mem u ts → Covered roster v (moved f u)
-  image-covered u m =
-      let s : Node (In ts) (u .subject) = record { by = u; held = m; side = source; is-end = refl } in
-      let o : Node (In ts) (u .object) = record { by = u; held = m; side = target; is-end = refl } in
-      let k = covered u m in
-      record {
-        subject-free = node-free (f (u .subject)) (map-node v roster ts below room (u .subject) s);
-        object-free = node-free (f (u .object)) (map-node v roster ts below room (u .object) o);
-        classes = classes s o (kind v (u .property)) (k .classes);
-        properties = properties s o (kind v (u .property)) (k .properties);
-      }
-    where
-      classes : Node (In ts) (u .subject) → Node (In ts) (u .object) → (k : ℕ) → ((c : ℕ) → Mem c (classRow u k) → Class roster c) → (c : ℕ) → Mem c (classRow (moved f u) k) → Class roster c
-      classes s o zero h c n = one-of (λ e. subst (Class roster) (sym e) (class-kept _ o (h _ (here refl)))) n
-      classes s o (suc zero) h c n =
-          two-of (λ e. subst (Class roster) (sym e) (class-kept _ s (h _ (here refl)))) (λ e. subst (Class roster) (sym e) (class-kept _ o (h _ (there (here refl))))) n
-      classes s o (suc (suc zero)) h c n = absurd (no-mem n)
-      classes s o (suc (suc (suc zero))) h c n = one-of (λ e. subst (Class roster) (sym e) (class-kept _ o (h _ (here refl)))) n
-      classes s o (suc (suc (suc (suc zero)))) h c n = one-of (λ e. subst (Class roster) (sym e) (class-kept _ o (h _ (here refl)))) n
-      classes s o (suc (suc (suc (suc (suc k))))) h c n = absurd (no-mem n)
+    property-kept : (c : ℕ) → Node (In ts) c → Property roster c → Property roster (f c)
+    property-kept c x h = subst (Property roster) (sym (own c x (property-marked roster c h))) h
 
-      properties : Node (In ts) (u .subject) → Node (In ts) (u .object) → (k : ℕ) → ((c : ℕ) → Mem c (propertyRow u k) → Property roster c) → (c : ℕ) → Mem c (propertyRow (moved f u) k) → Property roster c
-      properties s o zero h c n = absurd (no-mem n)
-      properties s o (suc zero) h c n = absurd (no-mem n)
-      properties s o (suc (suc zero)) h c n =
-          two-of (λ e. subst (Property roster) (sym e) (property-kept _ s (h _ (here refl)))) (λ e. subst (Property roster) (sym e) (property-kept _ o (h _ (there (here refl))))) n
-      properties s o (suc (suc (suc zero))) h c n = one-of (λ e. subst (Property roster) (sym e) (property-kept _ s (h _ (here refl)))) n
-      properties s o (suc (suc (suc (suc zero)))) h c n = one-of (λ e. subst (Property roster) (sym e) (property-kept _ s (h _ (here refl)))) n
-      properties s o (suc (suc (suc (suc (suc k))))) h c n = h c n
+    image-covered : (u : Triple) → Mem u ts → Covered roster v (moved f u)
+    image-covered u m =
+        let s : Node (In ts) (u .subject) = record { by = u; held = m; side = source; is-end = refl } in
+        let o : Node (In ts) (u .object) = record { by = u; held = m; side = target; is-end = refl } in
+        let k = covered u m in
+        record {
+          subject-free = node-free (f (u .subject)) (kept (u .subject) s);
+          object-free = node-free (f (u .object)) (kept (u .object) o);
+          classes = classes s o (kind v (u .property)) (k .classes);
+          properties = properties s o (kind v (u .property)) (k .properties);
+        }
+      where
+        classes : Node (In ts) (u .subject) → Node (In ts) (u .object) → (k : ℕ) → ((c : ℕ) → Mem c (classRow u k) → Class roster c) → (c : ℕ) → Mem c (classRow (moved f u) k) → Class roster c
+        classes s o zero h c n = one-of (λ e. subst (Class roster) (sym e) (class-kept _ o (h _ (here refl)))) n
+        classes s o (suc zero) h c n =
+            two-of (λ e. subst (Class roster) (sym e) (class-kept _ s (h _ (here refl)))) (λ e. subst (Class roster) (sym e) (class-kept _ o (h _ (there (here refl))))) n
+        classes s o (suc (suc zero)) h c n = absurd (no-mem n)
+        classes s o (suc (suc (suc zero))) h c n = one-of (λ e. subst (Class roster) (sym e) (class-kept _ o (h _ (here refl)))) n
+        classes s o (suc (suc (suc (suc zero)))) h c n = one-of (λ e. subst (Class roster) (sym e) (class-kept _ o (h _ (here refl)))) n
+        classes s o (suc (suc (suc (suc (suc k))))) h c n = absurd (no-mem n)
 
-  summary-covered : (t : Triple) → Mem t (summary v roster ts) → Covered roster v t
-  summary-covered t m = let w = (summary-exact v roster ts t) .0 m in subst (Covered roster v) (sym (w .2)) (image-covered (w .0) (w .1))
+        properties : Node (In ts) (u .subject) → Node (In ts) (u .object) → (k : ℕ) → ((c : ℕ) → Mem c (propertyRow u k) → Property roster c) → (c : ℕ) → Mem c (propertyRow (moved f u) k) → Property roster c
+        properties s o zero h c n = absurd (no-mem n)
+        properties s o (suc zero) h c n = absurd (no-mem n)
+        properties s o (suc (suc zero)) h c n =
+            two-of (λ e. subst (Property roster) (sym e) (property-kept _ s (h _ (here refl)))) (λ e. subst (Property roster) (sym e) (property-kept _ o (h _ (there (here refl))))) n
+        properties s o (suc (suc (suc zero))) h c n = one-of (λ e. subst (Property roster) (sym e) (property-kept _ s (h _ (here refl)))) n
+        properties s o (suc (suc (suc (suc zero)))) h c n = one-of (λ e. subst (Property roster) (sym e) (property-kept _ s (h _ (here refl)))) n
+        properties s o (suc (suc (suc (suc (suc k))))) h c n = h c n
 
+    condensed-covered : (t : Triple) → Mem t (condensed m ts) → Covered roster v t
+    condensed-covered t k = let w = (condensed-exact m ts t) .0 k in subst (Covered roster v) (sym (w .2)) (image-covered (w .0) (w .1))
+
+    condensed-below : AllBelow (length roster) (condensed m ts)
+    condensed-below t k =
+        let w = (condensed-exact m ts t) .0 k in
+        let u = w .0 in
+        let s = node-below (length roster) ts below (f (u .subject)) (kept (u .subject) (record { by = u; held = w .1; side = source; is-end = refl })) in
+        let o = node-below (length roster) ts below (f (u .object)) (kept (u .object) (record { by = u; held = w .1; side = target; is-end = refl })) in
+        subst (Below (length roster)) (sym (w .2)) (record { subject = s; property = (below u (w .1)) .property; object = o })
+
+    pub condensed-right : Right v roster (condensed m ts)
+    condensed-right =
+        record {
+          size = R .size;
+          words = R .words;
+          marks = R .marks;
+          codes = codes-all v (length roster) (condensed m ts)
+              (λ t k. let c = condensed-covered t k in record { below = condensed-below t k; subject-free = c .subject-free; object-free = c .object-free });
+          cover = covered-all v roster (condensed m ts) condensed-covered;
+        }
+
+  -- ── the summary ──
   pub summary-right : Right v roster (summary v roster ts)
-  summary-right =
-      record {
-        size = R .size;
-        words = R .words;
-        marks = R .marks;
-        codes = codes-all v (length roster) (summary v roster ts)
-            (λ t m.
-            let k = summary-covered t m in
-            record { below = summary-below v roster ts below room t m; subject-free = k .subject-free; object-free = k .object-free });
-        cover = covered-all v roster (summary v roster ts) summary-covered;
-      }
+  summary-right = condensed-right (mapOf v roster ts) (map-reps v roster ts below room .of-marked) (map-node v roster ts below room)

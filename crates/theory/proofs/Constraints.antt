@@ -22,7 +22,7 @@ use Rattle.theory.proofs.Saturated.{In, derives-map}
 use Rattle.theory.proofs.Strata.{Types, subjects, objects, Free, subclasses, subproperties, S, derives-free, schema-in, Up, stays, leads, climb}
 use Rattle.theory.proofs.Images.{still, unmoved}
 use Rattle.theory.proofs.Mapped.{map-reps}
-use Rattle.theory.proofs.Summaries.{summary-exact}
+use Rattle.theory.proofs.Summaries.{condensed-exact}
 use Rattle.theory.proofs.Accepted.{Right, room, below, covered}
 
 module _ (v : Vocabulary) where
@@ -160,11 +160,11 @@ module _ (v : Vocabulary) where
     schema-kept t l h = (down, up)
       where
         up : Mem t ts → Mem t (summary v roster ts)
-        up m = (summary-exact v roster ts t) .1 (t, m, sym (own-image t m l h))
+        up m = (condensed-exact _ ts t) .1 (t, m, sym (own-image t m l h))
 
         down : Mem t (summary v roster ts) → Mem t ts
         down m =
-            let w = (summary-exact v roster ts t) .0 m in
+            let w = (condensed-exact _ ts t) .0 m in
             let p : t .property ≡ w .0 .property = ap (λ (u : Triple). u .property) (w .2) in
             let same : t ≡ w .0 = w .2 ∙ own-image (w .0) (w .1) (subst (λ (c : ℕ). 1 ≤ kind v c) p l) (subst (λ (c : ℕ). kind v c ≤ 4) p h) in
             subst (λ (u : Triple). Mem u ts) (sym same) (w .1)

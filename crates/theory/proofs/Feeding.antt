@@ -22,7 +22,7 @@ use Rattle.model.specs.Roster.{coversTriple, covers, wrongRoster, wrongTriple, 
 use Rattle.model.specs.Partition.{label}
 use Rattle.model.specs.Cliques.{Node}
 use Rattle.model.specs.Classes.{mapOf}
-use Rattle.model.specs.Summary.{moved, summary}
+use Rattle.model.specs.Summary.{moved, condensed, summary}
 use Rattle.model.specs.Outcomes.{Outcome, refused, accepted, Check, check, decided, Passes, wrongSize, wrongWork}
 use Rattle.model.specs.Intake.{State, Feed, judged, answer, joins, answers, heldAfter, stateOf, wrongLists, openOutcome, opened, feedChecks, Valid, Run, none, then-fed}
 use Rattle.theory.proofs.Tests.{or-false, bool-cases}
@@ -31,18 +31,12 @@ use Rattle.theory.proofs.Order.{holds-mem, insert-self, insert-keeps, i
 use Rattle.theory.proofs.Covered.{AllBelow}
 use Rattle.theory.proofs.Saturated.{In}
 use Rattle.theory.proofs.Mapped.{length-map-of, map-absent}
-use Rattle.theory.proofs.Summaries.{Same, same-map-of, same-summary-of}
+use Rattle.theory.proofs.Summaries.{condensed-length, Same, same-map-of, same-summary-of}
 use Rattle.theory.proofs.Checks.{passes-first, first-passes, no-checks, decided-passes, decided-cases, passed}
 use Rattle.theory.proofs.Flat.{length-listed}
 use Rattle.theory.proofs.Accepted.{Right, below, room, size-bounds}
 
 module _ (v : Vocabulary) (roster : List ℕ) where
-  pub summary-length : (H : List Triple) → length (summary v roster H) ≤ length H
-  unfolding summary
-  summary-length H =
-      let f = moved (label (mapOf v roster H)) in
-      omega (arith, sorted-length (map f H), length-map H f)
-
   -- ── one feed ──
   -- what an intake may hold
   pub record Holds (space : ℕ) (H : List Triple) : Type 0 where
@@ -185,7 +179,7 @@ module _ (v : Vocabulary) (roster : List ℕ) where
   state-sizes s H z h =
       record {
         triples = length-listed (length (s .triples)) H (third (length (s .triples)) (length H) h);
-        summary = length-listed (length (s .summary)) (summary v roster H) (third (length (s .summary)) _ (omega (arith, summary-length H, z .equal)));
+        summary = length-listed (length (s .summary)) (summary v roster H) (third (length (s .summary)) _ (omega (arith, condensed-length (mapOf v roster H) H, z .equal)));
         map = length-map-of v roster H;
       }
 
@@ -264,7 +258,7 @@ module _ (v : Vocabulary) (roster : List ℕ) where
       (λ c h. map-absent v roster [] (λ t m. absurd (no-mem m)) l c (no-node c) ∙ sym (getD-replicate (length roster) c absent absent (omega (arith, length-map-of v roster []))))
 
   empty-summary : summary v roster [] ≡ []
-  unfolding summary sorted
+  unfolding condensed sorted
   empty-summary = refl
 
   empty-list : (n : ℕ) → listed n [] ≡ zeros n

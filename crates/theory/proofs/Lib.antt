@@ -9,13 +9,15 @@ pub mod Saturated
 pub mod Strata
 pub mod Weak
 pub mod Images
+pub mod Carried
 pub mod Quotient
+pub mod Strong
 pub mod Partition
 pub mod Mapped
 pub mod Summaries
 pub mod OwnRoster
 pub mod Accepted
-pub mod Shortcut
+pub mod Grouping
 pub mod Constraints
 pub mod Feeding
 pub mod Theorems

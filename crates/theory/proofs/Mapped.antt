@@ -17,12 +17,14 @@ use Rattle.model.specs.Triples.{isData}
 use Rattle.model.specs.Roster.{unmarked, isNode}
 use Rattle.model.specs.Partition.{label, Pair, pairs}
 use Rattle.model.specs.Cliques.{Graph, Side, source, target, end, Node, Has, Clique, shared, linked, links, shares, hasClique, cliques}
-use Rattle.model.specs.Classes.{DataNode, Placed, together, cliqueOf, placedAt, placed, mapOf}
+use Rattle.model.specs.Classes.{DataNode, Placed, together, alike, RepresentsBy, cliqueOf, placedAt, placed, mapBy, mapOf, strongMapOf}
 use Rattle.theory.proofs.Tests.{cond-cases, bool-cases, or-true, or-left, or-right, and-true, and-both}
 use Rattle.theory.proofs.Lists.{any-found, any-holds, collect-mem, mem-collect, when-mem, mem-when, mem-tabulate, length-tabulate}
 use Rattle.theory.proofs.Covered.{AllBelow, Plain}
 use Rattle.theory.proofs.Saturated.{In}
 use Rattle.theory.proofs.Partition.{Labels, Joining, Joins, Merged, merged-all, pairs-mem, mem-pairs, start-labels, length-merged}
+use Rattle.theory.proofs.Strong as strong
+use Rattle.theory.proofs.Strong.{Partner, Strong, strong-self, strong-flip, strong-through}
 use Rattle.theory.proofs.Weak.{HasData, has-data, data-has, has-node, Weak, by-side, by-none, itself, turned, chained, weak-nodes, clique-sym, clique-self, clique-weak, Reps}
 
 -- ── nodes ──
@@ -278,48 +280,70 @@ module _ (v : Vocabulary) (roster : List ℕ) (ts : List Triple) (below : AllBel
           side source g = has-named source g p
           side target g = has-named target g q
 
-  -- ── the map ──
-  -- one code, or weakly equivalent
-  abbrev Alike : ℕ → ℕ → Type 0
-  Alike x y = (x ≡ y) ⊎ Weak v roster G x y
+  -- ── the map by a test that puts only equivalent nodes together ──
+  module _ (test : Placed → Placed → Bool) (E : ℕ → ℕ → Type 0) (nodes : (x y : ℕ) → E x y → DataNode v roster G x × DataNode v roster G y)
+      (self : (x : ℕ) → DataNode v roster G x → E x x) (flip : (x y : ℕ) → E x y → E y x) (through : (x y z : ℕ) → E x y → E y z → E x z)
+      (sound : (c d : ℕ) → DataNode v roster G c → DataNode v roster G d → test (at c) (at d) ≡ true → E c d) where
+    -- one code, or equivalent
+    abbrev Alike : ℕ → ℕ → Type 0
+    Alike x y = (x ≡ y) ⊎ E x y
 
-  alike-flip : (x y : ℕ) → Alike x y → Alike y x
-  alike-flip x y (inl e) = inl (sym e)
-  alike-flip x y (inr w) = inr (turned w)
+    alike-flip : (x y : ℕ) → Alike x y → Alike y x
+    alike-flip x y (inl e) = inl (sym e)
+    alike-flip x y (inr w) = inr (flip x y w)
 
-  alike-through : (x y z : ℕ) → Alike x y → Alike y z → Alike x z
-  alike-through x y z (inl e) (inl f) = inl (e ∙ f)
-  alike-through x y z (inl e) (inr u) = inr (subst (λ (k : ℕ). Weak v roster G k z) (sym e) u)
-  alike-through x y z (inr w) (inl f) = inr (subst (λ (k : ℕ). Weak v roster G x k) f w)
-  alike-through x y z (inr w) (inr u) = inr (chained w u)
+    alike-through : (x y z : ℕ) → Alike x y → Alike y z → Alike x z
+    alike-through x y z (inl e) (inl f) = inl (e ∙ f)
+    alike-through x y z (inl e) (inr u) = inr (subst (λ (k : ℕ). E k z) (sym e) u)
+    alike-through x y z (inr w) (inl f) = inr (subst (λ (k : ℕ). E x k) f w)
+    alike-through x y z (inr w) (inr u) = inr (through x y z w u)
 
-  map-joining : Joining (Node G) Alike
-  map-joining = record { small = λ c x. omega (arith, node-below (length roster) ts below c x); flip = alike-flip; through = alike-through }
+    map-joining : Joining (Node G) Alike
+    map-joining = record { small = λ c x. omega (arith, node-below (length roster) ts below c x); flip = alike-flip; through = alike-through }
 
-  map-start : Labels (Node G) Alike (tabulate (λ c. cond (isNode ts c) c absent) 0 (length roster))
-  map-start =
-      start-labels (Node G) Alike (isNode ts) (length roster) (λ c x. (node-below (length roster) ts below c x, node-test ts c x, inl refl)) (test-node ts)
+    map-start : Labels (Node G) Alike (tabulate (λ c. cond (isNode ts c) c absent) 0 (length roster))
+    map-start =
+        start-labels (Node G) Alike (isNode ts) (length roster) (λ c x. (node-below (length roster) ts below c x, node-test ts c x, inl refl)) (test-node ts)
 
-  map-joins : (p : Pair) → Mem p (pairs together (λ (a : Placed). a .node) ps) → Joins (Node G) Alike p
-  map-joins p m =
-      let w = pairs-mem together (λ (a : Placed). a .node) ps p m in
-      let x = placed-is (w .first) (w .first-in) in
-      let y = placed-is (w .second) (w .second-in) in
-      let t : together (at (x .code)) (at (y .code)) ≡ true =
-      subst (λ (z : Placed). together z (at (y .code)) ≡ true) (x .is-at) (subst (λ (z : Placed). together (w .first) z ≡ true) (y .is-at) (w .passes)) in
-      let r = together-weak (x .code) (y .code) (x .data-node) (y .data-node) t in
-      let pair : p ≡ record { one = x .code; two = y .code } = w .is-pair ∙ (λ i. record { one = x .is-at i .node; two = y .is-at i .node }) in
-      subst (Joins (Node G) Alike) (sym pair) (record { one = x .data-node .node; two = y .data-node .node; related = inr r })
+    map-joins : (p : Pair) → Mem p (pairs test (λ (a : Placed). a .node) ps) → Joins (Node G) Alike p
+    map-joins p m =
+        let w = pairs-mem test (λ (a : Placed). a .node) ps p m in
+        let x = placed-is (w .first) (w .first-in) in
+        let y = placed-is (w .second) (w .second-in) in
+        let t : test (at (x .code)) (at (y .code)) ≡ true =
+        subst (λ (z : Placed). test z (at (y .code)) ≡ true) (x .is-at) (subst (λ (z : Placed). test (w .first) z ≡ true) (y .is-at) (w .passes)) in
+        let r = sound (x .code) (y .code) (x .data-node) (y .data-node) t in
+        let pair : p ≡ record { one = x .code; two = y .code } = w .is-pair ∙ (λ i. record { one = x .is-at i .node; two = y .is-at i .node }) in
+        subst (Joins (Node G) Alike) (sym pair) (record { one = x .data-node .node; two = y .data-node .node; related = inr r })
 
-  map-merged : Merged (Node G) Alike map-joining (pairs together (λ (a : Placed). a .node) ps) (tabulate (λ c. cond (isNode ts c) c absent) 0 (length roster)) (mapOf v roster ts)
+    map-merged : Merged (Node G) Alike map-joining (pairs test (λ (a : Placed). a .node) ps) (tabulate (λ c. cond (isNode ts c) c absent) 0 (length roster)) (mapBy v roster test ts)
+    unfolding mapBy
+    map-merged = merged-all (Node G) Alike map-joining _ _ map-joins map-start
+
+    labels-by : Labels (Node G) Alike (mapBy v roster test ts)
+    labels-by = map-merged .joined .right
+
+    agrees-by : (c d : ℕ) → DataNode v roster G c → DataNode v roster G d → test (at c) (at d) ≡ true → label (mapBy v roster test ts) c ≡ label (mapBy v roster test ts) d
+    agrees-by c d x y h = map-merged .agree _ (mem-pairs test (λ (a : Placed). a .node) ps (at c) (at d) (placed-has c x) (placed-has d y) h)
+
+    -- where what is equivalent has one label, the labels are the representatives
+    reps-by : ((x y : ℕ) → E x y → label (mapBy v roster test ts) x ≡ label (mapBy v roster test ts) y) → RepresentsBy v roster E G (label (mapBy v roster test ts))
+    reps-by agrees =
+        record {
+          of-marked = λ c x t. ⊎-elim (λ (e : c ≡ label (mapBy v roster test ts) c). sym e)
+              (λ (w : E c (label (mapBy v roster test ts) c)). absurd (true≢false (sym ((nodes _ _ w) .0 .plain) ∙ t))) (labels-by .related c x);
+          of-data = λ c x. ⊎-elim (λ (e : c ≡ label (mapBy v roster test ts) c). subst (E c) e (self c x)) (λ (w : E c (label (mapBy v roster test ts) c)). w) (labels-by .related c (x .node));
+          least = λ c d x w. subst (λ (z : ℕ). z ≤ d) (sym (agrees c d w)) (labels-by .low d ((nodes _ _ w) .1 .node));
+        }
+
+  -- ── the map by weak equivalence ──
+  pub map-labels : Labels (Node G) (λ x y. (x ≡ y) ⊎ Weak v roster G x y) (mapOf v roster ts)
   unfolding mapOf
-  map-merged = merged-all (Node G) Alike map-joining _ _ map-joins map-start
-
-  pub map-labels : Labels (Node G) Alike (mapOf v roster ts)
-  map-labels = map-merged .joined .right
+  map-labels = labels-by together (Weak v roster G) (λ x y w. weak-nodes v roster w) (λ x d. itself d) (λ x y w. turned w) (λ x y z u w. chained u w) together-weak
 
   pair-agrees : (c d : ℕ) → DataNode v roster G c → DataNode v roster G d → together (at c) (at d) ≡ true → label (mapOf v roster ts) c ≡ label (mapOf v roster ts) d
-  pair-agrees c d x y h = map-merged .agree _ (mem-pairs together (λ (a : Placed). a .node) ps (at c) (at d) (placed-has c x) (placed-has d y) h)
+  unfolding mapOf
+  pair-agrees = agrees-by together (Weak v roster G) (λ x y w. weak-nodes v roster w) (λ x d. itself d) (λ x y w. turned w) (λ x y z u w. chained u w) together-weak
 
   -- the test of two nodes at the same side of one property, and of two with no data triple
   side-together : (e : Side) {c d p : ℕ} → Has v roster G e c p → Has v roster G e d p → together (at c) (at d) ≡ true
@@ -355,13 +379,8 @@ module _ (v : Vocabulary) (roster : List ℕ) (ts : List Triple) (below : AllBel
 
   -- the computed map gives each node its representative
   pub map-reps : Reps v roster G (label (mapOf v roster ts))
-  map-reps =
-      record {
-        of-marked = λ c x t. ⊎-elim (λ (e : c ≡ label (mapOf v roster ts) c). sym e)
-            (λ (w : Weak v roster G c (label (mapOf v roster ts) c)). absurd (true≢false (sym ((weak-nodes v roster w) .0 .plain) ∙ t))) (map-labels .related c x);
-        of-data = λ c x. ⊎-elim (λ (e : c ≡ label (mapOf v roster ts) c). subst (Weak v roster G c) e (itself x)) (λ (w : Weak v roster G c (label (mapOf v roster ts) c)). w) (map-labels .related c (x .node));
-        least = λ c d x w. subst (λ (z : ℕ). z ≤ d) (sym (map-agrees w)) (map-labels .low d ((weak-nodes v roster w) .1 .node));
-      }
+  unfolding mapOf
+  map-reps = reps-by together (Weak v roster G) (λ x y w. weak-nodes v roster w) (λ x d. itself d) (λ x y w. turned w) (λ x y z u w. chained u w) together-weak (λ x y w. map-agrees w)
 
   -- a code that is no node is absent
   pub map-absent : (c : ℕ) → (Node G c → ⊥) → label (mapOf v roster ts) c ≡ absent
@@ -373,10 +392,70 @@ module _ (v : Vocabulary) (roster : List ℕ) (ts : List Triple) (below : AllBel
   pub map-low : (c : ℕ) → Node G c → label (mapOf v roster ts) c ≤ c
   map-low c x = map-labels .low c x
 
+  -- ── the map by strong equivalence ──
+  alike-side : (e : Side) (c d : ℕ) → Plain roster c → Plain roster d → cliqueAt e c ≡ cliqueAt e d → (p : ℕ) → Has v roster G e c p → Partner v roster G e p d
+  alike-side e c d a b h p x =
+      let (q, y) = some-has e d b (λ z. has-named e x (h ∙ z)) in
+      let l : label (cliques v roster e ts) p ≡ label (cliques v roster e ts) q = sym (has-label e x) ∙ h ∙ has-label e y in
+      record {
+        property = q;
+        has = y;
+        clique = linked (clique-labels e .related p (record { node = c; has = x }))
+            (subst (λ (z : ℕ). Clique v roster G e z q) (sym l) (clique-sym v roster (clique-labels e .related q (record { node = d; has = y }))));
+      }
+
+  alike-strong : (c d : ℕ) → DataNode v roster G c → DataNode v roster G d → alike (at c) (at d) ≡ true → Strong v roster G c d
+  unfolding alike
+  alike-strong c d x y h =
+      let w = and-true (eqb (cliqueAt source c) (cliqueAt source d)) _ h in
+      record { one = x; two = y; alike = λ e. side e (eqb-true _ _ (w .0)) (eqb-true _ _ (w .1)) }
+    where
+      both : (e : Side) → cliqueAt e c ≡ cliqueAt e d → strong.Alike v roster G e c d
+      both e q = record { forth = alike-side e c d (x .plain) (y .plain) q; back = alike-side e d c (y .plain) (x .plain) (sym q) }
+
+      side : (e : Side) → cliqueAt source c ≡ cliqueAt source d → cliqueAt target c ≡ cliqueAt target d → strong.Alike v roster G e c d
+      side source p q = both source p
+      side target p q = both target q
+
+  -- whether a node has a property at a side
+  pub has-or : (e : Side) (c : ℕ) → Plain roster c → ((p : ℕ) × Has v roster G e c p) ⊎ ((p : ℕ) → Has v roster G e c p → ⊥)
+  has-or e c a = ⊎-elim (λ h. inr (λ p x. has-named e x (eqb-true _ _ h))) (λ h. inl (some-has e c a (eqb-false _ _ h))) (bool-cases (eqb (cliqueAt e c) absent))
+
+  strong-label : (e : Side) (c d : ℕ) → Plain roster c → Plain roster d → strong.Alike v roster G e c d → cliqueAt e c ≡ cliqueAt e d
+  strong-label e c d a b s = go (has-or e c a)
+    where
+      go : ((p : ℕ) × Has v roster G e c p) ⊎ ((p : ℕ) → Has v roster G e c p → ⊥) → cliqueAt e c ≡ cliqueAt e d
+      go (inl (p, x)) = let y = s .forth p x in has-label e x ∙ clique-agrees e (y .clique) ∙ sym (has-label e (y .has))
+      go (inr f) = none-label e c a f ∙ sym (none-label e d b (λ p x. let y = s .back p x in f (y .property) (y .has)))
+
+  strong-alike : {c d : ℕ} → Strong v roster G c d → alike (at c) (at d) ≡ true
+  unfolding alike
+  strong-alike {c} {d} s =
+      and-both (eqb (cliqueAt source c) (cliqueAt source d)) _ (eq-eqb _ _ (strong-label source c d (s .one .plain) (s .two .plain) (s .alike source)))
+      (eq-eqb _ _ (strong-label target c d (s .one .plain) (s .two .plain) (s .alike target)))
+
+  -- what is strongly equivalent has one label
+  pub strong-agrees : {x y : ℕ} → Strong v roster G x y → label (strongMapOf v roster ts) x ≡ label (strongMapOf v roster ts) y
+  unfolding strongMapOf
+  strong-agrees {x} {y} s =
+      agrees-by alike (Strong v roster G) (λ x y w. (w .one, w .two)) (λ x d. strong-self v roster d) (λ x y w. strong-flip v roster w) (λ x y z u w. strong-through v roster u w) alike-strong x y (s .one) (s .two) (strong-alike s)
+
+  pub strong-reps : RepresentsBy v roster (Strong v roster G) G (label (strongMapOf v roster ts))
+  unfolding strongMapOf
+  strong-reps = reps-by alike (Strong v roster G) (λ x y w. (w .one, w .two)) (λ x d. strong-self v roster d) (λ x y w. strong-flip v roster w) (λ x y z u w. strong-through v roster u w) alike-strong (λ x y w. strong-agrees w)
+
+  pub strong-absent : (c : ℕ) → (Node G c → ⊥) → label (strongMapOf v roster ts) c ≡ absent
+  unfolding strongMapOf
+  strong-absent c f = labels-by alike (Strong v roster G) (λ x y w. (w .one, w .two)) (λ x d. strong-self v roster d) (λ x y w. strong-flip v roster w) (λ x y z u w. strong-through v roster u w) alike-strong .silent c f
+
 pub length-cliques : (v : Vocabulary) (roster : List ℕ) (e : Side) (ts : List Triple) → length (cliques v roster e ts) ≡ length roster
 unfolding cliques
 length-cliques v roster e ts = length-merged _ _ ∙ length-tabulate _ 0 (length roster)
 
+pub length-strong-map : (v : Vocabulary) (roster : List ℕ) (ts : List Triple) → length (strongMapOf v roster ts) ≡ length roster
+unfolding mapBy strongMapOf
+length-strong-map v roster ts = length-merged _ _ ∙ length-tabulate _ 0 (length roster)
+
 pub length-map-of : (v : Vocabulary) (roster : List ℕ) (ts : List Triple) → length (mapOf v roster ts) ≡ length roster
-unfolding mapOf
+unfolding mapBy mapOf
 length-map-of v roster ts = length-merged _ _ ∙ length-tabulate _ 0 (length roster)

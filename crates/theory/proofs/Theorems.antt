@@ -17,7 +17,7 @@ use Rattle.model.specs.Cliques.{Clique, linked}
 use Rattle.model.specs.Summary.{summary}
 use Rattle.model.specs.Calls.{Accepted, tableChecks}
 use Rattle.model.specs.Outcomes.{wrongLength, wrongSize}
-use Rattle.theory.specs.Theorems.{TriplesOf, Saturated, Source, SaturationExact, ConstraintsFollow, CliquesExact, RepresentativesExact, SummaryExact, OwnRosterLeast, ShortcutHolds, RoutesAccepted, AnyOrder, WholeList, FedInAnyOrder}
+use Rattle.theory.specs.Theorems.{TriplesOf, Saturated, Source, SaturationExact, ConstraintsFollow, CliquesExact, RepresentativesExact, SummaryExact, StrongRepresentativesExact, StrongSummaryExact, OwnRosterLeast, ShortcutBy, RoutesBy, ShortcutHolds, RoutesAccepted, StrongShortcutHolds, StrongRoutesAccepted, WeakOfStrongHolds, AnyOrder, WholeList, FedInAnyOrder}
 use Rattle.theory.proofs.Tests.{or-false}
 use Rattle.theory.proofs.Checks.{passes-first}
 use Rattle.theory.proofs.Covered.{all-codes, kind-of-code}
@@ -29,7 +29,9 @@ use Rattle.theory.proofs.Mapped as mapped
 use Rattle.theory.proofs.Summaries as summaries
 use Rattle.theory.proofs.OwnRoster as own
 use Rattle.theory.proofs.Accepted as accept
-use Rattle.theory.proofs.Shortcut as shortcut
+use Rattle.theory.proofs.Strong.{Strong, strongly-strong, strong-strongly, strong-flip, strong-through}
+use Rattle.theory.proofs.Grouping as grouping
+use Rattle.theory.proofs.Grouping.{Grouping, weakly, strongly}
 use Rattle.theory.proofs.Constraints.{origin-of, schema-kept}
 use Rattle.theory.proofs.Feeding as feeding
 
@@ -145,7 +147,32 @@ module _ (v : Vocabulary) where
       }
 
   pub summary-exact : SummaryExact v
-  summary-exact table roster h = record { rising = summaries.summary-rising v roster (triples table); exact = summaries.summary-exact v roster (triples table) }
+  summary-exact table roster h = record { rising = summaries.condensed-rising _ (triples table); exact = summaries.condensed-exact _ (triples table) }
+
+  pub strong-representatives-exact : StrongRepresentativesExact v
+  strong-representatives-exact table roster h =
+      let R = accept.accepted-right v table roster h in
+      let b = accept.below v roster (triples table) R in
+      let l = accept.room v roster (triples table) R in
+      let F = mapped.strong-reps v roster (triples table) b l in
+      let d = mapped.has-or v roster (triples table) b l in
+      record {
+        shared = λ c k x y. (
+          λ e. strong-strongly v roster d (strong-through v roster (F .of-data c x) (strong-flip v roster (subst (Strong v roster (In (triples table)) k) (sym e) (F .of-data k y)))),
+          λ w. mapped.strong-agrees v roster (triples table) b l (strongly-strong v roster w),
+        );
+        represents = record {
+          of-marked = F .of-marked;
+          of-data = λ n x. strong-strongly v roster d (F .of-data n x);
+          least = λ n m x w. F .least n m x (strongly-strong v roster w);
+        };
+        no-node = mapped.strong-absent v roster (triples table) b l;
+        no-word = λ c e. mapped.strong-absent v roster (triples table) b l c (λ x. accept.word-no-node v roster (triples table) R c e x);
+        size = mapped.length-strong-map v roster (triples table);
+      }
+
+  pub strong-summary-exact : StrongSummaryExact v
+  strong-summary-exact table roster h = record { rising = summaries.condensed-rising _ (triples table); exact = summaries.condensed-exact _ (triples table) }
 
   pub own-roster-least : OwnRosterLeast v
   own-roster-least n ts h =
@@ -157,27 +184,48 @@ module _ (v : Vocabulary) where
         least = own.own-least v n ts;
       }
 
-  pub shortcut-holds : ShortcutHolds v
-  shortcut-holds table roster h =
-      let R = accept.accepted-right v table roster h in
-      record { triples = shortcut.shortcut-summary v roster (triples table) R; maps = shortcut.shortcut-map v roster (triples table) R }
-
+  -- ── the routes of the shortcut, by any grouping ──
   -- a table's length is that of at most so many triples
   table-few : (table roster : List ℕ) → Accepted v table roster → length (triples table) ≤ mostTriples
   unfolding tableChecks
   table-few table roster h = accept.few-triples table ((or-false (wrongLength (length table)) _ ((or-false (wrongSize (length roster)) _ ((passes-first _ _ h) .0)) .1)) .0)
 
+  module _ (table roster : List ℕ) (h : Accepted v table roster) (K : Grouping v roster) where
+    abbrev ts : List Triple
+    ts = triples table
+
+    R : accept.Right v roster ts
+    R = accept.accepted-right v table roster h
+
+    shortcut-by : ShortcutBy v (K .map-of) table roster
+    shortcut-by = record { triples = grouping.shortcut-summary v roster K ts R; maps = grouping.shortcut-map v roster K ts R }
+
+    routes-by : RoutesBy v (K .map-of) table roster
+    routes-by =
+        let S = grouping.sum-right v roster K ts R in
+        record {
+          summary-accepted = accept.right-accepted v roster _ S (omega (arith, summaries.condensed-length (K .map-of ts) ts, table-few table roster h));
+          saturation-accepted = λ l. accept.right-accepted v roster _ (accept.saturation-right v roster ts R) l;
+          shorter = grouping.shortcut-shorter v roster K ts R;
+          second-accepted = λ l. accept.right-accepted v roster _ (accept.saturation-right v roster _ S) l;
+        }
+
+  pub shortcut-holds : ShortcutHolds v
+  shortcut-holds table roster h = shortcut-by table roster h (weakly v roster)
+
   pub routes-accepted : RoutesAccepted v
-  routes-accepted table roster h =
+  routes-accepted table roster h = routes-by table roster h (weakly v roster)
+
+  pub strong-shortcut-holds : StrongShortcutHolds v
+  strong-shortcut-holds table roster h = shortcut-by table roster h (strongly v roster)
+
+  pub strong-routes-accepted : StrongRoutesAccepted v
+  strong-routes-accepted table roster h = routes-by table roster h (strongly v roster)
+
+  pub weak-of-strong-holds : WeakOfStrongHolds v
+  weak-of-strong-holds table roster h =
       let R = accept.accepted-right v table roster h in
-      let S = accept.summary-right v roster (triples table) R in
-      record {
-        summary-accepted = accept.right-accepted v roster (summary v roster (triples table)) S (omega (arith, feeding.summary-length v roster (triples table), table-few table roster h));
-        saturation-accepted = λ l. accept.right-accepted v roster (saturation v (length roster) (triples table)) (accept.saturation-right v roster (triples table) R) l;
-        shorter = shortcut.shortcut-shorter v roster (triples table) R;
-        second-accepted = λ l.
-            accept.right-accepted v roster (saturation v (length roster) (summary v roster (triples table))) (accept.saturation-right v roster (summary v roster (triples table)) S) l;
-      }
+      record { triples = grouping.weak-of-strong v roster (triples table) R; maps = grouping.strong-then-weak v roster (triples table) R }
 
   pub any-order : AnyOrder v
   any-order table roster h space few fs work same =

@@ -16,8 +16,8 @@ use Rattle.model.specs.Rules.{Derives}
 use Rattle.model.specs.Saturation.{saturation}
 use Rattle.model.specs.Partition.{label}
 use Rattle.model.specs.Cliques.{Graph, Side, Node, Has, Clique, cliques}
-use Rattle.model.specs.Classes.{DataNode, Weakly, Represents, mapOf}
-use Rattle.model.specs.Summary.{Image, summary}
+use Rattle.model.specs.Classes.{DataNode, Weakly, Strongly, RepresentsBy, mapOf, strongMapOf}
+use Rattle.model.specs.Summary.{Image, condensed, summary, strongSummary}
 use Rattle.model.specs.Outcomes.{Outcome, accepted}
 use Rattle.model.specs.Calls.{Accepted}
 use Rattle.model.specs.Intake.{State, Feed, answers, heldAfter, stateOf, openOutcome, opened, Run}
@@ -33,9 +33,8 @@ module _ (v : Vocabulary) where
   abbrev pub summaryOf : List ℕ → List ℕ → List Triple
   summaryOf table roster = summary v roster (triples table)
 
-  -- the representative that the map of these triples gives a code
-  abbrev pub representative : List ℕ → List Triple → ℕ → ℕ
-  representative roster ts c = label (mapOf v roster ts) c
+  abbrev pub strongSummaryOf : List ℕ → List ℕ → List Triple
+  strongSummaryOf table roster = strongSummary v roster (triples table)
 
   -- ── demand 2 ──
   -- the demand: Saturation holds a triple exactly if the rules give it; 02: "Saturation means the closure under all ten from here on"
@@ -88,27 +87,37 @@ module _ (v : Vocabulary) where
   abbrev pub CliquesExact : Type 0
   CliquesExact = (table roster : List ℕ) → Accepted v table roster → (e : Side) → CliqueList table roster e
 
-  -- the demand: two data nodes share a representative exactly if they are weakly equivalent; the representative is the smallest code of its class,
-  -- a marked node's is itself, and a code that is no node is absent
-  pub record Representatives (table roster : List ℕ) : Type 0 where
-    pub shared : (c d : ℕ) → DataNode v roster (TriplesOf table) c → DataNode v roster (TriplesOf table) d
-        → (representative roster (triples table) c ≡ representative roster (triples table) d) ↔ Weakly v roster (TriplesOf table) c d
-    pub represents : Represents v roster (TriplesOf table) (representative roster (triples table))
-    pub no-node : (c : ℕ) → (Node (TriplesOf table) c → ⊥) → representative roster (triples table) c ≡ absent
+  -- the demand: two data nodes share a representative exactly if they are equivalent; the representative is the smallest code of its class,
+  -- a marked node's is itself, and a code that is no node is absent. E is the equivalence, m the map.
+  pub record RepresentativesBy (table roster : List ℕ) (E : ℕ → ℕ → Type 0) (m : List ℕ) : Type 0 where
+    pub shared : (c d : ℕ) → DataNode v roster (TriplesOf table) c → DataNode v roster (TriplesOf table) d → (label m c ≡ label m d) ↔ E c d
+    pub represents : RepresentsBy v roster E (TriplesOf table) (label m)
+    pub no-node : (c : ℕ) → (Node (TriplesOf table) c → ⊥) → label m c ≡ absent
     -- 02: "Every place that named 0 to 4 reads the loaded five, .. the map's absent entries too"
-    pub no-word : (c : ℕ) → reserved v c ≡ true → representative roster (triples table) c ≡ absent
-    pub size : length (mapOf v roster (triples table)) ≡ length roster
+    pub no-word : (c : ℕ) → reserved v c ≡ true → label m c ≡ absent
+    pub size : length m ≡ length roster
 
+  -- by weak equivalence
   abbrev pub RepresentativesExact : Type 0
-  RepresentativesExact = (table roster : List ℕ) → Accepted v table roster → Representatives table roster
+  RepresentativesExact =
+      (table roster : List ℕ) → Accepted v table roster → RepresentativesBy table roster (Weakly v roster (TriplesOf table)) (mapOf v roster (triples table))
+
+  -- 02: "data nodes are together exactly if they have the same source clique and the same target clique, none counting as a value.
+  -- Representatives, lists and checks are those of the weak one."
+  abbrev pub StrongRepresentativesExact : Type 0
+  StrongRepresentativesExact =
+      (table roster : List ℕ) → Accepted v table roster → RepresentativesBy table roster (Strongly v roster (TriplesOf table)) (strongMapOf v roster (triples table))
 
   -- the demand: a triple is in the summary exactly if it is an image
-  pub record Summary (table roster : List ℕ) : Type 0 where
-    pub rising : Rising (summaryOf table roster)
-    pub exact : (t : Triple) → Mem t (summaryOf table roster) ↔ Image (representative roster (triples table)) (TriplesOf table) t
+  pub record SummaryBy (table m : List ℕ) : Type 0 where
+    pub rising : Rising (condensed m (triples table))
+    pub exact : (t : Triple) → Mem t (condensed m (triples table)) ↔ Image (label m) (TriplesOf table) t
 
   abbrev pub SummaryExact : Type 0
-  SummaryExact = (table roster : List ℕ) → Accepted v table roster → Summary table roster
+  SummaryExact = (table roster : List ℕ) → Accepted v table roster → SummaryBy table (mapOf v roster (triples table))
+
+  abbrev pub StrongSummaryExact : Type 0
+  StrongSummaryExact = (table roster : List ℕ) → Accepted v table roster → SummaryBy table (strongMapOf v roster (triples table))
 
   -- 01: "the smallest roster covering a table"
   pub record OwnRoster (n : ℕ) (ts : List Triple) : Type 0 where
@@ -123,27 +132,50 @@ module _ (v : Vocabulary) where
   OwnRosterLeast = (n : ℕ) (ts : List Triple) → wrongCodes v n ts ≡ false → OwnRoster n ts
 
   -- ── demand 3, what needs no query ──
-  -- the demand: the shortcut holds, triples and maps: saturating the summary and summarising again ends where summarising the saturation ends
-  pub record Shortcut (table roster : List ℕ) : Type 0 where
-    pub triples : summary v roster (saturationOf table roster) ≡ summary v roster (saturation v (length roster) (summaryOf table roster))
-    pub maps : (c : ℕ)
-        → representative roster (saturation v (length roster) (summaryOf table roster)) (representative roster (Rattle.model.specs.Triples.triples table) c)
-        ≡ representative roster (saturationOf table roster) c
+  -- by any way to map the nodes of triples
+  module _ (mapped : List Triple → List ℕ) where
+    abbrev pub sumBy : List Triple → List Triple
+    sumBy ts = condensed (mapped ts) ts
+
+    -- the saturation of the summary
+    abbrev pub shortBy : List ℕ → List ℕ → List Triple
+    shortBy table roster = saturation v (length roster) (sumBy (triples table))
+
+    -- the demand: the shortcut holds, triples and maps: saturating the summary and summarising again ends where summarising the saturation ends
+    pub record ShortcutBy (table roster : List ℕ) : Type 0 where
+      pub triples : sumBy (saturationOf table roster) ≡ sumBy (shortBy table roster)
+      pub maps : (c : ℕ) → label (mapped (shortBy table roster)) (label (mapped (Rattle.model.specs.Triples.triples table)) c) ≡ label (mapped (saturationOf table roster)) c
+
+    -- no check before 5 refuses a table on either route, unless the saturation is longer than a table may be
+    pub record RoutesBy (table roster : List ℕ) : Type 0 where
+      pub summary-accepted : Accepted v (flat (sumBy (triples table))) roster
+      pub saturation-accepted : length (saturationOf table roster) ≤ mostTriples → Accepted v (flat (saturationOf table roster)) roster
+      -- the saturation of the summary is no longer than that of the table
+      pub shorter : length (shortBy table roster) ≤ length (saturationOf table roster)
+      pub second-accepted : length (shortBy table roster) ≤ mostTriples → Accepted v (flat (shortBy table roster)) roster
 
   abbrev pub ShortcutHolds : Type 0
-  ShortcutHolds = (table roster : List ℕ) → Accepted v table roster → Shortcut table roster
-
-  -- no check before 5 refuses a table on either route, unless the saturation is longer than a table may be
-  pub record Routes (table roster : List ℕ) : Type 0 where
-    pub summary-accepted : Accepted v (flat (summaryOf table roster)) roster
-    pub saturation-accepted : length (saturationOf table roster) ≤ mostTriples → Accepted v (flat (saturationOf table roster)) roster
-    -- the saturation of the summary is no longer than that of the table
-    pub shorter : length (saturation v (length roster) (summaryOf table roster)) ≤ length (saturationOf table roster)
-    pub second-accepted : length (saturation v (length roster) (summaryOf table roster)) ≤ mostTriples
-        → Accepted v (flat (saturation v (length roster) (summaryOf table roster))) roster
+  ShortcutHolds = (table roster : List ℕ) → Accepted v table roster → ShortcutBy (mapOf v roster) table roster
 
   abbrev pub RoutesAccepted : Type 0
-  RoutesAccepted = (table roster : List ℕ) → Accepted v table roster → Routes table roster
+  RoutesAccepted = (table roster : List ℕ) → Accepted v table roster → RoutesBy (mapOf v roster) table roster
+
+  -- 02: "Show that the two routes of the shortcut agree here too"
+  abbrev pub StrongShortcutHolds : Type 0
+  StrongShortcutHolds = (table roster : List ℕ) → Accepted v table roster → ShortcutBy (strongMapOf v roster) table roster
+
+  abbrev pub StrongRoutesAccepted : Type 0
+  StrongRoutesAccepted = (table roster : List ℕ) → Accepted v table roster → RoutesBy (strongMapOf v roster) table roster
+
+  -- 02: "the weak summary of the strong summary is the table's own weak summary, with the representatives carried through both maps"
+  pub record WeakOfStrong (table roster : List ℕ) : Type 0 where
+    pub triples : summary v roster (strongSummaryOf table roster) ≡ summaryOf table roster
+    pub maps : (c : ℕ)
+        → label (mapOf v roster (strongSummaryOf table roster)) (label (strongMapOf v roster (Rattle.model.specs.Triples.triples table)) c)
+        ≡ label (mapOf v roster (Rattle.model.specs.Triples.triples table)) c
+
+  abbrev pub WeakOfStrongHolds : Type 0
+  WeakOfStrongHolds = (table roster : List ℕ) → Accepted v table roster → WeakOfStrong table roster
 
   -- the demand: feeding in any order, with repeats, ends in the plain summary
   pub record Collected (table roster : List ℕ) (H : List Triple) : Type 0 where

@@ -38,7 +38,7 @@ fn own_entry(list: &mut [u32], node: u32)
 }
 
 // Every node becomes a class of its own.
-fn open_nodes(table: &[u32], count: usize, map: &mut [u32])
+pub fn open_nodes(table: &[u32], count: usize, map: &mut [u32])
     requires { ⌜ Openable (now table) count (now map) ⌝ }
     ensures { λ r. ⌜ Opened (now (table .entry)) count (length (now (map .entry))) (now (map .exit)) ⌝ }
 {
