@@ -15,7 +15,7 @@ use Rattle.model.specs.Triples.{triples, flat}
 use Rattle.model.specs.Roster.{classRow, propertyRow, covers, wrongRoster, wrongCodes}
 use Rattle.model.specs.Saturation.{saturation}
 use Rattle.model.specs.Partition.{label}
-use Rattle.model.specs.Cliques.{source, target, Node}
+use Rattle.model.specs.Cliques.{Side, source, target, Node, Has}
 use Rattle.model.specs.Classes.{mapOf}
 use Rattle.model.specs.Summary.{moved, condensed, summary}
 use Rattle.model.specs.Outcomes.{wrongSize, wrongLength}
@@ -25,9 +25,9 @@ use Rattle.theory.proofs.Checks.{passes-first, first-passes, no-checks}
 use Rattle.theory.proofs.Lists.{any-none}
 use Rattle.model.specs.Lists.{any}
 use Rattle.theory.proofs.Flat.{triples-flat, length-flat, length-triples}
-use Rattle.theory.proofs.Covered.{Below, AllBelow, Marked, Codes, Covered, Class, Property, class-marked, property-marked, one-of, two-of, all-codes, codes-all, all-covered, covered-all}
+use Rattle.theory.proofs.Covered.{Below, AllBelow, Marked, Codes, Covered, Class, Property, kind-top, property-at, class-marked, property-marked, one-of, two-of, all-codes, codes-all, all-covered, covered-all}
 use Rattle.theory.proofs.Saturated.{In, saturation-exact, saturation-below}
-use Rattle.theory.proofs.Weak.{Reps}
+use Rattle.theory.proofs.Weak.{Reps, data-kind}
 use Rattle.theory.proofs.Images.{Covers, derives-covered}
 use Rattle.theory.proofs.Mapped.{node-below, map-reps, map-node}
 use Rattle.theory.proofs.Summaries.{condensed-exact}
@@ -98,6 +98,13 @@ module _ (v : Vocabulary) (roster : List ℕ) (ts : List Triple) (R : Right v ro
 
   pub covered : Covers v roster (In ts)
   covered t m = all-covered v roster (length roster) ts (R .codes) (R .cover) t m
+
+  -- the property of a data triple is marked
+  pub has-marked : {e : Side} {n p : ℕ} → Has v roster (In ts) e n p → Marked roster p
+  has-marked h =
+      let q = h .by .property in
+      let k : kind v q ≡ 5 = omega (arith, kind-top v q, data-kind v (h .by) (h .is-data)) in
+      subst (Marked roster) (h .property) (property-marked roster q (property-at roster v (h .by) 5 k (covered (h .by) (h .held)) q (here refl)))
 
   -- ── the saturation ──
   pub saturation-right : Right v roster (saturation v (length roster) ts)

@@ -23,7 +23,6 @@ use Rattle.theory.proofs.Lists.{any-found, any-holds, collect-mem, mem-
 use Rattle.theory.proofs.Covered.{AllBelow, Plain}
 use Rattle.theory.proofs.Saturated.{In}
 use Rattle.theory.proofs.Partition.{Labels, Joining, Joins, Merged, merged-all, pairs-mem, mem-pairs, start-labels, length-merged}
-use Rattle.theory.proofs.Strong as strong
 use Rattle.theory.proofs.Strong.{Partner, Strong, strong-self, strong-flip, strong-through}
 use Rattle.theory.proofs.Weak.{HasData, has-data, data-has, has-node, Weak, by-side, by-none, itself, turned, chained, weak-nodes, clique-sym, clique-self, clique-weak, Reps}
 
@@ -109,7 +108,7 @@ module _ (v : Vocabulary) (roster : List ℕ) (ts : List Triple) (below : AllBel
   pub cliqued-or : (e : Side) (p : ℕ) → Cliqued e p ⊎ (Cliqued e p → ⊥)
   cliqued-or e p = ⊎-elim (λ h. inl (test-clique e p h)) (λ h. inr (λ c. true≢false (sym (clique-test e p c) ∙ h))) (bool-cases (hasClique v roster e ts p))
 
-  cliqued-below : (e : Side) (p : ℕ) → Cliqued e p → p < length roster
+  pub cliqued-below : (e : Side) (p : ℕ) → Cliqued e p → p < length roster
   cliqued-below e p c = omega (arith, (below (c .has .by) (c .has .held)) .property, c .has .property)
 
   clique-joining : (e : Side) → Joining (Cliqued e) (Clique v roster G e)
@@ -186,10 +185,10 @@ module _ (v : Vocabulary) (roster : List ℕ) (ts : List Triple) (below : AllBel
                 (λ (l : Mem t xs). f t l d k) (mem-cases m),
           )
 
-  abbrev cliqueAt : Side → ℕ → ℕ
+  abbrev pub cliqueAt : Side → ℕ → ℕ
   cliqueAt e c = cliqueOf v roster e (cliques v roster e ts) c ts
 
-  has-label : (e : Side) {c p : ℕ} → Has v roster G e c p → cliqueAt e c ≡ label (cliques v roster e ts) p
+  pub has-label : (e : Side) {c p : ℕ} → Has v roster G e c p → cliqueAt e c ≡ label (cliques v roster e ts) p
   has-label e {c} {p} h = go (found e c ts)
     where
       go : Found e c ts (cliqueAt e c) → cliqueAt e c ≡ label (cliques v roster e ts) p
@@ -197,11 +196,11 @@ module _ (v : Vocabulary) (roster : List ℕ) (ts : List Triple) (below : AllBel
       go (inr (t, m, d, k, q)) =
           q ∙ clique-agrees e (shared (record { node = c; one = record { by = t; held = m; is-data = d; is-end = k; plain = h .plain; property = refl }; two = h }))
 
-  has-named : (e : Side) {c p : ℕ} → Has v roster G e c p → cliqueAt e c ≡ absent → ⊥
+  pub has-named : (e : Side) {c p : ℕ} → Has v roster G e c p → cliqueAt e c ≡ absent → ⊥
   has-named e {c} {p} h q =
       omega (arith, clique-joining e .small (label (cliques v roster e ts) p) (clique-labels e .active p (record { node = c; has = h })), has-label e h)
 
-  none-label : (e : Side) (c : ℕ) → Plain roster c → ((p : ℕ) → Has v roster G e c p → ⊥) → cliqueAt e c ≡ absent
+  pub none-label : (e : Side) (c : ℕ) → Plain roster c → ((p : ℕ) → Has v roster G e c p → ⊥) → cliqueAt e c ≡ absent
   none-label e c a f = go (found e c ts)
     where
       go : Found e c ts (cliqueAt e c) → cliqueAt e c ≡ absent
@@ -404,35 +403,43 @@ module _ (v : Vocabulary) (roster : List ℕ) (ts : List Triple) (below : AllBel
             (subst (λ (z : ℕ). Clique v roster G e z q) (sym l) (clique-sym v roster (clique-labels e .related q (record { node = d; has = y }))));
       }
 
+  -- the same cliques at both sides, none counting as a value
+  pub cliques-strong : (c d : ℕ) → DataNode v roster G c → DataNode v roster G d → ((e : Side) → cliqueAt e c ≡ cliqueAt e d) → Strong v roster G c d
+  cliques-strong c d x y q =
+      record {
+        one = x;
+        two = y;
+        alike = λ e. record { forth = alike-side e c d (x .plain) (y .plain) (q e); back = alike-side e d c (y .plain) (x .plain) (sym (q e)) };
+      }
+
   alike-strong : (c d : ℕ) → DataNode v roster G c → DataNode v roster G d → alike (at c) (at d) ≡ true → Strong v roster G c d
   unfolding alike
-  alike-strong c d x y h =
-      let w = and-true (eqb (cliqueAt source c) (cliqueAt source d)) _ h in
-      record { one = x; two = y; alike = λ e. side e (eqb-true _ _ (w .0)) (eqb-true _ _ (w .1)) }
+  alike-strong c d x y h = cliques-strong c d x y (λ e. side e (and-true (eqb (cliqueAt source c) (cliqueAt source d)) _ h))
     where
-      both : (e : Side) → cliqueAt e c ≡ cliqueAt e d → strong.Alike v roster G e c d
-      both e q = record { forth = alike-side e c d (x .plain) (y .plain) q; back = alike-side e d c (y .plain) (x .plain) (sym q) }
-
-      side : (e : Side) → cliqueAt source c ≡ cliqueAt source d → cliqueAt target c ≡ cliqueAt target d → strong.Alike v roster G e c d
-      side source p q = both source p
-      side target p q = both target q
+      side : (e : Side) → (eqb (cliqueAt source c) (cliqueAt source d) ≡ true) × (eqb (cliqueAt target c) (cliqueAt target d) ≡ true) → cliqueAt e c ≡ cliqueAt e d
+      side source w = eqb-true _ _ (w .0)
+      side target w = eqb-true _ _ (w .1)
 
   -- whether a node has a property at a side
   pub has-or : (e : Side) (c : ℕ) → Plain roster c → ((p : ℕ) × Has v roster G e c p) ⊎ ((p : ℕ) → Has v roster G e c p → ⊥)
   has-or e c a = ⊎-elim (λ h. inr (λ p x. has-named e x (eqb-true _ _ h))) (λ h. inl (some-has e c a (eqb-false _ _ h))) (bool-cases (eqb (cliqueAt e c) absent))
 
-  strong-label : (e : Side) (c d : ℕ) → Plain roster c → Plain roster d → strong.Alike v roster G e c d → cliqueAt e c ≡ cliqueAt e d
-  strong-label e c d a b s = go (has-or e c a)
+  pub strong-cliques : {c d : ℕ} → Strong v roster G c d → (e : Side) → cliqueAt e c ≡ cliqueAt e d
+  strong-cliques {c} {d} s e = go (has-or e c (s .one .plain))
     where
       go : ((p : ℕ) × Has v roster G e c p) ⊎ ((p : ℕ) → Has v roster G e c p → ⊥) → cliqueAt e c ≡ cliqueAt e d
-      go (inl (p, x)) = let y = s .forth p x in has-label e x ∙ clique-agrees e (y .clique) ∙ sym (has-label e (y .has))
-      go (inr f) = none-label e c a f ∙ sym (none-label e d b (λ p x. let y = s .back p x in f (y .property) (y .has)))
+      go (inl (p, x)) = let y = s .alike e .forth p x in has-label e x ∙ clique-agrees e (y .clique) ∙ sym (has-label e (y .has))
+      go (inr f) = none-label e c (s .one .plain) f ∙ sym (none-label e d (s .two .plain) (λ p x. let y = s .alike e .back p x in f (y .property) (y .has)))
 
   strong-alike : {c d : ℕ} → Strong v roster G c d → alike (at c) (at d) ≡ true
   unfolding alike
-  strong-alike {c} {d} s =
-      and-both (eqb (cliqueAt source c) (cliqueAt source d)) _ (eq-eqb _ _ (strong-label source c d (s .one .plain) (s .two .plain) (s .alike source)))
-      (eq-eqb _ _ (strong-label target c d (s .one .plain) (s .two .plain) (s .alike target)))
+  strong-alike {c} {d} s = and-both (eqb (cliqueAt source c) (cliqueAt source d)) _ (eq-eqb _ _ (strong-cliques s source)) (eq-eqb _ _ (strong-cliques s target))
+
+  -- a node's clique is a property with a clique, or absent
+  pub clique-or : (e : Side) (c : ℕ) → Plain roster c → (cliqueAt e c ≡ absent) ⊎ Cliqued e (cliqueAt e c)
+  clique-or e c a =
+      ⊎-elim (λ (x : (p : ℕ) × Has v roster G e c p). inr (subst (Cliqued e) (sym (has-label e (x .1))) (clique-labels e .active (x .0) (record { node = c; has = x .1 }))))
+      (λ f. inl (none-label e c a f)) (has-or e c a)
 
   -- what is strongly equivalent has one label
   pub strong-agrees : {x y : ℕ} → Strong v roster G x y → label (strongMapOf v roster ts) x ≡ label (strongMapOf v roster ts) y

@@ -57,9 +57,9 @@ module _ (v : Vocabulary) (roster : List ℕ) where
         one = s .one;
         two = t .two;
         alike = λ e. record {
-            forth = λ p h. let x = s .alike e .forth p h in further (x .clique) (t .alike e .forth (x .property) (x .has));
-            back = λ p h. let x = t .alike e .back p h in further (x .clique) (s .alike e .back (x .property) (x .has));
-          };
+          forth = λ p h. let x = s .alike e .forth p h in further (x .clique) (t .alike e .forth (x .property) (x .has));
+          back = λ p h. let x = t .alike e .back p h in further (x .clique) (s .alike e .back (x .property) (x .has));
+        };
       }
 
   -- ── graphs with the same properties at each node ──

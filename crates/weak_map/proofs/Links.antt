@@ -16,11 +16,10 @@ use Rattle.model.specs.Triples.{isData}
 use Rattle.model.specs.Roster.{unmarked, isNode}
 use Rattle.model.specs.Cliques.{Side, source, target, end, Has, links}
 use Rattle.theory.proofs.Tests.{not-both, bool-cases, and-true}
-use Rattle.theory.proofs.Covered.{kind-top, property-at, property-marked}
 use Rattle.theory.proofs.Saturated.{In}
-use Rattle.theory.proofs.Weak.{HasData, data-kind, has-data, has-node, by-side}
+use Rattle.theory.proofs.Weak.{HasData, has-data, has-node, by-side}
 use Rattle.theory.proofs.Mapped.{node-test, node-below}
-use Rattle.theory.proofs.Accepted.{Right, room, below, covered, size-bounds}
+use Rattle.theory.proofs.Accepted.{Right, room, below, has-marked, size-bounds}
 use Rattle.union_find.specs.Roots.{root}
 use Rattle.union_find.proofs.Laws.{set-at}
 use Rattle.weak_map.specs.Linking.{Sound, slotOf, Slots, Flags, Linked}
@@ -58,14 +57,6 @@ module _ (v : Vocabulary) where
     has-property : {e : Side} {n p : ℕ} → HasIn e n p → p < length roster
     has-property h = omega (arith, below v roster ts R (h .by) (h .held) .property, h .property)
 
-    -- the property of a covered data triple is marked
-    has-marked : {e : Side} {n p : ℕ} → HasIn e n p → unmarked roster p ≡ false
-    has-marked h =
-        let q = h .by .property in
-        let k : kind v q ≡ 5 = omega (arith, kind-top v q, data-kind v (h .by) (h .is-data)) in
-        ap (unmarked roster) (sym (h .property))
-        ∙ property-marked roster q (property-at roster v (h .by) 5 k (covered v roster ts R (h .by) (h .held)) q (here refl))
-
     -- a slot is no entry of an unmarked code
     slot-other : (e : Side) (p m : ℕ) → m < length roster → unmarked roster p ≡ false → unmarked roster m ≡ true → slot e p ≡ m → ⊥
     slot-other source p m h a b z = not-both b (ap (unmarked roster) (sym z) ∙ a)
@@ -92,7 +83,7 @@ module _ (v : Vocabulary) where
           slots-flag b = record {
             held = λ f q i u k. let E = flag-slot f q u in subst (λ (z : ℕ). HasIn f z q) (sym E) (b .held f q i u (λ z. k (E ∙ z)));
             seen = λ f m q s.
-                let E = flag-slot f q (has-marked (known f m q s)) in
+                let E = flag-slot f q (has-marked v roster ts R (known f m q s)) in
                 let x = b .seen f m q s in
                 (λ z. x .0 (sym E ∙ z), ap (root map) E ∙ x .1);
           }
@@ -136,7 +127,7 @@ module _ (v : Vocabulary) where
           }
             where
               same : (m : ℕ) → m < length roster → unmarked roster m ≡ true → getD (set work (slot e p) n) m 0 ≡ getD work m 0
-              same m i u = getD-set-other work (slot e p) m n 0 (λ z. slot-other e p m i (has-marked h) u (sym z))
+              same m i u = getD-set-other work (slot e p) m n 0 (λ z. slot-other e p m i (has-marked v roster ts R h) u (sym z))
 
         -- a later node of the slot
         module _ (map map′ work : List ℕ) (named : getD work (slot e p) 0 ≡ absent → ⊥) (one : root map′ (getD work (slot e p) 0) ≡ root map′ n)
@@ -151,7 +142,7 @@ module _ (v : Vocabulary) where
               before f m q o =
                   let x = b .seen f m q o in
                   let y = old f m q o in
-                  (x .0, same (getD work (slot f q) 0) m (has-test (b .held f q (has-property y) (has-marked y) (x .0))) (has-test y) (x .1))
+                  (x .0, same (getD work (slot f q) 0) m (has-test (b .held f q (has-property y) (has-marked v roster ts R y) (x .0))) (has-test y) (x .1))
 
               now : (f : Side) (m q : ℕ) → f ≡ e → m ≡ n → q ≡ p → (getD work (slot f q) 0 ≡ absent → ⊥) × (root map′ (getD work (slot f q) 0) ≡ root map′ m)
               now f m q a c d = rw (a, c, d) (named, one)
@@ -184,7 +175,7 @@ module _ (v : Vocabulary) where
               go (no z) =
                   let x = d .later z in
                   let m = getD work (slot e p) 0 in
-                  let k = b .slots .held e p (has-property h) (has-marked h) z in
+                  let k = b .slots .held e p (has-property h) (has-marked v roster ts R h) z in
                   finish (ap length (x .1))
                   (sound-united v roster ts map (b .sound) m n (has-test k) (has-test h) map′ (x .0) (by-side k h))
                   (rw (x .1) (slots-later map map′ work z (sound-one v roster ts map (b .sound) m n (has-test k) (has-test h) map′ (x .0))
@@ -207,7 +198,7 @@ module _ (v : Vocabulary) where
           pair = λ h z.
               let k = has-end h in
               sound-pair v roster ts map (b .sound) (getD work (slot e (t .property)) 0) (end e t)
-              (has-test (b .slots .held e (t .property) (has-property k) (has-marked k) z)) (has-test k);
+              (has-test (b .slots .held e (t .property) (has-property k) (has-marked v roster ts R k) z)) (has-test k);
         }
 
         pub end-linked : (map′ work′ : List ℕ) → EndLinked v roster e t map work map′ work′ → Linked v roster ts S′ map′ work′

@@ -1,21 +1,41 @@
+-- `node_cliques::node_cliques` meets its contract.
+-- Assumes nothing.
 use borrow.Author.Needs.{needs}
+use Rattle.cliques.specs.Calls.{sideOf}
+use Rattle.node_cliques.proofs.Labelling.{labelled-start, labelled-end}
 use Rattle.node_cliques.proofs.node_cliques.Statement.{statement}
 use Rattle.node_cliques.proofs.node_cliques.Tie as tie
-use Rattle.node_cliques.proofs.node_cliques.Reads as reads
-use Rattle.node_cliques.proofs.node_cliques.Lts as lts
-use Rattle.cliques.proofs.clique_side.Reads as clique-side-reads
 
--- src/lib.rt:23:5
 clique-side-requires : tie.Need-clique-side-requires
 clique-side-requires c κs = search needs
 
--- src/lib.rt:13:1
+open-labels-requires : tie.Need-open-labels-requires
+open-labels-requires c κs = search needs
+
+label-ends-requires : tie.Need-label-ends-requires
+label-ends-requires c κs =
+    let s = c .before .before .before .before .before .before .before .before .before .before .before .before in
+    let R = s .pre .0 in
+    (R, labelled-start _ (s .args .table .now) _ (sideOf (s .args .sources)) R _ _ (c .before .before .before .before .before .before .before .clique-side .ensures) (c .before .before .before .open-labels .ensures))
+
+open-slots-requires : tie.Need-open-slots-requires
+open-slots-requires c κs = search needs
+
 same-length : tie.Need-same-length
 same-length c = search needs
 
--- src/lib.rt:13:1
 returns : tie.Need-returns
-returns c = ?
+returns c =
+    let s = c .before .before .before .before .before .before .before .before .before .before .before .before .before .before .before .before .before .before .before in
+    labelled-end _ (s .args .table .now) _ (sideOf (s .args .sources)) (s .pre .0) _ (c .before .before .before .before .before .before .label-ends .ensures) _ (c .before .before .open-slots .ensures)
 
 pub node-cliques-spec : {M : Type 1} → statement M
-node-cliques-spec = tie.close (tie.spec clique-side-requires same-length returns)
+node-cliques-spec =
+    tie.close
+    (tie.spec
+    clique-side-requires
+    open-labels-requires
+    label-ends-requires
+    open-slots-requires
+    same-length
+    returns)

@@ -1,0 +1,44 @@
+-- `strong_map::is_node` meets its contract.
+-- Assumes nothing.
+use mathlib.Core.Path.{sym, _∙_}
+use borrow.Author.Tests.{eqb-true, eqb-false}
+use Rattle.strong_map.proofs.Stores.{node-absent, node-plain}
+use borrow.Author.Needs.{needs}
+use Rattle.strong_map.proofs.is_node.Statement.{statement}
+use Rattle.strong_map.proofs.is_node.Tie as tie
+use Rattle.strong_map.proofs.is_node.Reads as reads
+use Rattle.strong_map.proofs.is_node.Lts as lts
+use Rattle.lists.proofs.Code.is_absent.Reads as is-absent-reads
+
+mul-t5 : tie.Need-mul-t5
+mul-t5 c = search needs
+
+shared-slice-read-t7 : tie.Need-shared-slice-read-t7
+shared-slice-read-t7 c = search needs
+
+is-absent-requires : tie.Need-is-absent-requires
+is-absent-requires c κs = search needs
+
+returns : tie.Need-returns
+returns c =
+    let s = c .before .before .before .before .before .args in
+    node-absent (s .roster .now) (s .map .now) (s .i) (eqb-true _ _ (sym (c .before .is-absent .ensures) ∙ c .if1 .taken))
+
+shared-slice-read-result : tie.Need-shared-slice-read-result
+shared-slice-read-result c = search needs
+
+returns-2 : tie.Need-returns-2
+returns-2 c =
+    let s = c .before .before .before .before .before .before .args in
+    node-plain (s .roster .now) (s .map .now) (s .i) (eqb-false _ _ (sym (c .before .before .is-absent .ensures) ∙ c .before .if1 .left))
+
+pub is-node-spec : {M : Type 1} → statement M
+is-node-spec =
+    tie.close
+    (tie.spec
+    mul-t5
+    shared-slice-read-t7
+    is-absent-requires
+    returns
+    shared-slice-read-result
+    returns-2)
