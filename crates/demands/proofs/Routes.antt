@@ -19,14 +19,14 @@ use Rattle.model.specs.Classes.{mapOf}
 use Rattle.model.specs.Summary.{summary}
 use Rattle.model.specs.Saturation.{saturation}
 use Rattle.model.specs.Outcomes.{Outcome, accepted, refused, check, checked, decided, left, wrongSize, wrongLength, wrongWork}
-use Rattle.model.specs.Calls.{tableChecks, Accepted, saturated, saturateOutcome, saturateLeaves, summariseOutcome, summariseLeaves}
+use Rattle.model.specs.Calls.{tableChecks, Accepted, saturated, saturateOutcome, saturateLeaves, summariseOutcomeBy, summariseLeavesBy}
 use Rattle.theory.proofs.Tests.{or-false, or-neither}
 use Rattle.theory.proofs.Checks.{passed, passed-all, first-passes, passes-first, not-accepted, no-checks}
 use Rattle.table_checks.proofs.Laws.{enough}
 use Rattle.theory.proofs.Flat.{triples-flat, length-flat}
 use Rattle.theory.proofs.Theorems.{shortcut-holds, own-roster-least}
 use Rattle.theory.proofs.Accepted.{Right, saturation-right, summary-right, right-accepted}
-use Rattle.theory.proofs.Feeding.{summary-length}
+use Rattle.theory.proofs.Summaries.{condensed-length}
 use Rattle.theory.proofs.Mapped.{length-map-of}
 use Rattle.demands.proofs.NoneMeansNone.{none-means-none}
 use Rattle.model.specs.Roster.{ownRoster, wrongCodes}
@@ -76,7 +76,7 @@ module _ (v : Vocabulary) where
     maps : map ≡ mapOf v roster (triples table)
 
   sum-is : (table roster : List ℕ) (l : Lent) (out map : List ℕ) (c : ℕ) → Summarises v table roster l c out map → Sum table roster out map c
-  unfolding summariseOutcome summariseLeaves tableChecks left
+  unfolding summariseOutcomeBy summariseLeavesBy tableChecks left
   sum-is table roster l out map c h =
       let a = passed _ _ _ c (h .returns) in
       let b = passed _ _ _ c (a .1) in
@@ -143,7 +143,7 @@ module _ (v : Vocabulary) where
       } in
       let S : Right v own (saturation v n ts) = subst (λ (z : ℕ). Right v own (saturation v z ts)) (O .size) (saturation-right v own ts R) in
       let T = summary-right v own (saturation v n ts) S in
-      let A = right-accepted v own (summary v own (saturation v n ts)) T (omega (arith, few, summary-length v own (saturation v n ts))) in
+      let A = right-accepted v own (summary v own (saturation v n ts)) T (omega (arith, few, condensed-length (mapOf v own (saturation v n ts)) (saturation v n ts))) in
       let len : length (mapOf v own (saturation v n ts)) ≡ length own = length-map-of v own (saturation v n ts) in
       six-only _ _ _ _ _ r
       (or-neither (wrongSize (length (mapOf v own (saturation v n ts)))) _ (subst (λ (z : ℕ). wrongSize z ≡ false) (sym len) (R .size)) (table-length (flat (summary v own (saturation v n ts))) own A))
@@ -154,7 +154,7 @@ module _ (v : Vocabulary) where
 
   -- ── long enough lists ──
   pub accepted-calls : AcceptedCalls v
-  unfolding saturateOutcome saturated summariseOutcome wrongWork
+  unfolding saturateOutcome saturated summariseOutcomeBy wrongWork
   accepted-calls table roster h =
       record {
         saturates = λ result few. enough (tableChecks v false table roster) (slots result) _ h few;

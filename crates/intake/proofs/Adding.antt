@@ -192,14 +192,14 @@ module _ (v : Vocabulary) where
                 (λ x. good-parts roster u (any-none (bad v roster) (first triples held) h u x))
                 (insert-mem t u (first triples held) (new-mem triples m held i t I low u k))
 
-        module _ (sums′ map′ work′ : List ℕ) (r : Counted) (C : Condensed v roster (first m (held + 1)) sums map₀ work r sums′ map′ work′) where
+        module _ (sums′ map′ work′ : List ℕ) (r : Counted) (C : Condensed (mapOf v roster (first m (held + 1))) (first m (held + 1)) sums map₀ work r sums′ map′ work′) where
           abbrev ts : List Triple
           ts = first m (held + 1)
 
           few-enough : 3 * length (summary v roster ts) ≤ length sums
           few-enough = omega (arith, condensed-length (mapOf v roster ts) ts, length-tabulate (at m) 0 (held + 1), R .equal, free)
 
-          ok : condensedOutcome v roster ts sums ≡ accepted (length (summary v roster ts))
+          ok : condensedOutcome (mapOf v roster ts) ts sums ≡ accepted (length (summary v roster ts))
           unfolding slots
           ok = enough [] (length sums / 3) (length (summary v roster ts)) no-checks (omega (arith, few-enough))
 

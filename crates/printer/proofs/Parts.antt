@@ -25,7 +25,7 @@ use Rattle.model.specs.Saturation.{saturation}
 use Rattle.model.specs.Classes.{mapOf}
 use Rattle.model.specs.Summary.{summary}
 use Rattle.model.specs.Outcomes.{Outcome, refused, accepted, number, counted, decided, Passes, wrongSize, wrongLength, wrongWork}
-use Rattle.model.specs.Calls.{tableChecks, Accepted, Summarised, saturated, ownRosterOutcome, ownRosterLeaves, saturateOutcome, saturateLeaves, summariseOutcome, summariseLeaves}
+use Rattle.model.specs.Calls.{tableChecks, Accepted, Summarised, saturated, ownRosterOutcome, ownRosterLeaves, saturateOutcome, saturateLeaves, summariseOutcome, summariseOutcomeBy, summariseLeavesBy}
 use Rattle.theory.proofs.Tests.{or-left, or-right, or-neither, bool-cases}
 use Rattle.theory.proofs.Checks.{first-passes, no-checks, decided-passes, not-accepted, passed-all}
 use Rattle.theory.proofs.Flat.{triples-flat, flat-triples, length-flat, length-triples, length-listed}

@@ -7,12 +7,13 @@ ghost use lib.Dec.{eqb};
 ghost use lib.ListN.{length};
 ghost use Rattle.model.specs.Outcomes.{wrongWork};
 ghost use Rattle.model.specs.Partition.{label};
+ghost use Rattle.model.specs.Classes.{mapOf};
 ghost use Rattle.model.specs.Summary.{moved};
 ghost use Rattle.theory.proofs.Accepted.{Right};
 ghost use Rattle.theory.proofs.Covered.{Below, AllBelow};
 ghost use Rattle.lists.specs.Flat.{at};
 ghost use Rattle.builder.specs.Builder.{first, Collected};
-ghost use Rattle.summarise.specs.Condensed.{Condensed, SummariseCall};
+ghost use Rattle.summarise.specs.Condensed.{Imaged, Condensed, SummariseCall};
 use builder::Builder;
 use builder::finish;
 use builder::offer;
@@ -63,6 +64,21 @@ fn images(table: &[u32], count: usize, map: &[u32], list: &mut [u32]) -> Builder
     state
 }
 
+// The images of the first `count` triples under a finished map, each once, in rising order. Without the slots for them the result
+// and the map are zero afterwards.
+pub fn condense_by(table: &[u32], count: usize, map: &mut [u32], result: &mut [u32]) -> Counted
+    requires { ⌜ (3 * count ≤ length (now table)) × AllBelow (length (now map)) (first (now table) count) ⌝ }
+    ensures { λ r. ⌜ Imaged (now (map .entry)) (first (now (table .entry)) count) (now (result .entry)) r (now (result .exit)) (now (map .exit)) ⌝ }
+{
+    let state = images(table, count, map, result);
+    if state.full {
+        clear(result, 0, result.len());
+        clear(map, 0, map.len());
+        return Counted::Refused(Refusal::Slots);
+    }
+    Counted::Count(finish(result, state.filled))
+}
+
 // Summarises the first `count` triples of a list, which pass the checks 1, 10, 2, 3, 4 with the words and the roster.
 pub fn condense(
     words: Vocabulary,
@@ -74,16 +90,10 @@ pub fn condense(
     work: &mut [u32],
 ) -> Counted
     requires { ⌜ (3 * count ≤ length (now table)) × Right words (now roster) (first (now table) count) × (length (now map) ≡ length (now roster)) × (length (now work) ≡ 2 * length (now roster)) ⌝ }
-    ensures { λ r. ⌜ Condensed words (now (roster .entry)) (first (now (table .entry)) count) (now (result .entry)) (now (map .entry)) (now (work .entry)) r (now (result .exit)) (now (map .exit)) (now (work .exit)) ⌝ }
+    ensures { λ r. ⌜ Condensed (mapOf words (now (roster .entry)) (first (now (table .entry)) count)) (first (now (table .entry)) count) (now (result .entry)) (now (map .entry)) (now (work .entry)) r (now (result .exit)) (now (map .exit)) (now (work .exit)) ⌝ }
 {
     weak_map(words, table, count, roster, map, work);
-    let state = images(table, count, map, result);
-    if state.full {
-        clear(result, 0, result.len());
-        clear(map, 0, map.len());
-        return Counted::Refused(Refusal::Slots);
-    }
-    Counted::Count(finish(result, state.filled))
+    condense_by(table, count, map, result)
 }
 
 // Whether the map has not n entries, or the work list not two for each.

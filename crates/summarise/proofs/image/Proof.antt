@@ -25,7 +25,9 @@ shared-slice-read-t10 : tie.Need-shared-slice-read-t10
 shared-slice-read-t10 c = search needs
 
 returns : tie.Need-returns
-returns c = image-is (c .before .before .before .before .before .args .map .now) (c .before .before .before .before .before .args .t) _ _ (c .before .before .before .before .before .pre) (c .before .before .before .wide .ensures) (c .before .wide2 .ensures)
+returns c =
+    let start = c .before .before .before .before .before in
+    image-is (start .args .map .now) (start .args .t) _ _ (start .pre) (c .before .before .before .wide .ensures) (c .before .wide2 .ensures)
 
 pub image-spec : {M : Type 1} → statement M
 image-spec =

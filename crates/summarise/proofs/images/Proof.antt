@@ -27,7 +27,9 @@ triple-at-requires : tie.Need-triple-at-requires Inv-loop μ-loop
 triple-at-requires c κs = omega (arith, c .loop-test .taken, c .before .before .before .before .before .pre .0)
 
 image-requires : tie.Need-image-requires Inv-loop μ-loop
-image-requires c κs = below-at _ (c .before .before .before .before .before .before .before .args .table .now) (c .before .before .before .before .before .before .before .args .count) _ _ (c .before .before .before .before .before .before .before .pre .1) (c .before .before .loop-test .taken) (c .before .triple-at .ensures)
+image-requires c κs =
+    let start = c .before .before .before .before .before .before .before in
+    below-at _ (start .args .table .now) (start .args .count) _ _ (start .pre .1) (c .before .before .loop-test .taken) (c .before .triple-at .ensures)
 
 offer-requires : tie.Need-offer-requires Inv-loop μ-loop
 offer-requires c κs = c .before .before .before .before .loop .inv .step .goes-on (c .before .before .before .before .loop .inv .going) .built
@@ -36,7 +38,12 @@ same-length : tie.Need-same-length Inv-loop μ-loop
 same-length c = search needs
 
 returns : tie.Need-returns Inv-loop μ-loop
-returns c = collecting-full _ _ _ _ _ _ _ _ (c .before .before .before .before .before .before .before .before .loop .inv) _ (c .before .before .before .before .before .before .before .loop-test .taken) (image-at (c .before .before .before .before .before .before .before .before .before .before .before .before .args .map .now) (c .before .before .before .before .before .before .before .before .before .before .before .before .args .table .now) _ _ _ (c .before .before .before .before .before .before .triple-at .ensures) (c .before .before .before .before .image .ensures)) (c .before .before .before .offer .ensures) (c .if1 .taken)
+returns c =
+    let back6 = c .before .before .before .before .before .before in
+    let back7 = back6 .before in
+    let back8 = back7 .before in
+    let start = back8 .before .before .before .before in
+    collecting-full _ _ _ _ _ _ _ _ (back8 .loop .inv) _ (back7 .loop-test .taken) (image-at (start .args .map .now) (start .args .table .now) _ _ _ (back6 .triple-at .ensures) (c .before .before .before .before .image .ensures)) (c .before .before .before .offer .ensures) (c .if1 .taken)
 
 add-i : tie.Need-add-i Inv-loop μ-loop
 add-i c = omega (arith, c .before .before .before .before .before .before .before .loop-test .taken)
@@ -45,7 +52,12 @@ loop-less : tie.Need-loop-less Inv-loop μ-loop
 loop-less c = omega (arith, c .before .before .before .before .before .before .before .loop-test .taken)
 
 loop-again : tie.Need-loop-again Inv-loop μ-loop
-loop-again c = collecting-next _ _ _ _ _ _ _ _ (c .before .before .before .before .before .before .before .before .loop .inv) _ (c .before .before .before .before .before .before .before .loop-test .taken) (image-at (c .before .before .before .before .before .before .before .before .before .before .before .before .args .map .now) (c .before .before .before .before .before .before .before .before .before .before .before .before .args .table .now) _ _ _ (c .before .before .before .before .before .before .triple-at .ensures) (c .before .before .before .before .image .ensures)) (c .before .before .before .offer .ensures) (c .if1 .left)
+loop-again c =
+    let back6 = c .before .before .before .before .before .before in
+    let back7 = back6 .before in
+    let back8 = back7 .before in
+    let start = back8 .before .before .before .before in
+    collecting-next _ _ _ _ _ _ _ _ (back8 .loop .inv) _ (back7 .loop-test .taken) (image-at (start .args .map .now) (start .args .table .now) _ _ _ (back6 .triple-at .ensures) (c .before .before .before .before .image .ensures)) (c .before .before .before .offer .ensures) (c .if1 .left)
 
 same-length-2 : tie.Need-same-length-2 Inv-loop μ-loop
 same-length-2 c = c .before .loop .inv .step .size

@@ -1,3 +1,4 @@
+use Rattle.model.specs.Classes.{mapOf}
 use Rattle.summarise.proofs.Answers.{call-ready, call-refused, call-condensed}
 use borrow.Author.Needs.{needs}
 use Rattle.summarise.proofs.summarise.Statement.{statement}
@@ -21,10 +22,15 @@ enum-told : tie.Need-enum-told
 enum-told c = search needs
 
 condense-requires : tie.Need-condense-requires
-condense-requires c κs = call-ready _ (c .before .before .before .before .before .before .before .before .before .before .before .before .args .table .now) (c .before .before .before .before .before .before .before .before .before .before .before .before .args .roster .now) (c .before .before .before .before .before .before .before .before .before .before .before .before .args .result .now) (c .before .before .before .before .before .before .before .before .before .before .before .before .args .map .now) (c .before .before .before .before .before .before .before .before .before .before .before .before .args .work .now) _ (c .before .before .before .before .before .before .lengths-wrong .ensures) _ (c .before .before .before .before .before .table-refusal .ensures) (c .before .before .before .enum-told .given .1)
+condense-requires c κs =
+    let back6 = c .before .before .before .before .before .before in
+    let start = back6 .before .before .before .before .before .before in
+    call-ready _ (start .args .table .now) (start .args .roster .now) (start .args .result .now) (start .args .map .now) (start .args .work .now) _ (back6 .lengths-wrong .ensures) _ (c .before .before .before .before .before .table-refusal .ensures) (c .before .before .before .enum-told .given .1)
 
 returns : tie.Need-returns
-returns c = call-refused _ (c .before .before .before .before .before .before .before .before .before .before .args .table .now) (c .before .before .before .before .before .before .before .before .before .before .args .roster .now) (c .before .before .before .before .before .before .before .before .before .before .args .result .now) (c .before .before .before .before .before .before .before .before .before .before .args .map .now) (c .before .before .before .before .before .before .before .before .before .before .args .work .now) _ (c .before .before .before .before .lengths-wrong .ensures) _ _ (c .before .before .before .table-refusal .ensures) (c .before .r .given .1)
+returns c =
+    let start = c .before .before .before .before .before .before .before .before .before .before in
+    call-refused _ (start .args .table .now) (start .args .roster .now) (start .args .result .now) (start .args .map .now) (start .args .work .now) _ (c .before .before .before .before .lengths-wrong .ensures) _ _ _ (c .before .before .before .table-refusal .ensures) (c .before .r .given .1)
 
 same-length : tie.Need-same-length
 same-length c = search needs
@@ -36,7 +42,13 @@ same-length-3 : tie.Need-same-length-3
 same-length-3 c = search needs
 
 returns-2 : tie.Need-returns-2
-returns-2 c = call-condensed _ (c .before .before .before .before .before .before .before .before .before .before .before .before .before .before .before .before .before .before .before .args .table .now) (c .before .before .before .before .before .before .before .before .before .before .before .before .before .before .before .before .before .before .before .args .roster .now) (c .before .before .before .before .before .before .before .before .before .before .before .before .before .before .before .before .before .before .before .args .result .now) (c .before .before .before .before .before .before .before .before .before .before .before .before .before .before .before .before .before .before .before .args .map .now) (c .before .before .before .before .before .before .before .before .before .before .before .before .before .before .before .before .before .before .before .args .work .now) _ (c .before .before .before .before .before .before .before .before .before .before .before .before .before .lengths-wrong .ensures) _ (c .before .before .before .before .before .before .before .before .before .before .before .before .table-refusal .ensures) (c .before .before .before .before .before .before .before .before .before .before .enum-told .given .1) _ _ _ _ (c .before .before .before .before .before .before .condense .ensures)
+returns-2 c =
+    let back6 = c .before .before .before .before .before .before in
+    let back10 = back6 .before .before .before .before in
+    let back12 = back10 .before .before in
+    let back13 = back12 .before in
+    let start = back13 .before .before .before .before .before .before in
+    call-condensed _ (start .args .table .now) (start .args .roster .now) (start .args .result .now) (start .args .map .now) (start .args .work .now) _ (back13 .lengths-wrong .ensures) _ (back12 .table-refusal .ensures) (back10 .enum-told .given .1) (mapOf (start .args .words) (start .args .roster .now)) _ _ _ _ (back6 .condense .ensures)
 
 pub summarise-spec : {M : Type 1} → statement M
 summarise-spec =
