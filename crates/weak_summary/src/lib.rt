@@ -9,7 +9,7 @@ ghost use Rattle.model.specs.Codes.{codes};
 ghost use Rattle.model.specs.Triples.{triple};
 ghost use Rattle.model.specs.Cliques.{source, target};
 ghost use Rattle.model.specs.Outcomes.{number, done, counted, found};
-ghost use Rattle.model.specs.Calls.{ownRosterOutcome, ownRosterLeaves, saturateOutcome, saturateLeaves, cliquesOutcome, cliquesLeave, summariseOutcome, summariseLeaves, lookUpOutcome};
+ghost use Rattle.model.specs.Calls.{ownRosterOutcome, ownRosterLeaves, saturateOutcome, saturateLeaves, cliquesOutcome, cliquesLeave, summariseOutcome, summariseLeaves, strongSummariseOutcome, strongSummariseLeaves, lookUpOutcome};
 ghost use Rattle.intake.specs.Opening.{stateWith};
 ghost use Rattle.query.specs.Ask.{asked};
 ghost use Rattle.site_form.specs.Writing.{writeOutcome, writeList};
@@ -39,6 +39,7 @@ use site_form::Form;
 use site_reader::read;
 use site_writer::write;
 use summarise::summarise;
+use summarise_strong::summarise_strong;
 
 // The numbers of a word table: the reserved codes of type, subclass, subproperty, domain and range.
 pub const WORDS_NUMBERS: usize = 5;
@@ -230,6 +231,25 @@ pub extern "C" fn ws_summarise(
     }
     let loaded = words_of(words);
     counted_status(summarise(loaded, table, roster, result, map, work), count)
+}
+
+#[no_mangle]
+pub extern "C" fn ws_summarise_strong(
+    words: &[u32],
+    table: &[u32],
+    roster: &[u8],
+    result: &mut [u32],
+    map: &mut [u32],
+    work: &mut [u32],
+    count: &mut usize,
+) -> u32
+    ensures { λ s. ⌜ ByWords (now (words .entry)) ((s ≡ 1) × (now (count .exit) ≡ now (count .entry)) × (now (result .exit) ≡ now (result .entry)) × (now (map .exit) ≡ now (map .entry)) × (now (work .exit) ≡ now (work .entry))) (λ v. Stores (strongSummariseOutcome v (now (table .entry)) (now (roster .entry)) (now (result .entry)) (now (map .entry)) (now (work .entry))) (now (count .entry)) s (now (count .exit)) × (record { result = now (result .exit); map = now (map .exit); work = now (work .exit) } ≡ strongSummariseLeaves v (now (table .entry)) (now (roster .entry)) (now (result .entry)) (now (map .entry)) (now (work .entry)))) ⌝ }
+{
+    if words.len() != WORDS_NUMBERS {
+        return refusal_number(Refusal::Length);
+    }
+    let loaded = words_of(words);
+    counted_status(summarise_strong(loaded, table, roster, result, map, work), count)
 }
 
 #[no_mangle]

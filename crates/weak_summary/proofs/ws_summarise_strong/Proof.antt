@@ -1,0 +1,49 @@
+-- `weak_summary::ws_summarise_strong` meets its contract.
+-- Assumes nothing.
+use mathlib.Core.Path.{refl}
+use borrow.Author.Needs.{needs}
+use Rattle.weak_summary.proofs.Words.{one, by-wrong, by-right}
+use Rattle.weak_summary.proofs.Outcomes.{stores-as}
+use Rattle.weak_summary.proofs.ws_summarise_strong.Statement.{statement}
+use Rattle.weak_summary.proofs.ws_summarise_strong.Tie as tie
+
+refusal-number-requires : tie.Need-refusal-number-requires
+refusal-number-requires c κs = search needs
+
+returns : tie.Need-returns
+returns c = by-wrong (c .before .if1 .taken) (one (c .refusal-number .ensures), refl, refl, refl, refl)
+
+words-of-requires : tie.Need-words-of-requires
+words-of-requires c κs = c .if1 .left
+
+summarise-strong-requires : tie.Need-summarise-strong-requires
+summarise-strong-requires c κs = search needs
+
+counted-status-requires : tie.Need-counted-status-requires
+counted-status-requires c κs = search needs
+
+same-length : tie.Need-same-length
+same-length c = search needs
+
+same-length-2 : tie.Need-same-length-2
+same-length-2 c = search needs
+
+same-length-3 : tie.Need-same-length-3
+same-length-3 c = search needs
+
+returns-2 : tie.Need-returns-2
+returns-2 c = by-right (c .before .before .before .before .before .before .before .before .before .before .before .before .before .if1 .left) _ (c .before .before .before .before .before .before .before .before .before .before .before .before .words-of .ensures) (stores-as (c .before .before .before .before .before .before .before .before .summarise-strong .ensures .answer) (c .counted-status .ensures), c .before .before .before .before .before .before .before .before .summarise-strong .ensures .leaves)
+
+pub ws-summarise-strong-spec : {M : Type 1} → statement M
+ws-summarise-strong-spec =
+    tie.close
+    (tie.spec
+    refusal-number-requires
+    returns
+    words-of-requires
+    summarise-strong-requires
+    counted-status-requires
+    same-length
+    same-length-2
+    same-length-3
+    returns-2)
