@@ -7,13 +7,16 @@ use Rattle.site_form.proofs.Whole.{reads-exactly}
 use Rattle.site_form.proofs.Back.{written-is-read}
 use Rattle.site_form.proofs.Queries.{counts-patterns}
 use Rattle.site_form.proofs.Example.{sign-bytes, prints-example}
-use Rattle.demands.specs.Demands.{GraphsRight, ClosuresRight, Demand2, Demand3, SiteForms}
+use Rattle.demands.specs.Demands.{GraphsRight, StrongGraphsRight, ClosuresRight, Demand2, Demand3, SiteForms}
 use Rattle.demands.proofs.NoneMeansNone.{none-means-none}
 use Rattle.demands.proofs.Feeds.{list-of-calls}
-use Rattle.demands.proofs.Routes.{accepted-calls, shortcut-of-calls, none-of-calls, ask-refuses-six}
+use Rattle.demands.proofs.Routes.{accepted-calls, shortcut-of-calls, strong-shortcut-of-calls, weak-of-strong-calls, none-of-calls, ask-refuses-six}
 
 pub graphs-right : GraphsRight
 graphs-right = graphs.graphs-right
+
+pub strong-graphs-right : StrongGraphsRight
+strong-graphs-right = graphs.strong-graphs-right
 
 pub closures-right : ClosuresRight
 closures-right = graphs.closures-right
@@ -26,6 +29,8 @@ demand-2 =
       cliques = theorems.cliques-exact;
       representatives = theorems.representatives-exact;
       summaries = theorems.summary-exact;
+      strong-representatives = theorems.strong-representatives-exact;
+      strong-summaries = theorems.strong-summary-exact;
       own-roster = theorems.own-roster-least;
       ask = ask-exact;
     }
@@ -37,6 +42,11 @@ demand-3 =
       routes = theorems.routes-accepted;
       accepted-calls = accepted-calls;
       shortcut-of-calls = shortcut-of-calls;
+      strong-shortcut = theorems.strong-shortcut-holds;
+      strong-routes = theorems.strong-routes-accepted;
+      strong-shortcut-of-calls = strong-shortcut-of-calls;
+      weak-of-strong = theorems.weak-of-strong-holds;
+      weak-of-strong-calls = weak-of-strong-calls;
       any-order = theorems.any-order;
       fed-in-any-order = theorems.fed-in-any-order;
       none-means-none = none-means-none;

@@ -15,8 +15,8 @@ use Rattle.model.specs.Codes.{wrongWords}
 use Rattle.model.specs.Lists.{padded}
 use Rattle.model.specs.Triples.{triples, flat, listed, slots}
 use Rattle.model.specs.Partition.{label}
-use Rattle.model.specs.Classes.{mapOf}
-use Rattle.model.specs.Summary.{summary}
+use Rattle.model.specs.Classes.{mapOf, strongMapOf}
+use Rattle.model.specs.Summary.{condensed, summary, strongSummary}
 use Rattle.model.specs.Saturation.{saturation}
 use Rattle.model.specs.Outcomes.{Outcome, accepted, refused, check, checked, decided, left, wrongSize, wrongLength, wrongWork}
 use Rattle.model.specs.Calls.{tableChecks, Accepted, saturated, saturateOutcome, saturateLeaves, summariseOutcomeBy, summariseLeavesBy}
@@ -24,7 +24,8 @@ use Rattle.theory.proofs.Tests.{or-false, or-neither}
 use Rattle.theory.proofs.Checks.{passed, passed-all, first-passes, passes-first, not-accepted, no-checks}
 use Rattle.table_checks.proofs.Laws.{enough}
 use Rattle.theory.proofs.Flat.{triples-flat, length-flat}
-use Rattle.theory.proofs.Theorems.{shortcut-holds, own-roster-least}
+use Rattle.theory.specs.Theorems.{sumBy, ShortcutBy}
+use Rattle.theory.proofs.Theorems.{shortcut-holds, strong-shortcut-holds, weak-of-strong-holds, own-roster-least}
 use Rattle.theory.proofs.Accepted.{Right, saturation-right, summary-right, right-accepted}
 use Rattle.theory.proofs.Summaries.{condensed-length}
 use Rattle.theory.proofs.Mapped.{length-map-of}
@@ -32,7 +33,7 @@ use Rattle.demands.proofs.NoneMeansNone.{none-means-none}
 use Rattle.model.specs.Roster.{ownRoster, wrongCodes}
 use Rattle.query.specs.Ask.{askOutcome, askChecks}
 use Rattle.query.specs.Match.{Match}
-use Rattle.demands.specs.Routes.{tableIn, Lent, Summarises, Saturates, AcceptedCalls, ShortcutOfCalls, NoneOfCalls, AskRefusesSix}
+use Rattle.demands.specs.Routes.{tableIn, Lent, SummarisesBy, AcceptsSummarise, Saturates, AcceptedCalls, ShortcutOfCallsBy, ShortcutOfCalls, StrongShortcutOfCalls, WeakOfStrongCalls, NoneOfCalls, AskRefusesSix}
 
 -- what a list that lists triples begins with
 listed-table : (n : ℕ) (ts : List Triple) (c : ℕ) → length ts ≡ c → tableIn c (listed n ts) ≡ flat ts
@@ -40,6 +41,10 @@ unfolding listed padded
 listed-table n ts c e =
     let q : 3 * c ≡ length (flat ts) = omega (arith, e, length-flat ts) in
     ap (λ (k : ℕ). take k (listed n ts)) q ∙ take-append-seam (flat ts) _
+
+-- what a call left, as triples
+left-is : (out : List ℕ) (ts : List Triple) → out ≡ flat ts → triples out ≡ ts
+left-is out ts e = ap triples e ∙ triples-flat ts
 
 six-only : (b k c d : Bool) (y : Bool) (r : ℕ) → b ≡ false → k ≡ false → c ≡ false → checked (check 1 b ∷ check 10 k ∷ check 3 c ∷ check 6 d ∷ []) y ≡ refused r → r ≡ 6
 unfolding decided
@@ -69,57 +74,82 @@ module _ (v : Vocabulary) where
         is = h .triples ∙ ap (λ (o : Outcome ℕ). tableIn c (left o result (listed (length result) (saturation v (length roster) (triples table))))) (h .returns) ∙ listed-table (length result) _ c n;
       }
 
-  record Sum (table roster out map : List ℕ) (c : ℕ) : Type 0 where
+  -- an accepted summarise by a map m
+  record Sum (m table roster out map : List ℕ) (c : ℕ) : Type 0 where
     accepts : Accepted v table roster
-    counts : length (summary v roster (triples table)) ≡ c
-    is : out ≡ flat (summary v roster (triples table))
-    maps : map ≡ mapOf v roster (triples table)
+    counts : length (condensed m (triples table)) ≡ c
+    is : out ≡ flat (condensed m (triples table))
+    maps : map ≡ m
 
-  sum-is : (table roster : List ℕ) (l : Lent) (out map : List ℕ) (c : ℕ) → Summarises v table roster l c out map → Sum table roster out map c
-  unfolding summariseOutcomeBy summariseLeavesBy tableChecks left
-  sum-is table roster l out map c h =
-      let a = passed _ _ _ c (h .returns) in
-      let b = passed _ _ _ c (a .1) in
-      let d = passed _ _ _ c (b .1) in
-      let e = passed _ _ _ c (d .1) in
-      let f = passed _ _ _ c (e .1) in
-      let g = passed _ _ _ c (f .1) in
-      let n = passed-all _ c (g .1) in
-      let x = or-false (wrongSize (length roster)) _ (a .0) in
-      let y = or-false (wrongLength (length table)) _ (x .1) in
-      let z = or-neither (wrongSize (length roster)) _ (x .0) (or-neither (wrongLength (length table)) false (y .0) refl) in
-      record {
-        accepts = first-passes _ _ z (first-passes _ _ (b .0) (first-passes _ _ (d .0) (first-passes _ _ (e .0) (first-passes _ _ (f .0) no-checks))));
-        counts = n;
-        is = h .triples ∙ ap (λ (o : Outcome ℕ). tableIn c (left o (l .result) (listed (length (l .result)) (summary v roster (triples table))))) (h .returns) ∙ listed-table (length (l .result)) _ c n;
-        maps = h .representatives ∙ ap (λ (o : Outcome ℕ). left o (l .map) (mapOf v roster (triples table))) (h .returns);
-      }
+  module _ (mapped : List ℕ → List Triple → List ℕ) where
+    sum-is : (table roster : List ℕ) (l : Lent) (out map : List ℕ) (c : ℕ) → SummarisesBy v mapped table roster l c out map → Sum (mapped roster (triples table)) table roster out map c
+    unfolding summariseOutcomeBy summariseLeavesBy tableChecks left
+    sum-is table roster l out map c h =
+        let ms = mapped roster (triples table) in
+        let a = passed _ _ _ c (h .returns) in
+        let b = passed _ _ _ c (a .1) in
+        let d = passed _ _ _ c (b .1) in
+        let e = passed _ _ _ c (d .1) in
+        let f = passed _ _ _ c (e .1) in
+        let g = passed _ _ _ c (f .1) in
+        let n = passed-all _ c (g .1) in
+        let x = or-false (wrongSize (length roster)) _ (a .0) in
+        let y = or-false (wrongLength (length table)) _ (x .1) in
+        let z = or-neither (wrongSize (length roster)) _ (x .0) (or-neither (wrongLength (length table)) false (y .0) refl) in
+        record {
+          accepts = first-passes _ _ z (first-passes _ _ (b .0) (first-passes _ _ (d .0) (first-passes _ _ (e .0) (first-passes _ _ (f .0) no-checks))));
+          counts = n;
+          is = h .triples ∙ ap (λ (o : Outcome ℕ). tableIn c (left o (l .result) (listed (length (l .result)) (condensed ms (triples table))))) (h .returns) ∙ listed-table (length (l .result)) _ c n;
+          maps = h .representatives ∙ ap (λ (o : Outcome ℕ). left o (l .map) ms) (h .returns);
+        }
+
+    shortcut-by-calls : ((table roster : List ℕ) → Accepted v table roster → ShortcutBy v (mapped roster) table roster) → ShortcutOfCallsBy v mapped
+    shortcut-by-calls holds table roster big small l k m a b c d e sat sum short shortSat shortSum f g h hs hg hf ht hh =
+        let S = sat-is table roster big sat a hs in
+        let G = sum-is sat roster l sum g b hg in
+        let F = sum-is table roster k short f c hf in
+        let T = sat-is short roster small shortSat d ht in
+        let H = sum-is shortSat roster m shortSum h e hh in
+        let R = holds table roster (F .accepts) in
+        let by = sumBy v (mapped roster) in
+        let long : triples sat ≡ saturation v (length roster) (triples table) = left-is sat _ (S .is) in
+        let sh : triples short ≡ by (triples table) = left-is short _ (F .is) in
+        let st : triples shortSat ≡ saturation v (length roster) (by (triples table)) = left-is shortSat _ (T .is) ∙ ap (saturation v (length roster)) sh in
+        let q : by (triples sat) ≡ by (triples shortSat) = ap by long ∙ R .triples ∙ ap by (sym st) in (
+          sym (G .counts) ∙ ap {B = ℕ} (λ (ts : List Triple). length ts) q ∙ H .counts,
+          G .is ∙ ap flat q ∙ sym (H .is),
+          λ x.
+              let hm : h ≡ mapped roster (saturation v (length roster) (by (triples table))) = H .maps ∙ ap (mapped roster) st in
+              let gm : g ≡ mapped roster (saturation v (length roster) (triples table)) = G .maps ∙ ap (mapped roster) long in
+              (λ i. label (hm i) (label (F .maps i) x)) ∙ R .maps x ∙ ap (λ (z : List ℕ). label z x) (sym gm),
+        )
 
   pub shortcut-of-calls : ShortcutOfCalls v
-  shortcut-of-calls table roster big small l k m a b c d e sat sum short shortSat shortSum f g h hs hg hf ht hh =
-      let S = sat-is table roster big sat a hs in
-      let G = sum-is sat roster l sum g b hg in
-      let F = sum-is table roster k short f c hf in
-      let T = sat-is short roster small shortSat d ht in
-      let H = sum-is shortSat roster m shortSum h e hh in
-      let R = shortcut-holds v table roster (F .accepts) in
-      let long : triples sat ≡ saturation v (length roster) (triples table) = ap triples (S .is) ∙ triples-flat _ in
-      let sh : triples short ≡ summary v roster (triples table) = ap triples (F .is) ∙ triples-flat _ in
-      let st : triples shortSat ≡ saturation v (length roster) (summary v roster (triples table)) = ap triples (T .is) ∙ triples-flat _ ∙ ap (saturation v (length roster)) sh in
-      let q : summary v roster (triples sat) ≡ summary v roster (triples shortSat) = ap (summary v roster) long ∙ R .triples ∙ ap (summary v roster) (sym st) in (
+  shortcut-of-calls = shortcut-by-calls (mapOf v) (shortcut-holds v)
+
+  pub strong-shortcut-of-calls : StrongShortcutOfCalls v
+  strong-shortcut-of-calls = shortcut-by-calls (strongMapOf v) (strong-shortcut-holds v)
+
+  pub weak-of-strong-calls : WeakOfStrongCalls v
+  weak-of-strong-calls table roster l k m a b c strong sum own f g h hf hg hh =
+      let F = sum-is (strongMapOf v) table roster l strong f a hf in
+      let G = sum-is (mapOf v) strong roster k sum g b hg in
+      let H = sum-is (mapOf v) table roster m own h c hh in
+      let R = weak-of-strong-holds v table roster (H .accepts) in
+      let st : triples strong ≡ strongSummary v roster (triples table) = left-is strong _ (F .is) in
+      let q : summary v roster (triples strong) ≡ summary v roster (triples table) = ap (summary v roster) st ∙ R .triples in (
         sym (G .counts) ∙ ap {B = ℕ} (λ (ts : List Triple). length ts) q ∙ H .counts,
         G .is ∙ ap flat q ∙ sym (H .is),
         λ x.
-            let hm : h ≡ mapOf v roster (saturation v (length roster) (summary v roster (triples table))) = H .maps ∙ ap (mapOf v roster) st in
-            let gm : g ≡ mapOf v roster (saturation v (length roster) (triples table)) = G .maps ∙ ap (mapOf v roster) long in
-            ap (λ (z : List ℕ). label z (label f x)) hm ∙ ap (λ (z : List ℕ). label (mapOf v roster (saturation v (length roster) (summary v roster (triples table)))) (label z x)) (F .maps) ∙ R .maps x ∙ ap (λ (z : List ℕ). label z x) (sym gm),
+            let gm : g ≡ mapOf v roster (strongSummary v roster (triples table)) = G .maps ∙ ap (mapOf v roster) st in
+            (λ i. label (gm i) (label (F .maps i) x)) ∙ R .maps x ∙ ap (λ (z : List ℕ). label z x) (sym (H .maps)),
       )
 
   pub none-of-calls : NoneOfCalls v
   none-of-calls table roster big l a b sat sum g q hs hg e m =
       let S = sat-is table roster big sat a hs in
-      let G = sum-is sat roster l sum g b hg in
-      let long : triples sat ≡ saturation v (length roster) (triples table) = ap triples (S .is) ∙ triples-flat _ in
+      let G = sum-is (mapOf v) sat roster l sum g b hg in
+      let long : triples sat ≡ saturation v (length roster) (triples table) = left-is sat _ (S .is) in
       let gm : g ≡ mapOf v roster (saturation v (length roster) (triples table)) = G .maps ∙ ap (mapOf v roster) long in
       let sm : sum ≡ flat (summary v roster (saturation v (length roster) (triples table))) = G .is ∙ ap (λ (ts : List Triple). flat (summary v roster ts)) long in
       none-means-none v table roster q (S .accepts) (sym (λ i. askOutcome v (sm i) (gm i) q) ∙ e) (subst (λ (ts : List Triple). Match ts q) long m)
@@ -153,14 +183,20 @@ module _ (v : Vocabulary) where
       e
 
   -- ── long enough lists ──
+  accepts-summarise : (mapped : List ℕ → List Triple → List ℕ) (table roster : List ℕ) → Accepted v table roster → AcceptsSummarise v mapped table roster
+  unfolding summariseOutcomeBy wrongWork
+  accepts-summarise mapped table roster h l m w few =
+      let n = length (condensed (mapped roster (triples table)) (triples table)) in
+      let lengths : (not (eqb (length (l .map)) (length roster)) || not (eqb (length (l .work)) (2 * length roster))) ≡ false =
+      or-neither (not (eqb (length (l .map)) (length roster))) _ (ap not (eq-eqb _ _ m)) (ap not (eq-eqb _ _ w)) in
+      ap (λ (b : Bool). checked (tableChecks v b table roster ++ check 5 (ltb (slots (l .result)) n) ∷ []) n) lengths
+      ∙ enough (tableChecks v false table roster) (slots (l .result)) n h few
+
   pub accepted-calls : AcceptedCalls v
-  unfolding saturateOutcome saturated summariseOutcomeBy wrongWork
+  unfolding saturateOutcome saturated
   accepted-calls table roster h =
       record {
         saturates = λ result few. enough (tableChecks v false table roster) (slots result) _ h few;
-        summarises = λ l m w few.
-            let lengths : (not (eqb (length (l .map)) (length roster)) || not (eqb (length (l .work)) (2 * length roster))) ≡ false =
-            or-neither (not (eqb (length (l .map)) (length roster))) _ (ap not (eq-eqb _ _ m)) (ap not (eq-eqb _ _ w)) in
-            ap (λ (b : Bool). checked (tableChecks v b table roster ++ check 5 (ltb (slots (l .result)) (length (summary v roster (triples table)))) ∷ []) (length (summary v roster (triples table)))) lengths
-            ∙ enough (tableChecks v false table roster) (slots (l .result)) _ h few;
+        summarises = accepts-summarise (mapOf v) table roster h;
+        strongly-summarises = accepts-summarise (strongMapOf v) table roster h;
       }

@@ -9,19 +9,23 @@ use mathlib.Core.Option.{none}
 use Rattle.model.specs.declared.Vocabulary.{Vocabulary}
 use Rattle.model.specs.Codes.{rdfs, codes, kind, reserved, wrongWords}
 use Rattle.model.specs.Outcomes.{Outcome, Check, check, decided, wrongSize}
-use Rattle.model.specs.Graphs.{graphs, allRight, closures, allClosed}
+use Rattle.model.specs.Graphs.{graphs, allRight, closures, allClosed, strongGraphs, allStrongRight}
 use Rattle.query.specs.Match.{AskExact}
 use Rattle.site_form.specs.Reading.{ReadsExactly, CountsPatterns, loaded}
 use Rattle.site_form.specs.Writing.{WrittenIsRead, lineOf}
 use Rattle.site_form.specs.Example.{SignBytes, PrintsExample}
-use Rattle.theory.specs.Theorems.{SaturationExact, ConstraintsFollow, CliquesExact, RepresentativesExact, SummaryExact, OwnRosterLeast, ShortcutHolds, RoutesAccepted, AnyOrder, FedInAnyOrder, WholeList}
+use Rattle.theory.specs.Theorems.{SaturationExact, ConstraintsFollow, CliquesExact, RepresentativesExact, SummaryExact, StrongRepresentativesExact, StrongSummaryExact, OwnRosterLeast, ShortcutHolds, RoutesAccepted, StrongShortcutHolds, StrongRoutesAccepted, WeakOfStrongHolds, AnyOrder, FedInAnyOrder, WholeList}
 use Rattle.demands.specs.NoneMeansNone.{NoneMeansNone}
 use Rattle.demands.specs.Feeds.{ListOfCalls}
-use Rattle.demands.specs.Routes.{AcceptedCalls, ShortcutOfCalls, NoneOfCalls, AskRefusesSix}
+use Rattle.demands.specs.Routes.{AcceptedCalls, ShortcutOfCalls, StrongShortcutOfCalls, WeakOfStrongCalls, NoneOfCalls, AskRefusesSix}
 
 -- the small graphs of 01, computed, with the saturation that 02 gives the six triples, and two graphs with reserved codes of their own
 abbrev pub GraphsRight : Type 0
 GraphsRight = T (allRight graphs)
+
+-- small graphs with their strong summaries and strong maps, computed
+abbrev pub StrongGraphsRight : Type 0
+StrongGraphsRight = T (allStrongRight strongGraphs)
 
 -- small schemas, for the rules of 02, computed
 abbrev pub ClosuresRight : Type 0
@@ -33,6 +37,8 @@ pub record Demand2 : Type 0 where
   pub cliques : (v : Vocabulary) → CliquesExact v
   pub representatives : (v : Vocabulary) → RepresentativesExact v
   pub summaries : (v : Vocabulary) → SummaryExact v
+  pub strong-representatives : (v : Vocabulary) → StrongRepresentativesExact v
+  pub strong-summaries : (v : Vocabulary) → StrongSummaryExact v
   pub own-roster : (v : Vocabulary) → OwnRosterLeast v
   pub ask : AskExact
 
@@ -41,6 +47,11 @@ pub record Demand3 : Type 0 where
   pub routes : (v : Vocabulary) → RoutesAccepted v
   pub accepted-calls : (v : Vocabulary) → AcceptedCalls v
   pub shortcut-of-calls : (v : Vocabulary) → ShortcutOfCalls v
+  pub strong-shortcut : (v : Vocabulary) → StrongShortcutHolds v
+  pub strong-routes : (v : Vocabulary) → StrongRoutesAccepted v
+  pub strong-shortcut-of-calls : (v : Vocabulary) → StrongShortcutOfCalls v
+  pub weak-of-strong : (v : Vocabulary) → WeakOfStrongHolds v
+  pub weak-of-strong-calls : (v : Vocabulary) → WeakOfStrongCalls v
   pub any-order : (v : Vocabulary) → AnyOrder v
   pub fed-in-any-order : (v : Vocabulary) → FedInAnyOrder v
   pub none-means-none : (v : Vocabulary) → NoneMeansNone v

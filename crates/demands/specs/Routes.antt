@@ -9,8 +9,8 @@ use Rattle.model.specs.declared.Triple.{Triple}
 use Rattle.model.specs.Triples.{triples, flat, slots}
 use Rattle.model.specs.Roster.{ownRoster, wrongCodes}
 use Rattle.model.specs.Saturation.{saturation}
-use Rattle.model.specs.Classes.{mapOf}
-use Rattle.model.specs.Summary.{summary}
+use Rattle.model.specs.Classes.{mapOf, strongMapOf}
+use Rattle.model.specs.Summary.{condensed, summary}
 use Rattle.query.specs.declared.Query.{Query}
 use Rattle.query.specs.declared.Pattern.{Pattern}
 use Rattle.query.specs.Ask.{askOutcome}
@@ -21,7 +21,7 @@ use Rattle.model.specs.declared.Vocabulary.{Vocabulary}
 use Rattle.model.specs.Codes.{wrongWords}
 use Rattle.model.specs.Partition.{label}
 use Rattle.model.specs.Outcomes.{accepted, refused, wrongSize}
-use Rattle.model.specs.Calls.{Accepted, saturateOutcome, saturateLeaves, summariseOutcome, summariseLeaves}
+use Rattle.model.specs.Calls.{Accepted, saturateOutcome, saturateLeaves, summariseOutcomeBy, summariseLeavesBy}
 
 -- the table that a call left in its result list: the triples that it counted
 abbrev pub tableIn : ℕ → List ℕ → List ℕ
@@ -34,11 +34,29 @@ pub record Lent : Type 0 where
   pub work : List ℕ
 
 module _ (v : Vocabulary) where
-  -- a summarise that is accepted with a count, and what it leaves
-  pub record Summarises (table roster : List ℕ) (l : Lent) (count : ℕ) (out map : List ℕ) : Type 0 where
-    pub returns : summariseOutcome v table roster (l .result) (l .map) (l .work) ≡ accepted count
-    pub triples : out ≡ tableIn count (summariseLeaves v table roster (l .result) (l .map) (l .work) .result)
-    pub representatives : map ≡ summariseLeaves v table roster (l .result) (l .map) (l .work) .map
+  -- by any way to map the nodes of triples with a roster
+  module _ (mapped : List ℕ → List Triple → List ℕ) where
+    -- the map of a table
+    abbrev mapIn : List ℕ → List ℕ → List ℕ
+    mapIn table roster = mapped roster (triples table)
+
+    -- a summarise that is accepted with a count, and what it leaves
+    pub record SummarisesBy (table roster : List ℕ) (l : Lent) (count : ℕ) (out map : List ℕ) : Type 0 where
+      pub returns : summariseOutcomeBy v (mapIn table roster) table roster (l .result) (l .map) (l .work) ≡ accepted count
+      pub triples : out ≡ tableIn count (summariseLeavesBy v (mapIn table roster) table roster (l .result) (l .map) (l .work) .result)
+      pub representatives : map ≡ summariseLeavesBy v (mapIn table roster) table roster (l .result) (l .map) (l .work) .map
+
+    -- with lists that are long enough a summarise is accepted
+    abbrev pub AcceptsSummarise : List ℕ → List ℕ → Type 0
+    AcceptsSummarise table roster =
+        (l : Lent) → length (l .map) ≡ length roster → length (l .work) ≡ 2 * length roster → length (condensed (mapIn table roster) (triples table)) ≤ slots (l .result)
+        → summariseOutcomeBy v (mapIn table roster) table roster (l .result) (l .map) (l .work) ≡ accepted (length (condensed (mapIn table roster) (triples table)))
+
+  abbrev pub Summarises : List ℕ → List ℕ → Lent → ℕ → List ℕ → List ℕ → Type 0
+  Summarises table roster l count out map = SummarisesBy (mapOf v) table roster l count out map
+
+  abbrev pub StrongSummarises : List ℕ → List ℕ → Lent → ℕ → List ℕ → List ℕ → Type 0
+  StrongSummarises table roster l count out map = SummarisesBy (strongMapOf v) table roster l count out map
 
   -- a saturate that is accepted with a count, and what it leaves
   pub record Saturates (table roster result : List ℕ) (count : ℕ) (out : List ℕ) : Type 0 where
@@ -46,25 +64,41 @@ module _ (v : Vocabulary) where
     pub triples : out ≡ tableIn count (saturateLeaves v table roster result)
 
   -- 01: "A table is accepted with a roster if no check before 5 below refuses it; a list is long enough if its length causes no 1, 5 or 7."
-  -- On an accepted table, with lists that are long enough, both calls are accepted. `RoutesAccepted` says that the tables on either route are
-  -- accepted, so each call of a route is.
+  -- On an accepted table, with lists that are long enough, the calls are accepted. `RoutesAccepted` and `StrongRoutesAccepted` say that the
+  -- tables on either route are accepted, so each call of a route is.
   pub record CallsAccept (table roster : List ℕ) : Type 0 where
     pub saturates : (result : List ℕ) → length (saturation v (length roster) (triples table)) ≤ slots result
         → saturateOutcome v table roster result ≡ accepted (length (saturation v (length roster) (triples table)))
-    pub summarises : (l : Lent) → length (l .map) ≡ length roster → length (l .work) ≡ 2 * length roster → length (summary v roster (triples table)) ≤ slots (l .result)
-        → summariseOutcome v table roster (l .result) (l .map) (l .work) ≡ accepted (length (summary v roster (triples table)))
+    pub summarises : AcceptsSummarise (mapOf v) table roster
+    -- 02: "Representatives, lists and checks are those of the weak one."
+    pub strongly-summarises : AcceptsSummarise (strongMapOf v) table roster
 
   abbrev pub AcceptedCalls : Type 0
   AcceptedCalls = (table roster : List ℕ) → Accepted v table roster → CallsAccept table roster
 
   -- the two routes as calls, each on what the call before left: they end with one table, and the maps of the short route lead, one after the
   -- other, where the map of the long route leads
-  abbrev pub ShortcutOfCalls : Type 0
-  ShortcutOfCalls =
+  abbrev pub ShortcutOfCallsBy : (List ℕ → List Triple → List ℕ) → Type 0
+  ShortcutOfCallsBy mapped =
       (table roster big small : List ℕ) (l k m : Lent) (a b c d e : ℕ) (sat sum short shortSat shortSum f g h : List ℕ)
-      → Saturates table roster big a sat → Summarises sat roster l b sum g
-      → Summarises table roster k c short f → Saturates short roster small d shortSat → Summarises shortSat roster m e shortSum h
+      → Saturates table roster big a sat → SummarisesBy mapped sat roster l b sum g
+      → SummarisesBy mapped table roster k c short f → Saturates short roster small d shortSat → SummarisesBy mapped shortSat roster m e shortSum h
       → (b ≡ e) × (sum ≡ shortSum) × ((x : ℕ) → label h (label f x) ≡ label g x)
+
+  abbrev pub ShortcutOfCalls : Type 0
+  ShortcutOfCalls = ShortcutOfCallsBy (mapOf v)
+
+  -- 02: "Show that the two routes of the shortcut agree here too"
+  abbrev pub StrongShortcutOfCalls : Type 0
+  StrongShortcutOfCalls = ShortcutOfCallsBy (strongMapOf v)
+
+  -- 02: "the weak summary of the strong summary is the table's own weak summary, with the representatives carried through both maps"
+  -- As calls: a strong summarise and a summarise of what it left end with the table that a summarise of the table itself leaves.
+  abbrev pub WeakOfStrongCalls : Type 0
+  WeakOfStrongCalls =
+      (table roster : List ℕ) (l k m : Lent) (a b c : ℕ) (strong sum own f g h : List ℕ)
+      → StrongSummarises table roster l a strong f → Summarises strong roster k b sum g → Summarises table roster m c own h
+      → (b ≡ c) × (sum ≡ own) × ((x : ℕ) → label g (label f x) ≡ label h x)
 
   -- none means no match, as calls: saturate, summarise, ask
   abbrev pub NoneOfCalls : Type 0
