@@ -1,5 +1,6 @@
 -- Each demand is met by the definitions.
 -- Assumes nothing.
+use Rattle.model.specs.Classes.{mapOf, strongMapOf}
 use Rattle.model.proofs.Graphs as graphs
 use Rattle.query.proofs.Exact.{ask-exact}
 use Rattle.theory.proofs.Theorems as theorems
@@ -49,8 +50,10 @@ demand-3 =
       weak-of-strong-calls = weak-of-strong-calls;
       any-order = theorems.any-order;
       fed-in-any-order = theorems.fed-in-any-order;
-      none-means-none = none-means-none;
-      none-of-calls = none-of-calls;
+      none-means-none = λ v. none-means-none v (mapOf v);
+      none-of-calls = λ v. none-of-calls v (mapOf v);
+      strong-none-means-none = λ v. none-means-none v (strongMapOf v);
+      strong-none-of-calls = λ v. none-of-calls v (strongMapOf v);
       whole-list = theorems.whole-list;
       list-of-calls = list-of-calls;
     }

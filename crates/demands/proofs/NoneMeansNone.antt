@@ -10,8 +10,7 @@ use Rattle.model.specs.declared.Triple.{Triple}
 use Rattle.model.specs.declared.Vocabulary.{Vocabulary}
 use Rattle.model.specs.Triples.{triples, flat}
 use Rattle.model.specs.Partition.{label}
-use Rattle.model.specs.Classes.{mapOf}
-use Rattle.model.specs.Summary.{moved, summary}
+use Rattle.model.specs.Summary.{moved, condensed}
 use Rattle.model.specs.Outcomes.{Passes, accepted}
 use Rattle.query.specs.declared.Query.{Query}
 use Rattle.query.specs.Ask.{askChecks, askOutcome, search, unbound, wrongQuery}
@@ -22,7 +21,7 @@ use Rattle.theory.specs.Theorems.{saturationOf}
 use Rattle.theory.proofs.Summaries as summaries
 use Rattle.theory.proofs.Checks.{passes-first, decided-cases, not-accepted}
 use Rattle.theory.proofs.Flat.{triples-flat}
-use Rattle.demands.specs.NoneMeansNone.{NoneMeansNone}
+use Rattle.demands.specs.NoneMeansNone.{NoneMeansNoneBy}
 
 module _ (v : Vocabulary) where
   -- an ask that is answered passed its checks
@@ -36,11 +35,11 @@ module _ (v : Vocabulary) where
   unfolding askChecks
   query-right table map q h = (passes-first _ _ ((passes-first _ _ ((passes-first _ _ ((passes-first _ _ h) .1)) .1)) .1)) .0
 
-  pub none-means-none : NoneMeansNone v
-  none-means-none table roster q h e m =
+  pub none-means-none : (mapped : List ℕ → List Triple → List ℕ) → NoneMeansNoneBy v mapped
+  none-means-none mapped table roster q h e m =
       let sat = saturationOf v table roster in
-      let sum = summary v roster sat in
-      let map = mapOf v roster sat in
+      let map = mapped roster sat in
+      let sum = condensed map sat in
       let p = answered-passes (flat sum) map q e in
       let choice = match-carried (label map) sat sum map q
       (λ t n. (summaries.condensed-exact _ sat (moved (label map) t)) .1 (t, n, refl)) (λ c l n. refl) (query-right (flat sum) map q p) m in

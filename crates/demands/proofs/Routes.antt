@@ -33,7 +33,7 @@ use Rattle.demands.proofs.NoneMeansNone.{none-means-none}
 use Rattle.model.specs.Roster.{ownRoster, wrongCodes}
 use Rattle.query.specs.Ask.{askOutcome, askChecks}
 use Rattle.query.specs.Match.{Match}
-use Rattle.demands.specs.Routes.{tableIn, Lent, SummarisesBy, AcceptsSummarise, Saturates, AcceptedCalls, ShortcutOfCallsBy, ShortcutOfCalls, StrongShortcutOfCalls, WeakOfStrongCalls, NoneOfCalls, AskRefusesSix}
+use Rattle.demands.specs.Routes.{tableIn, Lent, SummarisesBy, AcceptsSummarise, Saturates, AcceptedCalls, ShortcutOfCallsBy, ShortcutOfCalls, StrongShortcutOfCalls, WeakOfStrongCalls, NoneOfCallsBy, AskRefusesSix}
 
 -- what a list that lists triples begins with
 listed-table : (n : ℕ) (ts : List Triple) (c : ℕ) → length ts ≡ c → tableIn c (listed n ts) ≡ flat ts
@@ -145,14 +145,15 @@ module _ (v : Vocabulary) where
             (λ i. label (gm i) (label (F .maps i) x)) ∙ R .maps x ∙ ap (λ (z : List ℕ). label z x) (sym (H .maps)),
       )
 
-  pub none-of-calls : NoneOfCalls v
-  none-of-calls table roster big l a b sat sum g q hs hg e m =
+  pub none-of-calls : (mapped : List ℕ → List Triple → List ℕ) → NoneOfCallsBy v mapped
+  none-of-calls mapped table roster big l a b sat sum g q hs hg e m =
       let S = sat-is table roster big sat a hs in
-      let G = sum-is (mapOf v) sat roster l sum g b hg in
+      let G = sum-is mapped sat roster l sum g b hg in
       let long : triples sat ≡ saturation v (length roster) (triples table) = left-is sat _ (S .is) in
-      let gm : g ≡ mapOf v roster (saturation v (length roster) (triples table)) = G .maps ∙ ap (mapOf v roster) long in
-      let sm : sum ≡ flat (summary v roster (saturation v (length roster) (triples table))) = G .is ∙ ap (λ (ts : List Triple). flat (summary v roster ts)) long in
-      none-means-none v table roster q (S .accepts) (sym (λ i. askOutcome v (sm i) (gm i) q) ∙ e) (subst (λ (ts : List Triple). Match ts q) long m)
+      let gm : g ≡ mapped roster (saturation v (length roster) (triples table)) = G .maps ∙ ap (mapped roster) long in
+      let sm : sum ≡ flat (condensed (mapped roster (saturation v (length roster) (triples table))) (saturation v (length roster) (triples table))) =
+      G .is ∙ ap (λ (ts : List Triple). flat (condensed (mapped roster ts) ts)) long in
+      none-means-none v mapped table roster q (S .accepts) (sym (λ i. askOutcome v (sm i) (gm i) q) ∙ e) (subst (λ (ts : List Triple). Match ts q) long m)
 
   table-length : (table roster : List ℕ) → Accepted v table roster → wrongLength (length table) ≡ false
   unfolding tableChecks

@@ -15,9 +15,9 @@ use Rattle.site_form.specs.Reading.{ReadsExactly, CountsPatterns, loaded}
 use Rattle.site_form.specs.Writing.{WrittenIsRead, lineOf}
 use Rattle.site_form.specs.Example.{SignBytes, PrintsExample}
 use Rattle.theory.specs.Theorems.{SaturationExact, ConstraintsFollow, CliquesExact, RepresentativesExact, SummaryExact, StrongRepresentativesExact, StrongSummaryExact, OwnRosterLeast, ShortcutHolds, RoutesAccepted, StrongShortcutHolds, StrongRoutesAccepted, WeakOfStrongHolds, AnyOrder, FedInAnyOrder, WholeList}
-use Rattle.demands.specs.NoneMeansNone.{NoneMeansNone}
+use Rattle.demands.specs.NoneMeansNone.{NoneMeansNone, StrongNoneMeansNone}
 use Rattle.demands.specs.Feeds.{ListOfCalls}
-use Rattle.demands.specs.Routes.{AcceptedCalls, ShortcutOfCalls, StrongShortcutOfCalls, WeakOfStrongCalls, NoneOfCalls, AskRefusesSix}
+use Rattle.demands.specs.Routes.{AcceptedCalls, ShortcutOfCalls, StrongShortcutOfCalls, WeakOfStrongCalls, NoneOfCalls, StrongNoneOfCalls, AskRefusesSix}
 
 -- the small graphs of 01, computed, with the saturation that 02 gives the six triples, and two graphs with reserved codes of their own
 abbrev pub GraphsRight : Type 0
@@ -56,6 +56,8 @@ pub record Demand3 : Type 0 where
   pub fed-in-any-order : (v : Vocabulary) → FedInAnyOrder v
   pub none-means-none : (v : Vocabulary) → NoneMeansNone v
   pub none-of-calls : (v : Vocabulary) → NoneOfCalls v
+  pub strong-none-means-none : (v : Vocabulary) → StrongNoneMeansNone v
+  pub strong-none-of-calls : (v : Vocabulary) → StrongNoneOfCalls v
   pub whole-list : (v : Vocabulary) → WholeList v
   pub list-of-calls : (v : Vocabulary) → ListOfCalls v
 

@@ -101,11 +101,18 @@ module _ (v : Vocabulary) where
       → (b ≡ c) × (sum ≡ own) × ((x : ℕ) → label g (label f x) ≡ label h x)
 
   -- none means no match, as calls: saturate, summarise, ask
-  abbrev pub NoneOfCalls : Type 0
-  NoneOfCalls =
+  abbrev pub NoneOfCallsBy : (List ℕ → List Triple → List ℕ) → Type 0
+  NoneOfCallsBy mapped =
       (table roster big : List ℕ) (l : Lent) (a b : ℕ) (sat sum g : List ℕ) (q : Query)
-      → Saturates table roster big a sat → Summarises sat roster l b sum g
+      → Saturates table roster big a sat → SummarisesBy mapped sat roster l b sum g
       → askOutcome v sum g q ≡ accepted false → Match (triples sat) q → ⊥
+
+  abbrev pub NoneOfCalls : Type 0
+  NoneOfCalls = NoneOfCallsBy (mapOf v)
+
+  -- the same with a strong summarise
+  abbrev pub StrongNoneOfCalls : Type 0
+  StrongNoneOfCalls = NoneOfCallsBy (strongMapOf v)
 
   -- In the printer ask refuses a query with 6 only: by then 1, 10, 3 and 5 have passed.
   abbrev pub AskRefusesSix : Type 0
