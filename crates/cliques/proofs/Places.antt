@@ -4,22 +4,21 @@ use Prim.Native.Nat.{ℕ, _+_, _/_, _<_}
 use mathlib.Core.Path.{_≡_, refl, sym, _∙_, ap, subst}
 use mathlib.Core.Logic.{_⊎_, inl, inr, ⊎-elim}
 use mathlib.Core.Bool.{Bool, true, false}
-use mathlib.Core.List.{List, List·Memᴰ as Mem, List·Memᴰ·head as here, List·Memᴰ·not-nil as no-mem}
+use mathlib.Core.List.{List, List·Memᴰ as Mem, List·Memᴰ·not-nil as no-mem}
 use native.Mathlib.Omega.{arith}
 use native.Mathlib.Decide.{ℕ-discrete}
 use lib.ListN.{length}
 use Rattle.model.specs.declared.Triple.{Triple}
 use Rattle.model.specs.declared.Vocabulary.{Vocabulary}
-use Rattle.model.specs.Codes.{kind}
 use Rattle.model.specs.Lists.{tabulate}
 use Rattle.model.specs.Triples.{triples, isData}
 use Rattle.model.specs.Roster.{unmarked}
 use Rattle.model.specs.Cliques.{Side, end, Has, links}
 use Rattle.theory.proofs.Tests.{and-true, and-both, not-both}
 use Rattle.theory.proofs.Lists.{tabulate-mem, mem-tabulate}
-use Rattle.theory.proofs.Covered.{Below, kind-top, property-at, property-marked}
-use Rattle.theory.proofs.Weak.{data-kind, clique-self}
-use Rattle.theory.proofs.Accepted.{Right, room, below, covered}
+use Rattle.theory.proofs.Covered.{Below}
+use Rattle.theory.proofs.Weak.{clique-self}
+use Rattle.theory.proofs.Accepted.{Right, room, below, has-marked}
 use Rattle.lists.specs.Flat.{Emptied, at}
 use Rattle.roster.proofs.Tables.{at-in, below-at}
 use Rattle.cliques.specs.Grouping.{Grouping, Before, Grouped, opened, Linkable, NodeLinked}
@@ -78,12 +77,10 @@ module _ (v : Vocabulary) where
             back = λ m p k. ⊎-elim (λ o. inl o) (λ x. inr (x .1, x .2)) (has-back m p k);
           }
 
-          -- the property of a covered data triple is marked
           marked : unmarked roster (t .property) ≡ false
           marked =
-              let k : kind v (t .property) ≡ 5 = omega (arith, kind-top v (t .property), data-kind v t (parts .0)) in
-              let c = covered v roster (triples table) R t (subst (λ (x : Triple). Mem x (triples table)) (sym is) (at-in table i w)) in
-              property-marked roster (t .property) (property-at roster v t 5 k c (t .property) (here refl))
+              let m = subst (λ (x : Triple). Mem x (triples table)) (sym is) (at-in table i w) in
+              has-marked v roster (triples table) R {e = e} (record { by = t; held = m; is-data = parts .0; is-end = refl; plain = parts .1; property = refl })
 
           pub property-inside : t .property < length l
           property-inside = omega (arith, place-below .property, g .state .size)
