@@ -23,7 +23,7 @@ use Rattle.demands.specs.Routes.{AcceptedCalls, ShortcutOfCalls, StrongS
 abbrev pub GraphsRight : Type 0
 GraphsRight = T (allRight graphs)
 
--- small graphs with their strong summaries and strong maps, computed
+-- small graphs with their strong summaries and strong maps, and the weak summaries beside them, computed
 abbrev pub StrongGraphsRight : Type 0
 StrongGraphsRight = T (allStrongRight strongGraphs)
 

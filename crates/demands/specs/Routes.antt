@@ -93,7 +93,8 @@ module _ (v : Vocabulary) where
   StrongShortcutOfCalls = ShortcutOfCallsBy (strongMapOf v)
 
   -- 02: "the weak summary of the strong summary is the table's own weak summary, with the representatives carried through both maps"
-  -- As calls: a strong summarise and a summarise of what it left end with the table that a summarise of the table itself leaves.
+  -- As calls: a strong summarise and a summarise of what it left end with the table that a summarise of the table itself leaves, and their two
+  -- maps lead, one after the other, where its map leads.
   abbrev pub WeakOfStrongCalls : Type 0
   WeakOfStrongCalls =
       (table roster : List ℕ) (l k m : Lent) (a b c : ℕ) (strong sum own f g h : List ℕ)

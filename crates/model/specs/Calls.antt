@@ -1,4 +1,4 @@
--- The calls on tables: own roster, saturate, cliques, summarise, weak and strong, look up. For each its outcome and the contents of every lent list
+-- The calls on tables: own roster, saturate, cliques, summarise (weak and strong), look up. For each its outcome and the contents of every lent list
 -- after it, as functions of the contents before.
 -- 01: "Own roster uses 1 and 3; cliques 1 to 4; saturation and summarise 1 to 5; .. look up 1"; 02: "It refuses with 10 a word table in which
 -- two codes are equal or one is not below N, straight after 1, with nothing altered."
@@ -96,7 +96,7 @@ module _ (v : Vocabulary) where
         work = left outcome work (zeros (length work));
       }
 
-  -- the summary
+  -- the weak summary
   abbrev pub summariseOutcome : List ℕ → List ℕ → List ℕ → List ℕ → List ℕ → Outcome ℕ
   summariseOutcome table roster result map work = summariseOutcomeBy (mapOf v roster (triples table)) table roster result map work
 

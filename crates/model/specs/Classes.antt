@@ -1,4 +1,4 @@
--- Weak equivalence and representatives, first as 01 words them, then computed.
+-- Weak and strong equivalence and representatives, first as 01 and 02 word them, then computed.
 -- Assumes nothing.
 use Prim.Native.Nat.{ℕ, _≤_}
 use mathlib.Core.Path.{_≡_}
@@ -66,9 +66,6 @@ module _ (v : Vocabulary) (roster : List ℕ) where
     pub of-marked : (n : ℕ) → Node G n → unmarked roster n ≡ false → f n ≡ n
     pub of-data : (n : ℕ) → DataNode G n → E n (f n)
     pub least : (n m : ℕ) → DataNode G n → E n m → f n ≤ m
-
-  abbrev pub Represents : Graph → (ℕ → ℕ) → Type 0
-  Represents G f = RepresentsBy (Weakly G) G f
 
   -- ── computed ──
   -- the clique of a data node at a side: that of its first data triple there

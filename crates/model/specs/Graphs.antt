@@ -217,7 +217,7 @@ strongGraphs =
     (10 ∷ 5 ∷ 10 ∷ [])
     (absent ∷ absent ∷ absent ∷ absent ∷ absent ∷ absent ∷ absent ∷ absent ∷ absent ∷ absent ∷ 10 ∷ [])
     (10 ∷ 5 ∷ 10 ∷ [])
-    ∷ {- a chain: each node is fed differently -}
+    ∷ {- a chain: three nodes, no two with the same cliques -}
     strongGraph rdfs 13 (10 ∷ 5 ∷ 11 ∷ 11 ∷ 5 ∷ 12 ∷ [])
     (10 ∷ 5 ∷ 11 ∷ 11 ∷ 5 ∷ 12 ∷ [])
     (absent ∷ absent ∷ absent ∷ absent ∷ absent ∷ absent ∷ absent ∷ absent ∷ absent ∷ absent ∷ 10 ∷ 11 ∷ 12 ∷ [])
@@ -237,7 +237,7 @@ strongGraphs =
     (10 ∷ 5 ∷ 20 ∷ 10 ∷ 6 ∷ 21 ∷ 10 ∷ 7 ∷ 23 ∷ [])
     (absent ∷ absent ∷ absent ∷ absent ∷ absent ∷ absent ∷ absent ∷ absent ∷ absent ∷ absent ∷ 10 ∷ 10 ∷ absent ∷ absent ∷ absent ∷ absent ∷ absent ∷ absent ∷ absent ∷ absent ∷ 20 ∷ 21 ∷ 21 ∷ 23 ∷ [])
     (10 ∷ 5 ∷ 20 ∷ 10 ∷ 6 ∷ 21 ∷ 10 ∷ 7 ∷ 23 ∷ [])
-    ∷ {- one source clique and three target cliques, none among them -}
+    ∷ {- one source clique; no target clique, and two different ones -}
     strongGraph rdfs 32 (10 ∷ 5 ∷ 20 ∷ 10 ∷ 6 ∷ 21 ∷ 11 ∷ 6 ∷ 22 ∷ 12 ∷ 6 ∷ 23 ∷ 13 ∷ 5 ∷ 24 ∷ 30 ∷ 7 ∷ 12 ∷ 31 ∷ 8 ∷ 13 ∷ [])
     (10 ∷ 5 ∷ 20 ∷ 10 ∷ 6 ∷ 21 ∷ 12 ∷ 6 ∷ 21 ∷ 13 ∷ 5 ∷ 20 ∷ 30 ∷ 7 ∷ 12 ∷ 31 ∷ 8 ∷ 13 ∷ [])
     (absent ∷ absent ∷ absent ∷ absent ∷ absent ∷ absent ∷ absent ∷ absent ∷ absent ∷ absent ∷ 10 ∷ 10 ∷ 12 ∷ 13 ∷ absent ∷ absent ∷ absent ∷ absent ∷ absent ∷ absent ∷ 20 ∷ 21 ∷ 21 ∷ 21 ∷ 20 ∷ absent ∷ absent ∷ absent ∷ absent ∷ absent ∷ 30 ∷ 31 ∷ [])
@@ -252,6 +252,11 @@ strongGraphs =
     (8 ∷ 5 ∷ 12 ∷ 8 ∷ 6 ∷ 13 ∷ 10 ∷ 0 ∷ 8 ∷ [])
     (absent ∷ absent ∷ absent ∷ absent ∷ absent ∷ absent ∷ absent ∷ absent ∷ 8 ∷ absent ∷ 10 ∷ absent ∷ 12 ∷ 13 ∷ [])
     (8 ∷ 5 ∷ 12 ∷ 8 ∷ 6 ∷ 13 ∷ 10 ∷ 0 ∷ 8 ∷ [])
+    ∷ {- and makes no two nodes alike that have a property of its own each -}
+    strongGraph rdfs 14 (10 ∷ 0 ∷ 8 ∷ 8 ∷ 5 ∷ 12 ∷ 8 ∷ 6 ∷ 13 ∷ 10 ∷ 5 ∷ 12 ∷ 11 ∷ 6 ∷ 13 ∷ [])
+    (8 ∷ 5 ∷ 12 ∷ 8 ∷ 6 ∷ 13 ∷ 10 ∷ 0 ∷ 8 ∷ 10 ∷ 5 ∷ 12 ∷ 11 ∷ 6 ∷ 13 ∷ [])
+    (absent ∷ absent ∷ absent ∷ absent ∷ absent ∷ absent ∷ absent ∷ absent ∷ 8 ∷ absent ∷ 10 ∷ 11 ∷ 12 ∷ 13 ∷ [])
+    (8 ∷ 5 ∷ 12 ∷ 8 ∷ 6 ∷ 13 ∷ 10 ∷ 0 ∷ 8 ∷ 10 ∷ 5 ∷ 12 ∷ 11 ∷ 6 ∷ 13 ∷ [])
     ∷ {- the smallest code represents, not the first seen -}
     strongGraph rdfs 14 (13 ∷ 5 ∷ 12 ∷ 11 ∷ 5 ∷ 10 ∷ [])
     (11 ∷ 5 ∷ 10 ∷ [])

@@ -1,4 +1,4 @@
--- The summary.
+-- The summaries, weak and strong.
 -- 01: "The summary is the set of triples with each subject and object replaced by its representative"
 -- Assumes nothing.
 use Prim.Native.Nat.{ℕ}

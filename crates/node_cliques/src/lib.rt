@@ -19,7 +19,7 @@ use lists::wide;
 use model::Vocabulary;
 
 // The entry of each unmarked code becomes the code of type: no clique.
-fn open_labels(none: u32, roster: &[u8], list: &mut [u32])
+fn clear_cliques(none: u32, roster: &[u8], list: &mut [u32])
     requires { ⌜ length (now list) ≡ length (now roster) ⌝ }
     ensures { λ r. ⌜ Filled (unmarked (now (roster .entry))) none (now (list .entry)) (now (list .exit)) (length (now (list .entry))) ⌝ }
 {
@@ -42,7 +42,7 @@ fn copy_entry(list: &mut [u32], from: u32, to: u32)
     list[j] = list[i];
 }
 
-// The triple at place i of the table: its end at the side, if it is a data node, has the clique of its property.
+// Gives the end of the triple at place i the clique of its property, if it is a data triple with a data node there.
 fn label_at(
     words: Vocabulary,
     table: &[u32],
@@ -61,7 +61,7 @@ fn label_at(
     copy_entry(list, t.property, side_end(sources, t));
 }
 
-// Each triple of the table.
+// Labels the end of each triple of the table.
 fn label_ends(words: Vocabulary, table: &[u32], roster: &[u8], sources: bool, list: &mut [u32])
     requires { ⌜ Right words (now roster) (triples (now table)) × Labelled words (now table) (now roster) (sideOf sources) 0 (now list) ⌝ }
     ensures { λ r. ⌜ Labelled words (now (table .entry)) (now (roster .entry)) (sideOf sources) (length (now (table .entry)) / 3) (now (list .exit)) ⌝ }
@@ -86,7 +86,7 @@ pub fn is_label(words: Vocabulary, roster: &[u8], i: usize) -> bool
 }
 
 // Makes the entries of the labels absent.
-fn open_slots(words: Vocabulary, roster: &[u8], list: &mut [u32])
+fn empty_labels(words: Vocabulary, roster: &[u8], list: &mut [u32])
     requires { ⌜ length (now list) ≡ length (now roster) ⌝ }
     ensures { λ r. ⌜ Filled (isLabel words (now (roster .entry))) absent (now (list .entry)) (now (list .exit)) (length (now (list .entry))) ⌝ }
 {
@@ -99,7 +99,7 @@ fn open_slots(words: Vocabulary, roster: &[u8], list: &mut [u32])
     }
 }
 
-// The cliques of the data nodes at a side.
+// The cliques of the data nodes at a side; the entries of the labels are absent.
 pub fn node_cliques(
     words: Vocabulary,
     table: &[u32],
@@ -111,7 +111,7 @@ pub fn node_cliques(
     ensures { λ r. ⌜ now (list .exit) ≡ nodeCliques words (now (roster .entry)) (sideOf sources) (triples (now (table .entry))) ⌝ }
 {
     clique_side(words, table, roster, sources, list);
-    open_labels(words.instance, roster, list);
+    clear_cliques(words.instance, roster, list);
     label_ends(words, table, roster, sources, list);
-    open_slots(words, roster, list);
+    empty_labels(words, roster, list);
 }

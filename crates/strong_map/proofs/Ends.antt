@@ -29,7 +29,7 @@ use Rattle.theory.proofs.Summaries.{labels-unique}
 use Rattle.theory.proofs.Accepted.{Right, below, room, type-below, has-marked, word-no-node}
 use Rattle.lists.proofs.Places.{same-default}
 use Rattle.node_cliques.specs.Labels.{orNone, isLabel, nodeCliques}
-use Rattle.strong_map.specs.Threads.{Least, none, some, Groups, Sites, Both, Threaded, Settled}
+use Rattle.strong_map.specs.Threads.{Least, none, some, Groups, LabelsApart, Both, Threaded, Settled}
 use Rattle.strong_map.specs.Calls.{dataNode, Labelled, Settling}
 use Rattle.strong_map.proofs.Threads.{settled-start, settled-end}
 
@@ -76,7 +76,7 @@ module _ (v : Vocabulary) (roster : List ℕ) (ts : List Triple) (R : Right v ro
       record {
         n = n;
         node = λ c. isNode ts c && unmarked roster c;
-        slot = λ s. ltb s n && isLabel v roster s;
+        label = λ s. ltb s n && isLabel v roster s;
         A = labelAt source;
         B = labelAt target;
       }
@@ -88,8 +88,8 @@ module _ (v : Vocabulary) (roster : List ℕ) (ts : List Triple) (R : Right v ro
   node-data c x = and-both (isNode ts c) _ (node-test ts c (x .node)) (x .plain)
 
   -- ── labels ──
-  slot-is : (s : ℕ) → s < n → isLabel v roster s ≡ true → (ltb s n && isLabel v roster s) ≡ true
-  slot-is s l h = and-both (ltb s n) _ (lt-ltb s n l) h
+  label-is : (s : ℕ) → s < n → isLabel v roster s ≡ true → (ltb s n && isLabel v roster s) ≡ true
+  label-is s l h = and-both (ltb s n) _ (lt-ltb s n l) h
 
   type-label : isLabel v roster (v .instance) ≡ true
   unfolding isLabel
@@ -102,20 +102,20 @@ module _ (v : Vocabulary) (roster : List ℕ) (ts : List Triple) (R : Right v ro
   clique-marked : (e : Side) (c : ℕ) → Cliqued v roster ts (below v roster ts R) (room v roster ts R) e c → Marked roster c
   clique-marked e c k = has-marked v roster ts R (k .has)
 
-  label-slot : (e : Side) (c : ℕ) → Plain roster c → (ltb (labelAt e c) n && isLabel v roster (labelAt e c)) ≡ true
-  label-slot e c a = ⊎-elim none-slot some-slot (clique-or v roster ts (below v roster ts R) (room v roster ts R) e c a)
+  clique-label : (e : Side) (c : ℕ) → Plain roster c → (ltb (labelAt e c) n && isLabel v roster (labelAt e c)) ≡ true
+  clique-label e c a = ⊎-elim none-label some-label (clique-or v roster ts (below v roster ts R) (room v roster ts R) e c a)
     where
-      none-slot : cliqueAt e c ≡ absent → (ltb (labelAt e c) n && isLabel v roster (labelAt e c)) ≡ true
-      none-slot q =
+      none-label : cliqueAt e c ≡ absent → (ltb (labelAt e c) n && isLabel v roster (labelAt e c)) ≡ true
+      none-label q =
           let z : labelAt e c ≡ v .instance = rw (eq-eqb (cliqueAt e c) absent q) in
-          subst (λ (s : ℕ). (ltb s n && isLabel v roster s) ≡ true) (sym z) (slot-is (v .instance) (type-below R) type-label)
+          subst (λ (s : ℕ). (ltb s n && isLabel v roster s) ≡ true) (sym z) (label-is (v .instance) (type-below R) type-label)
 
-      some-slot : Cliqued v roster ts (below v roster ts R) (room v roster ts R) e (cliqueAt e c) → (ltb (labelAt e c) n && isLabel v roster (labelAt e c)) ≡ true
-      some-slot k =
+      some-label : Cliqued v roster ts (below v roster ts R) (room v roster ts R) e (cliqueAt e c) → (ltb (labelAt e c) n && isLabel v roster (labelAt e c)) ≡ true
+      some-label k =
           let b = cliqued-below v roster ts (below v roster ts R) (room v roster ts R) e (cliqueAt e c) k in
           let r = room v roster ts R in
           let z : labelAt e c ≡ cliqueAt e c = rw (ne-eqb (cliqueAt e c) absent (λ q. omega arith)) in
-          subst (λ (s : ℕ). (ltb s n && isLabel v roster s) ≡ true) (sym z) (slot-is (cliqueAt e c) b (marked-label (cliqueAt e c) (clique-marked e (cliqueAt e c) k)))
+          subst (λ (s : ℕ). (ltb s n && isLabel v roster s) ≡ true) (sym z) (label-is (cliqueAt e c) b (marked-label (cliqueAt e c) (clique-marked e (cliqueAt e c) k)))
 
   -- a label is marked, or the code of type, which is no node
   label-no-node : (s : ℕ) → isLabel v roster s ≡ true → (isNode ts s && unmarked roster s) ≡ true → ⊥
@@ -125,14 +125,14 @@ module _ (v : Vocabulary) (roster : List ℕ) (ts : List Triple) (R : Right v ro
       ⊎-elim (λ m. not-both (x .plain) (not-true _ m))
       (λ e. word-no-node v roster ts R s (type-reserved v s (eqb-true _ _ e)) (x .node)) (or-true (not (unmarked roster s)) _ h)
 
-  pub sites : Sites groups
+  pub sites : LabelsApart groups
   sites =
       record {
         small = room v roster ts R;
         below = λ m d. node-below n ts (below v roster ts R) m (data-node m d .node);
-        first = λ m d. label-slot source m (data-node m d .plain);
-        second = λ m d. label-slot target m (data-node m d .plain);
-        slot-below = λ s h. ltb-true s n ((and-true (ltb s n) _ h) .0);
+        first = λ m d. clique-label source m (data-node m d .plain);
+        second = λ m d. clique-label target m (data-node m d .plain);
+        label-below = λ s h. ltb-true s n ((and-true (ltb s n) _ h) .0);
         apart = λ s h d. label-no-node s ((and-true (ltb s n) _ h) .1) d;
       }
 
@@ -183,8 +183,8 @@ module _ (v : Vocabulary) (roster : List ℕ) (ts : List Triple) (R : Right v ro
           let w = nodeCliques v roster source ts ++ nodeCliques v roster target ts in
           ap (λ (w : List ℕ). getD w (n + c) 0) is ∙ sym (getD-drop n w c 0) ∙ ap (λ (k : List ℕ). getD k c 0) (drop-at (nodeCliques v roster source ts) _ n (size-of v roster source ts))
 
-      slot-low : (s : ℕ) → (ltb s n && isLabel v roster s) ≡ true → s < n
-      slot-low s h = ltb-true s n ((and-true (ltb s n) _ h) .0)
+      label-low : (s : ℕ) → (ltb s n && isLabel v roster s) ≡ true → s < n
+      label-low s h = ltb-true s n ((and-true (ltb s n) _ h) .0)
 
       node-low : (c : ℕ) → (isNode ts c && unmarked roster c) ≡ true → c < n
       node-low c d = node-below n ts (below v roster ts R) c (data-node c d .node)
@@ -199,8 +199,8 @@ module _ (v : Vocabulary) (roster : List ℕ) (ts : List Triple) (R : Right v ro
             nodes = node-is;
             firsts = λ m d. front m (node-low m d) ∙ node-entry-of source m d;
             seconds = λ m d. behind m ∙ node-entry-of target m d;
-            heads = λ s h. front s (slot-low s h) ∙ label-entry source s (slot-low s h) ((and-true (ltb s n) _ h) .1);
-            stamps = λ s h. behind s ∙ label-entry target s (slot-low s h) ((and-true (ltb s n) _ h) .1);
+            heads = λ s h. front s (label-low s h) ∙ label-entry source s (label-low s h) ((and-true (ltb s n) _ h) .1);
+            stamps = λ s h. behind s ∙ label-entry target s (label-low s h) ((and-true (ltb s n) _ h) .1);
           }
 
       -- what threading leaves is ready to be settled
@@ -210,7 +210,7 @@ module _ (v : Vocabulary) (roster : List ℕ) (ts : List Triple) (R : Right v ro
             sites = sites;
             roster-size = refl;
             map-size = size;
-            slots = λ s l. ap (λ (b : Bool). b && isLabel v roster s) (lt-ltb s n l);
+            label-tests = λ s l. ap (λ (b : Bool). b && isLabel v roster s) (lt-ltb s n l);
             state = settled-start groups sites map₀ map work work′ T (labelled .work-size) (labelled .seconds) (labelled .stamps);
           }
 

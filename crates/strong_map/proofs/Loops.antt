@@ -14,7 +14,7 @@ use Rattle.model.specs.Codes.{absent}
 use Rattle.model.specs.Roster.{unmarked}
 use Rattle.theory.proofs.Tests.{bool-cases, not-both}
 use Rattle.node_cliques.specs.Labels.{isLabel}
-use Rattle.strong_map.specs.Threads.{Least, none, some, Groups, Node, Slot, Sites, From, Threaded, Walked, Settled, fresh, stale}
+use Rattle.strong_map.specs.Threads.{Least, none, some, Groups, Node, Label, LabelsApart, From, Threaded, Walked, Settled, fresh, stale}
 use Rattle.strong_map.specs.Calls.{dataNode, Threadable, NodeThreaded, Labelled, stampOf, stamped, Settleable, NodeSettled, Walkable, Settling}
 use Rattle.strong_map.proofs.Stores.{stamp-is-node, stamp-is-other}
 use Rattle.strong_map.proofs.Threads.{thread-none, thread-node, settle-old, settle-new, walk-start, walk-end, settled-skip}
@@ -52,7 +52,7 @@ module _ (g : Groups) (roster map₀ work₀ : List ℕ) (L : Labelled g roster 
           small = omega (arith, L .sites .small, L .map-size);
           label = λ h.
               let d : Node g i = sym same-test ∙ h in
-              let b = L .sites .slot-below (g .A i) (L .sites .first i d) in
+              let b = L .sites .label-below (g .A i) (L .sites .first i d) in
               omega (arith, T .labels i d, T .work-size, L .work-size);
         }
 
@@ -65,7 +65,7 @@ module _ (g : Groups) (roster map₀ work₀ : List ℕ) (L : Labelled g roster 
         linked : Node g i → Threaded g i map₀ map′ work₀ work′
         linked d =
             let l : getD work i 0 ≡ g .A i = T .labels i d in
-            let b = L .sites .slot-below (g .A i) (L .sites .first i d) in
+            let b = L .sites .label-below (g .A i) (L .sites .first i d) in
             let w = N .linked (same-test ∙ d) in
             let X = thread-node g (L .sites) i map₀ map work₀ work T′ d (thread-ready .in-map) (omega (arith, T .work-size, L .work-size)) in
             let m : map′ ≡ set map i (getD work (g .A i) 0) = w .0 ∙ ap (λ (z : ℕ). set map i (getD work z 0)) l in
@@ -95,14 +95,14 @@ module _ (g : Groups) (before map₀ work₀ : List ℕ) (n a : ℕ) (K : Walkab
   work-length = K .state .work-size ∙ ap (λ (z : ℕ). z + z) (K .size)
 
   pub head-inside : (w : ℕ) → w ≡ a → w < length work₀
-  head-inside w e = let b = K .sites .slot-below a (K .slot) in omega (arith, K .size, work-length)
+  head-inside w e = let b = K .sites .label-below a (K .label) in omega (arith, K .size, work-length)
 
   pub walking-start : (w c : ℕ) → w ≡ a → c ≡ getD work₀ w 0 → Walking g n a c map₀ map₀ work₀ work₀
   walking-start w c e q =
       record {
         low = 0;
         state = subst (λ (z : ℕ). Walked g a 0 z map₀ map₀ work₀ work₀) (sym (q ∙ ap (λ (z : ℕ). getD work₀ z 0) e))
-            (walk-start g (K .sites) a before map₀ work₀ (K .state) (K .slot));
+            (walk-start g (K .sites) a before map₀ work₀ (K .state) (K .label));
       }
 
   module _ (c : ℕ) (map work : List ℕ) (W : Walking g n a c map₀ map work₀ work) where
@@ -121,14 +121,14 @@ module _ (g : Groups) (before map₀ work₀ : List ℕ) (n a : ℕ) (K : Walkab
           go (some p f) = p
 
       at-second : getD work (n + i) 0 ≡ g .B c
-      at-second = (λ j. getD work (sym (K .size) j + q j) 0) ∙ S .targets c (here .node)
+      at-second = (λ j. getD work (sym (K .size) j + q j) 0) ∙ S .seconds c (here .node)
 
-      slot-second : Slot g (g .B c)
-      slot-second = K .sites .second c (here .node)
+      label-second : Label g (g .B c)
+      label-second = K .sites .second c (here .node)
 
       -- a stamp is a node
       stamp-below : (s : ℕ) → s ≡ stampOf work n i → (s ≡ absent → ⊥) → s < n
-      stamp-below s e f = go (S .stamps (g .B c) slot-second)
+      stamp-below s e f = go (S .stamps (g .B c) label-second)
         where
           is : s ≡ getD work (g .n + g .B c) 0
           is = e ∙ (λ j. getD work (sym (K .size) j + at-second j) 0)
@@ -144,7 +144,7 @@ module _ (g : Groups) (before map₀ work₀ : List ℕ) (n a : ℕ) (K : Walkab
       pub settle-ready : Settleable map work n i
       settle-ready =
           let b = K .sites .below c (here .node) in
-          let s = K .sites .slot-below (g .B c) slot-second in
+          let s = K .sites .label-below (g .B c) label-second in
           record {
             in-map = omega (arith, S .map-size, map-length, K .size);
             small = omega (arith, K .sites .small);
@@ -198,14 +198,14 @@ module _ (g : Groups) (before map₀ work₀ : List ℕ) (n a : ℕ) (K : Walkab
 
 -- ── settling all threads ──
 module _ (v : Vocabulary) (g : Groups) (before roster map work : List ℕ) (a : ℕ) (K : Settling v g before roster map work a) (l : a < length roster) where
-  slot-test : g .slot a ≡ isLabel v roster a
-  slot-test = K .slots a (omega (arith, K .roster-size))
+  label-test : g .label a ≡ isLabel v roster a
+  label-test = K .label-tests a (omega (arith, K .roster-size))
 
   onward : (map′ work′ : List ℕ) → Settled g (a + 1) before map′ work′ → Settling v g before roster map′ work′ (a + 1)
-  onward map′ work′ S = record { sites = K .sites; roster-size = K .roster-size; map-size = K .map-size; slots = K .slots; state = S }
+  onward map′ work′ S = record { sites = K .sites; roster-size = K .roster-size; map-size = K .map-size; label-tests = K .label-tests; state = S }
 
   pub labels-skip : isLabel v roster a ≡ false → Settling v g before roster map work (a + 1)
-  labels-skip f = onward map work (settled-skip g (K .sites) a before map work (K .state) (λ h. not-both h (slot-test ∙ f)))
+  labels-skip f = onward map work (settled-skip g (K .sites) a before map work (K .state) (λ h. not-both h (label-test ∙ f)))
 
   module _ (t : isLabel v roster a ≡ true) (k : ℕ) (e : k ≡ a) where
     pub walk-ready : Walkable g before map work (length roster) k
@@ -214,7 +214,7 @@ module _ (v : Vocabulary) (g : Groups) (before roster map work : List ℕ) (a : 
           sites = K .sites;
           size = sym (K .roster-size);
           map-size = K .map-size;
-          slot = ap (g .slot) e ∙ slot-test ∙ t;
+          label = ap (g .label) e ∙ label-test ∙ t;
           state = subst (λ (z : ℕ). Settled g z before map work) (sym e) (K .state);
         }
 

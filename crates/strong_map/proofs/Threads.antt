@@ -33,8 +33,8 @@ module _ (gr : Groups) where
   abbrev D : ℕ → Type 0
   D = threads.Node gr
 
-  abbrev Slot : ℕ → Type 0
-  Slot = threads.Slot gr
+  abbrev Label : ℕ → Type 0
+  Label = threads.Label gr
 
   abbrev A : ℕ → ℕ
   A = gr .A
@@ -60,7 +60,7 @@ module _ (gr : Groups) where
   abbrev Settled : ℕ → List ℕ → List ℕ → List ℕ → Type 0
   Settled = threads.Settled gr
 
-  module _ (L : threads.Sites gr) where
+  module _ (L : threads.LabelsApart gr) where
     -- ── threading ──
     module _ (i : ℕ) (map₀ map work₀ work : List ℕ) (T : Threaded (i + 1) map₀ map work₀ work) where
       -- a code that is no node
@@ -96,14 +96,14 @@ module _ (gr : Groups) where
             before = λ m e l. get-other map i m _ (omega arith) ∙ T .before m e (omega arith);
             rest = λ m f. get-other map i m _ (λ q. f (subst D (sym q) d)) ∙ T .rest m f;
             labels = λ m e. get-other work (A i) m i (λ q. L .apart (A i) (L .first i d) (subst D q e)) ∙ T .labels m e;
-            behind = λ m l. get-other work (A i) m i (let b = L .slot-below (A i) (L .first i d) in omega arith) ∙ T .behind m l;
+            behind = λ m l. get-other work (A i) m i (let b = L .label-below (A i) (L .first i d) in omega arith) ∙ T .behind m l;
           }
         where
           more : (s m : ℕ) → (s ≡ A i → ⊥) → From s i m → Dec (m ≡ i) → From s (i + 1) m
           more s m f p (yes e) = absurd (f (sym (p .label) ∙ ap A e))
           more s m f p (no e) = record { node = p .node; label = p .label; high = omega (arith, p .high) }
 
-          head : (s : ℕ) → Slot s → Dec (s ≡ A i) → Least (From s i) (getD (set work (A i) i) s 0)
+          head : (s : ℕ) → Label s → Dec (s ≡ A i) → Least (From s i) (getD (set work (A i) i) s 0)
           head s h (yes e) =
               subst (Least (From s i)) (sym (ap (λ (z : ℕ). getD (set work (A i) i) z 0) e ∙ get-same work (A i) i hw))
               (some (record { node = d; label = sym e; high = omega arith }) (λ m p. p .high))
@@ -173,7 +173,7 @@ module _ (gr : Groups) where
                   others = λ m d f. get-other map c m s (λ q. f (ap A q ∙ at-node .label)) ∙ W .others m d f;
                   rest = λ m f. get-other map c m s (λ q. f (subst D (sym q) (at-node .node))) ∙ W .rest m f;
                   labels = W .labels;
-                  targets = W .targets;
+                  seconds = W .seconds;
                   stamps = λ b k. stamp-at b k (ℕ-discrete b (B c));
                 }
               where
@@ -181,7 +181,7 @@ module _ (gr : Groups) where
                 set-at m d q k (yes z) = subst (λ (w : ℕ). Least (Both a (B w)) (getD (set map c s) w 0)) (sym z) (subst (Least (Both a (B c))) (sym (get-same map c s hm)) (some p g))
                 set-at m d q k (no z) = subst (Least (Both a (B m))) (sym (get-other map c m s z)) (below-node m d q (omega arith))
 
-                stamp-at : (b : ℕ) → Slot b → Dec (b ≡ B c) → Stamp a (c + 1) b (getD work (n + b) 0)
+                stamp-at : (b : ℕ) → Label b → Dec (b ≡ B c) → Stamp a (c + 1) b (getD work (n + b) 0)
                 stamp-at b k (yes z) = subst (λ (w : ℕ). Stamp a (c + 1) w (getD work (n + w) 0)) (sym z) (subst (Stamp a (c + 1) (B c)) is (fresh p (omega (arith, at-node .high)) g))
                 stamp-at b k (no z) = still b _ z (W .stamps b k)
 
@@ -198,14 +198,14 @@ module _ (gr : Groups) where
                 record {
                   map-size = length-set map c c ∙ W .map-size;
                   work-size = length-set work (n + B c) c ∙ W .work-size;
-                  heads = λ b k. get-other work (n + B c) b c (let z = L .slot-below b k in omega arith) ∙ W .heads b k;
+                  heads = λ b k. get-other work (n + B c) b c (let z = L .label-below b k in omega arith) ∙ W .heads b k;
                   current = next-current x e;
                   settled = λ m d q k. set-at m d q k (ℕ-discrete m c);
                   threaded = λ m d q k. subst (Least (From a (m + 1))) (sym (get-other map c m c (omega arith))) (W .threaded m d q (omega (arith, at-node .high)));
                   others = λ m d f. get-other map c m c (λ q. f (ap A q ∙ at-node .label)) ∙ W .others m d f;
                   rest = λ m f. get-other map c m c (λ q. f (subst D (sym q) (at-node .node))) ∙ W .rest m f;
                   labels = λ m d. get-other work (n + B c) m c (let z = L .below m d in omega arith) ∙ W .labels m d;
-                  targets = λ m d. get-other work (n + B c) (n + m) c (λ q. L .apart (B c) (L .second c (at-node .node)) (subst D (cancel m q) d)) ∙ W .targets m d;
+                  seconds = λ m d. get-other work (n + B c) (n + m) c (λ q. L .apart (B c) (L .second c (at-node .node)) (subst D (cancel m q) d)) ∙ W .seconds m d;
                   stamps = λ b k. stamp-at b k (ℕ-discrete b (B c));
                 }
               where
@@ -222,14 +222,14 @@ module _ (gr : Groups) where
                 set-at m d q k (yes z) = subst (λ (w : ℕ). Least (Both a (B w)) (getD (set map c c) w 0)) (sym z) (subst (Least (Both a (B c))) (sym (get-same map c c hm)) (some own lowest))
                 set-at m d q k (no z) = subst (Least (Both a (B m))) (sym (get-other map c m c z)) (below-node m d q (omega arith))
 
-                stamp-at : (b : ℕ) → Slot b → Dec (b ≡ B c) → Stamp a (c + 1) b (getD (set work (n + B c) c) (n + b) 0)
+                stamp-at : (b : ℕ) → Label b → Dec (b ≡ B c) → Stamp a (c + 1) b (getD (set work (n + B c) c) (n + b) 0)
                 stamp-at b k (yes z) =
                     subst (λ (w : ℕ). Stamp a (c + 1) w (getD (set work (n + B c) c) (n + w) 0)) (sym z)
                     (subst (Stamp a (c + 1) (B c)) (sym (get-same work (n + B c) c hw)) (fresh own (omega arith) lowest))
                 stamp-at b k (no z) = subst (Stamp a (c + 1) b) (sym (get-other work (n + B c) (n + b) c (λ q. z (cancel b q)))) (still b _ z (W .stamps b k))
 
     -- ── all threads ──
-    pub settled-start : (map₀ map work₀ work : List ℕ) → Threaded 0 map₀ map work₀ work → length work₀ ≡ n + n → ((m : ℕ) → D m → getD work₀ (n + m) 0 ≡ B m) → ((b : ℕ) → Slot b → getD work₀ (n + b) 0 ≡ absent)
+    pub settled-start : (map₀ map work₀ work : List ℕ) → Threaded 0 map₀ map work₀ work → length work₀ ≡ n + n → ((m : ℕ) → D m → getD work₀ (n + m) 0 ≡ B m) → ((b : ℕ) → Label b → getD work₀ (n + b) 0 ≡ absent)
         → Settled 0 map₀ map work
     settled-start map₀ map work₀ work T l t s =
         record {
@@ -240,28 +240,28 @@ module _ (gr : Groups) where
           left = λ m d k. T .nexts m d (omega arith);
           rest = T .rest;
           labels = T .labels;
-          targets = λ m d. T .behind (n + m) (omega arith) ∙ t m d;
+          seconds = λ m d. T .behind (n + m) (omega arith) ∙ t m d;
           stamps = λ b k. inl (T .behind (n + b) (omega arith) ∙ s b k);
         }
 
     module _ (a : ℕ) (map₀ map work : List ℕ) (S : Settled a map₀ map work) where
-      -- a code that is no slot has no thread
-      pub settled-skip : (Slot a → ⊥) → Settled (a + 1) map₀ map work
+      -- a code that is no label has no thread
+      pub settled-skip : (Label a → ⊥) → Settled (a + 1) map₀ map work
       settled-skip f =
           record {
             map-size = S .map-size;
             work-size = S .work-size;
             heads = S .heads;
-            done = λ m d l. S .done m d (let ne : A m ≡ a → ⊥ = λ q. f (subst Slot q (L .first m d)) in omega arith);
+            done = λ m d l. S .done m d (let ne : A m ≡ a → ⊥ = λ q. f (subst Label q (L .first m d)) in omega arith);
             left = λ m d l. S .left m d (omega arith);
             rest = S .rest;
             labels = S .labels;
-            targets = S .targets;
+            seconds = S .seconds;
             stamps = λ b k. ⊎-elim (λ q. inl q) (λ q. inr (q .0, omega (arith, q .1))) (S .stamps b k);
           }
 
       -- a walk begins at the head of a thread
-      pub walk-start : Slot a → Walked a 0 (getD work a 0) map map work work
+      pub walk-start : Label a → Walked a 0 (getD work a 0) map map work work
       walk-start k =
           record {
             map-size = refl;
@@ -273,7 +273,7 @@ module _ (gr : Groups) where
             others = λ m d f. refl;
             rest = λ m f. refl;
             labels = S .labels;
-            targets = S .targets;
+            seconds = S .seconds;
             stamps = λ b j. stale (S .stamps b j) (λ m p. omega arith);
           }
 
@@ -288,7 +288,7 @@ module _ (gr : Groups) where
             left = λ m d l. subst (Least (From (A m) (m + 1))) (sym (W .others m d (omega arith))) (S .left m d (omega arith));
             rest = λ m f. W .rest m f ∙ S .rest m f;
             labels = W .labels;
-            targets = W .targets;
+            seconds = W .seconds;
             stamps = λ b j. stamp (W .stamps b j);
           }
         where
@@ -312,4 +312,4 @@ module _ (gr : Groups) where
 
     -- every node has the smallest node with both its labels
     pub settled-end : (map₀ map work : List ℕ) → Settled n map₀ map work → (m : ℕ) → D m → Least (Both (A m) (B m)) (getD map m 0)
-    settled-end map₀ map work S m d = S .done m d (L .slot-below (A m) (L .first m d))
+    settled-end map₀ map work S m d = S .done m d (L .label-below (A m) (L .first m d))

@@ -10,7 +10,7 @@ use Rattle.model.specs.declared.Vocabulary.{Vocabulary}
 use Rattle.model.specs.Codes.{absent}
 use Rattle.model.specs.Roster.{unmarked}
 use Rattle.node_cliques.specs.Labels.{isLabel}
-use Rattle.strong_map.specs.Threads.{Groups, Node, Slot, Sites, Settled}
+use Rattle.strong_map.specs.Threads.{Groups, Node, Label, LabelsApart, Settled}
 
 -- ── one node of a thread ──
 -- a data node, where the map's entry of each node is the node itself
@@ -32,15 +32,15 @@ pub record NodeThreaded (roster map work map′ work′ : List ℕ) (i : ℕ) : 
 -- ── all threads ──
 -- the lists before the first node is threaded: every node has its labels, and no label a thread or a stamp
 pub record Labelled (g : Groups) (roster map work : List ℕ) : Type 0 where
-  pub sites : Sites g
+  pub sites : LabelsApart g
   pub roster-size : length roster ≡ g .n
   pub map-size : length map ≡ g .n
   pub work-size : length work ≡ g .n + g .n
   pub nodes : (i : ℕ) → i < g .n → g .node i ≡ dataNode roster map i
   pub firsts : (m : ℕ) → Node g m → getD work m 0 ≡ g .A m
   pub seconds : (m : ℕ) → Node g m → getD work (g .n + m) 0 ≡ g .B m
-  pub heads : (s : ℕ) → Slot g s → getD work s 0 ≡ absent
-  pub stamps : (s : ℕ) → Slot g s → getD work (g .n + s) 0 ≡ absent
+  pub heads : (s : ℕ) → Label g s → getD work s 0 ≡ absent
+  pub stamps : (s : ℕ) → Label g s → getD work (g .n + s) 0 ≡ absent
 
 pub record SomeLabelled (roster map work : List ℕ) : Type 0 where
   pub groups : Groups
@@ -70,10 +70,10 @@ pub record NodeSettled (map work map′ work′ : List ℕ) (n a i r : ℕ) : Ty
 
 -- ── settling a thread, and all of them ──
 pub record Walkable (g : Groups) (map₀ map work : List ℕ) (n a : ℕ) : Type 0 where
-  pub sites : Sites g
+  pub sites : LabelsApart g
   pub size : g .n ≡ n
   pub map-size : length map₀ ≡ g .n
-  pub slot : Slot g a
+  pub label : Label g a
   pub state : Settled g a map₀ map work
 
 pub record SomeWalkable (map work : List ℕ) (n a : ℕ) : Type 0 where
@@ -84,10 +84,10 @@ pub record SomeWalkable (map work : List ℕ) (n a : ℕ) : Type 0 where
 module _ (v : Vocabulary) where
   -- the threads of the labels below a are settled
   pub record Settling (g : Groups) (map₀ roster map work : List ℕ) (a : ℕ) : Type 0 where
-    pub sites : Sites g
+    pub sites : LabelsApart g
     pub roster-size : length roster ≡ g .n
     pub map-size : length map₀ ≡ g .n
-    pub slots : (s : ℕ) → s < g .n → g .slot s ≡ isLabel v roster s
+    pub label-tests : (s : ℕ) → s < g .n → g .label s ≡ isLabel v roster s
     pub state : Settled g a map₀ map work
 
   pub record SomeSettling (roster map work : List ℕ) (a : ℕ) : Type 0 where

@@ -1,7 +1,8 @@
 -- What the map and the work list hold while the data nodes are put together that have both labels in common.
 -- Threads: the data nodes with one first label, in rising order. The map's entry of a node is first the next node of its thread, and after
 -- its thread is settled the smallest node with both its labels. The work list has the first labels at the nodes and the heads of the threads at
--- the labels, and n behind it the second labels at the nodes, and at each label the last node that was found to be the first with it: its stamp.
+-- the labels; n further on, the second labels at the nodes, and at each label its stamp: the node last found to be the first of its thread with
+-- that second label.
 -- Assumes nothing.
 use Prim.Native.Nat.{ℕ, _+_, _≤_, _<_}
 use mathlib.Core.Path.{_≡_}
@@ -20,7 +21,7 @@ pub data Least (P : ℕ → Type 0) (r : ℕ) : Type 0 where
 pub record Groups : Type 0 where
   pub n : ℕ
   pub node : ℕ → Bool
-  pub slot : ℕ → Bool
+  pub label : ℕ → Bool
   pub A : ℕ → ℕ
   pub B : ℕ → ℕ
 
@@ -28,17 +29,17 @@ module _ (g : Groups) where
   abbrev pub Node : ℕ → Type 0
   Node m = g .node m ≡ true
 
-  abbrev pub Slot : ℕ → Type 0
-  Slot s = g .slot s ≡ true
+  abbrev pub Label : ℕ → Type 0
+  Label s = g .label s ≡ true
 
-  -- labels are slots, and no slot is a node
-  pub record Sites : Type 0 where
+  -- the labels of nodes are labels, and no label is a node
+  pub record LabelsApart : Type 0 where
     pub small : g .n ≤ absent
     pub below : (m : ℕ) → Node m → m < g .n
-    pub first : (m : ℕ) → Node m → Slot (g .A m)
-    pub second : (m : ℕ) → Node m → Slot (g .B m)
-    pub slot-below : (s : ℕ) → Slot s → s < g .n
-    pub apart : (s : ℕ) → Slot s → Node s → ⊥
+    pub first : (m : ℕ) → Node m → Label (g .A m)
+    pub second : (m : ℕ) → Node m → Label (g .B m)
+    pub label-below : (s : ℕ) → Label s → s < g .n
+    pub apart : (s : ℕ) → Label s → Node s → ⊥
 
   -- the nodes of a thread from a number on
   pub record From (a low m : ℕ) : Type 0 where
@@ -56,15 +57,15 @@ module _ (g : Groups) where
   pub record Threaded (i : ℕ) (map₀ map work₀ work : List ℕ) : Type 0 where
     pub map-size : length map ≡ length map₀
     pub work-size : length work ≡ length work₀
-    pub heads : (s : ℕ) → Slot s → Least (From s i) (getD work s 0)
+    pub heads : (s : ℕ) → Label s → Least (From s i) (getD work s 0)
     pub nexts : (m : ℕ) → Node m → i ≤ m → Least (From (g .A m) (m + 1)) (getD map m 0)
     pub before : (m : ℕ) → Node m → m < i → getD map m 0 ≡ getD map₀ m 0
     pub rest : (m : ℕ) → (Node m → ⊥) → getD map m 0 ≡ getD map₀ m 0
     pub labels : (m : ℕ) → Node m → getD work m 0 ≡ g .A m
     pub behind : (m : ℕ) → g .n ≤ m → getD work m 0 ≡ getD work₀ m 0
 
-  -- the stamp s of the label b while the thread of a is walked and is settled below low: the smallest node with a and b; or a node of a thread
-  -- before, and then no node below low has both
+  -- the stamp s of the label b while the thread of a is walked and is settled below low: the smallest node with a and b; or absent or a node
+  -- of a thread before, and then no node below low has both
   pub data Stamp (a low b s : ℕ) : Type 0 where
     fresh : Both a b s → s < low → ((m : ℕ) → Both a b m → s ≤ m) → Stamp a low b s
     stale : (s ≡ absent) ⊎ (Node s × (g .A s < a)) → ((m : ℕ) → Both a b m → low ≤ m) → Stamp a low b s
@@ -73,24 +74,24 @@ module _ (g : Groups) where
   pub record Walked (a low c : ℕ) (map₀ map work₀ work : List ℕ) : Type 0 where
     pub map-size : length map ≡ length map₀
     pub work-size : length work ≡ length work₀
-    pub heads : (s : ℕ) → Slot s → getD work s 0 ≡ getD work₀ s 0
+    pub heads : (s : ℕ) → Label s → getD work s 0 ≡ getD work₀ s 0
     pub current : Least (From a low) c
     pub settled : (m : ℕ) → Node m → g .A m ≡ a → m < low → Least (Both a (g .B m)) (getD map m 0)
     pub threaded : (m : ℕ) → Node m → g .A m ≡ a → low ≤ m → Least (From a (m + 1)) (getD map m 0)
     pub others : (m : ℕ) → Node m → (g .A m ≡ a → ⊥) → getD map m 0 ≡ getD map₀ m 0
     pub rest : (m : ℕ) → (Node m → ⊥) → getD map m 0 ≡ getD map₀ m 0
     pub labels : (m : ℕ) → Node m → getD work m 0 ≡ g .A m
-    pub targets : (m : ℕ) → Node m → getD work (g .n + m) 0 ≡ g .B m
-    pub stamps : (b : ℕ) → Slot b → Stamp a low b (getD work (g .n + b) 0)
+    pub seconds : (m : ℕ) → Node m → getD work (g .n + m) 0 ≡ g .B m
+    pub stamps : (b : ℕ) → Label b → Stamp a low b (getD work (g .n + b) 0)
 
   -- the threads of the labels below a are settled, the others stand; map₀ is the map before threading
   pub record Settled (a : ℕ) (map₀ map work : List ℕ) : Type 0 where
     pub map-size : length map ≡ length map₀
     pub work-size : length work ≡ g .n + g .n
-    pub heads : (s : ℕ) → Slot s → Least (From s 0) (getD work s 0)
+    pub heads : (s : ℕ) → Label s → Least (From s 0) (getD work s 0)
     pub done : (m : ℕ) → Node m → g .A m < a → Least (Both (g .A m) (g .B m)) (getD map m 0)
     pub left : (m : ℕ) → Node m → a ≤ g .A m → Least (From (g .A m) (m + 1)) (getD map m 0)
     pub rest : (m : ℕ) → (Node m → ⊥) → getD map m 0 ≡ getD map₀ m 0
     pub labels : (m : ℕ) → Node m → getD work m 0 ≡ g .A m
-    pub targets : (m : ℕ) → Node m → getD work (g .n + m) 0 ≡ g .B m
-    pub stamps : (b : ℕ) → Slot b → (getD work (g .n + b) 0 ≡ absent) ⊎ (Node (getD work (g .n + b) 0) × (g .A (getD work (g .n + b) 0) < a))
+    pub seconds : (m : ℕ) → Node m → getD work (g .n + m) 0 ≡ g .B m
+    pub stamps : (b : ℕ) → Label b → (getD work (g .n + b) 0 ≡ absent) ⊎ (Node (getD work (g .n + b) 0) × (g .A (getD work (g .n + b) 0) < a))

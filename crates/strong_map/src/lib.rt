@@ -7,6 +7,7 @@ ghost use mathlib.Core.Path.{_≡_};
 ghost use mathlib.Core.List.{List, _++_};
 ghost use Prim.Native.Nat.{ℕ, _+_, _*_, _<_, _≤_};
 ghost use lib.ListN.{length};
+ghost use Rattle.model.specs.Codes.{absent};
 ghost use Rattle.model.specs.Lists.{zeros};
 ghost use Rattle.model.specs.Triples.{triples};
 ghost use Rattle.model.specs.Cliques.{source, target};
@@ -26,7 +27,7 @@ use node_cliques::node_cliques;
 use weak_map::open_nodes;
 
 // Whether a code is a data node, where the map's entry of each node is the node itself.
-fn is_node(roster: &[u8], map: &[u32], i: usize) -> bool
+fn is_data_node(roster: &[u8], map: &[u32], i: usize) -> bool
     requires { ⌜ (i < length (now roster)) × (i < length (now map)) ⌝ }
     ensures { λ r. ⌜ r ≡ dataNode (now (roster .entry)) (now (map .entry)) i ⌝ }
 {
@@ -41,7 +42,7 @@ fn thread_node(roster: &[u8], map: &mut [u32], work: &mut [u32], i: usize)
     requires { ⌜ Threadable (now roster) (now map) (now work) i ⌝ }
     ensures { λ r. ⌜ NodeThreaded (now (roster .entry)) (now (map .entry)) (now (work .entry)) (now (map .exit)) (now (work .exit)) i ⌝ }
 {
-    if !is_node(roster, map, i) {
+    if !is_data_node(roster, map, i) {
         return;
     }
     let a = wide(work[i]);
@@ -63,7 +64,7 @@ fn thread_nodes(roster: &[u8], map: &mut [u32], work: &mut [u32])
 
 // Whether a stamp was left in the thread of a: its node has this label.
 fn is_stamped(work: &[u32], stamp: u32, a: u32) -> bool
-    requires { ⌜ ((stamp ≡ 4294967295 → ⊥) → stamp < length (now work)) ⌝ }
+    requires { ⌜ ((stamp ≡ absent → ⊥) → stamp < length (now work)) ⌝ }
     ensures { λ r. ⌜ r ≡ stamped (now (work .entry)) stamp a ⌝ }
 {
     if Code(stamp).is_absent() {

@@ -12,7 +12,7 @@ use Rattle.model.specs.declared.Vocabulary.{Vocabulary}
 use Rattle.model.specs.Codes.{kind}
 use Rattle.model.specs.Triples.{isData}
 use Rattle.model.specs.Cliques.{Graph, Side, end, Node, Has, Share, Clique, shared, linked}
-use Rattle.model.specs.Classes.{DataNode, Weakly, same-clique, no-clique, chain, RepresentsBy, Represents}
+use Rattle.model.specs.Classes.{DataNode, Weakly, same-clique, no-clique, chain, RepresentsBy}
 use Rattle.theory.proofs.Covered.{Plain}
 
 pub node-map : {G H : Graph} → ((t : Triple) → G t → H t) → {n : ℕ} → Node G n → Node H n
@@ -129,10 +129,6 @@ module _ (v : Vocabulary) where
     abbrev pub Reps : Graph → (ℕ → ℕ) → Type 0
     Reps G f = RepresentsBy v roster (Weak G) G f
 
-    pub represents-reps : {G : Graph} {f : ℕ → ℕ} → ((n : ℕ) → HasData G n ⊎ (HasData G n → ⊥)) → Represents v roster G f → Reps G f
-    represents-reps d R =
-        record { of-marked = R .of-marked; of-data = λ n x. weakly-weak (R .of-data n x); least = λ n m x w. R .least n m x (weak-weakly d w) }
-
-    pub reps-represents : {G : Graph} {f : ℕ → ℕ} → ((n : ℕ) → HasData G n ⊎ (HasData G n → ⊥)) → Reps G f → Represents v roster G f
+    pub reps-represents : {G : Graph} {f : ℕ → ℕ} → ((n : ℕ) → HasData G n ⊎ (HasData G n → ⊥)) → Reps G f → RepresentsBy v roster (Weakly v roster G) G f
     reps-represents d R =
         record { of-marked = R .of-marked; of-data = λ n x. weak-weakly d (R .of-data n x); least = λ n m x w. R .least n m x (weakly-weak w) }

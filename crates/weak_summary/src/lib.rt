@@ -1,4 +1,4 @@
-// The calls of the scope paper for other languages: numbers and slices only. Each call answers 0 or the number of its refusal;
+// The calls of the papers for other languages: numbers and slices only. Each call answers 0 or the number of its refusal;
 // what else it gives is stored through the numbers that are lent. A refusal leaves these alone, but for 8 and 5 of reading.
 
 ghost use mathlib.Core.Path.{_≡_};
@@ -249,7 +249,10 @@ pub extern "C" fn ws_summarise_strong(
         return refusal_number(Refusal::Length);
     }
     let loaded = words_of(words);
-    counted_status(summarise_strong(loaded, table, roster, result, map, work), count)
+    counted_status(
+        summarise_strong(loaded, table, roster, result, map, work),
+        count,
+    )
 }
 
 #[no_mangle]

@@ -11,10 +11,10 @@ use Rattle.strong_map.proofs.thread_node.Reads as reads
 use Rattle.strong_map.proofs.thread_node.Lts as lts
 use Rattle.lists.proofs.narrow.Reads as narrow-reads
 use Rattle.lists.proofs.wide.Reads as wide-reads
-use Rattle.strong_map.proofs.is_node.Reads as is-node-reads
+use Rattle.strong_map.proofs.is_data_node.Reads as is-data-node-reads
 
-is-node-requires : tie.Need-is-node-requires
-is-node-requires c κs = search needs
+is-data-node-requires : tie.Need-is-data-node-requires
+is-data-node-requires c κs = search needs
 
 same-length : tie.Need-same-length
 same-length c = search needs
@@ -22,7 +22,7 @@ same-length c = search needs
 returns : tie.Need-returns
 returns c =
     let s = c .before .before .before .before .before .before in
-    thread-skipped (s .args .roster .now) (s .args .map .now) (s .args .work .now) (s .args .i) (sym (c .before .is-node .ensures) ∙ not-true _ (c .if1 .taken))
+    thread-skipped (s .args .roster .now) (s .args .map .now) (s .args .work .now) (s .args .i) (sym (c .before .is-data-node .ensures) ∙ not-true _ (c .if1 .taken))
 
 mul-wide : tie.Need-mul-wide
 mul-wide c = search needs
@@ -36,12 +36,12 @@ wide-requires c κs = search needs
 mul-map : tie.Need-mul-map
 mul-map c =
     let s = c .before .before .before .before .before .before .before .before in
-    omega (arith, label-inside (s .args .roster .now) (s .args .map .now) (s .args .work .now) (s .args .i) (sym (c .before .before .before .is-node .ensures) ∙ not-false _ (c .before .before .if1 .left)) _ (c .wide .ensures) (s .pre))
+    omega (arith, label-inside (s .args .roster .now) (s .args .map .now) (s .args .work .now) (s .args .i) (sym (c .before .before .before .is-data-node .ensures) ∙ not-false _ (c .before .before .if1 .left)) _ (c .wide .ensures) (s .pre))
 
 slice-read-map : tie.Need-slice-read-map
 slice-read-map c =
     let s = c .before .before .before .before .before .before .before .before .before in
-    label-inside (s .args .roster .now) (s .args .map .now) (s .args .work .now) (s .args .i) (sym (c .before .before .before .before .is-node .ensures) ∙ not-false _ (c .before .before .before .if1 .left)) _ (c .before .wide .ensures) (s .pre)
+    label-inside (s .args .roster .now) (s .args .map .now) (s .args .work .now) (s .args .i) (sym (c .before .before .before .before .is-data-node .ensures) ∙ not-false _ (c .before .before .before .if1 .left)) _ (c .before .wide .ensures) (s .pre)
 
 mul-map-2 : tie.Need-mul-map-2
 mul-map-2 c = search needs
@@ -55,12 +55,12 @@ narrow-requires c κs = search needs
 mul-work : tie.Need-mul-work
 mul-work c =
     let s = c .before .before .before .before .before .before .before .before .before .before in
-    omega (arith, label-inside (s .args .roster .now) (s .args .map .now) (s .args .work .now) (s .args .i) (sym (c .before .before .before .before .before .is-node .ensures) ∙ not-false _ (c .before .before .before .before .if1 .left)) _ (c .before .before .wide .ensures) (s .pre))
+    omega (arith, label-inside (s .args .roster .now) (s .args .map .now) (s .args .work .now) (s .args .i) (sym (c .before .before .before .before .before .is-data-node .ensures) ∙ not-false _ (c .before .before .before .before .if1 .left)) _ (c .before .before .wide .ensures) (s .pre))
 
 slice-write-work : tie.Need-slice-write-work
 slice-write-work c =
     let s = c .before .before .before .before .before .before .before .before .before .before in
-    label-inside (s .args .roster .now) (s .args .map .now) (s .args .work .now) (s .args .i) (sym (c .before .before .before .before .before .is-node .ensures) ∙ not-false _ (c .before .before .before .before .if1 .left)) _ (c .before .before .wide .ensures) (s .pre)
+    label-inside (s .args .roster .now) (s .args .map .now) (s .args .work .now) (s .args .i) (sym (c .before .before .before .before .before .is-data-node .ensures) ∙ not-false _ (c .before .before .before .before .if1 .left)) _ (c .before .before .wide .ensures) (s .pre)
 
 same-length-2 : tie.Need-same-length-2
 same-length-2 c = search needs
@@ -71,13 +71,13 @@ same-length-3 c = search needs
 returns-2 : tie.Need-returns-2
 returns-2 c =
     let s = c .before .before .before .before .before .before .before .before .before .before in
-    thread-linked (s .args .roster .now) (s .args .map .now) (s .args .work .now) (s .args .i) (sym (c .before .before .before .before .before .is-node .ensures) ∙ not-false _ (c .before .before .before .before .if1 .left)) _ (c .before .before .wide .ensures) _ (c .narrow .ensures)
+    thread-linked (s .args .roster .now) (s .args .map .now) (s .args .work .now) (s .args .i) (sym (c .before .before .before .before .before .is-data-node .ensures) ∙ not-false _ (c .before .before .before .before .if1 .left)) _ (c .before .before .wide .ensures) _ (c .narrow .ensures)
 
 pub thread-node-spec : {M : Type 1} → statement M
 thread-node-spec =
     tie.close
     (tie.spec
-    is-node-requires
+    is-data-node-requires
     same-length
     returns
     mul-wide

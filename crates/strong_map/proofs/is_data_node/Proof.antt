@@ -1,13 +1,13 @@
--- `strong_map::is_node` meets its contract.
+-- `strong_map::is_data_node` meets its contract.
 -- Assumes nothing.
 use mathlib.Core.Path.{sym, _∙_}
 use borrow.Author.Tests.{eqb-true, eqb-false}
 use Rattle.strong_map.proofs.Stores.{node-absent, node-plain}
 use borrow.Author.Needs.{needs}
-use Rattle.strong_map.proofs.is_node.Statement.{statement}
-use Rattle.strong_map.proofs.is_node.Tie as tie
-use Rattle.strong_map.proofs.is_node.Reads as reads
-use Rattle.strong_map.proofs.is_node.Lts as lts
+use Rattle.strong_map.proofs.is_data_node.Statement.{statement}
+use Rattle.strong_map.proofs.is_data_node.Tie as tie
+use Rattle.strong_map.proofs.is_data_node.Reads as reads
+use Rattle.strong_map.proofs.is_data_node.Lts as lts
 use Rattle.lists.proofs.Code.is_absent.Reads as is-absent-reads
 
 mul-t5 : tie.Need-mul-t5
@@ -32,8 +32,8 @@ returns-2 c =
     let s = c .before .before .before .before .before .before .args in
     node-plain (s .roster .now) (s .map .now) (s .i) (eqb-false _ _ (sym (c .before .before .is-absent .ensures) ∙ c .before .if1 .left))
 
-pub is-node-spec : {M : Type 1} → statement M
-is-node-spec =
+pub is-data-node-spec : {M : Type 1} → statement M
+is-data-node-spec =
     tie.close
     (tie.spec
     mul-t5

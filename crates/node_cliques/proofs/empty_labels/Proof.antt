@@ -1,4 +1,4 @@
--- `node_cliques::open_slots` meets its contract. The invariant: the entries of the labels passed are absent.
+-- `node_cliques::empty_labels` meets its contract. The invariant: the entries of the labels passed are absent.
 -- Assumes nothing.
 use Prim.Native.Nat.{_-_}
 use mathlib.Core.Path.{sym, _∙_}
@@ -10,8 +10,8 @@ use Rattle.model.specs.Codes.{absent}
 use Rattle.node_cliques.specs.Labels.{isLabel}
 use Rattle.node_cliques.specs.Labelling.{Filled}
 use Rattle.node_cliques.proofs.Fills.{filled-start, filled-set, filled-skip, filled-end}
-use Rattle.node_cliques.proofs.open_slots.Statement.{statement}
-use Rattle.node_cliques.proofs.open_slots.Tie as tie
+use Rattle.node_cliques.proofs.empty_labels.Statement.{statement}
+use Rattle.node_cliques.proofs.empty_labels.Tie as tie
 
 abbrev Inv-loop : tie.InvT-loop
 Inv-loop words roster list₀ i₀ list i = Filled (isLabel words roster) absent list₀ list i
@@ -52,8 +52,8 @@ same-length c = c .before .loop .inv .size
 returns : tie.Need-returns Inv-loop μ-loop
 returns c = filled-end _ _ _ _ _ (c .before .loop .inv) (omega arith)
 
-pub open-slots-spec : {M : Type 1} → statement M
-open-slots-spec =
+pub empty-labels-spec : {M : Type 1} → statement M
+empty-labels-spec =
     tie.close
     (tie.spec
     Inv-loop

@@ -1,4 +1,4 @@
--- `node_cliques::open_labels` meets its contract. The invariant: the entries of the unmarked codes passed are the code of type.
+-- `node_cliques::clear_cliques` meets its contract. The invariant: the entries of the unmarked codes passed are the code of type.
 -- Assumes nothing.
 use Prim.Native.Nat.{_-_}
 use mathlib.Core.Logic.{⊎-elim}
@@ -8,8 +8,8 @@ use borrow.Author.Needs.{needs}
 use Rattle.model.specs.Roster.{unmarked}
 use Rattle.node_cliques.specs.Labelling.{Filled}
 use Rattle.node_cliques.proofs.Fills.{filled-start, filled-set, filled-skip, filled-end, is-plain, is-marked}
-use Rattle.node_cliques.proofs.open_labels.Statement.{statement}
-use Rattle.node_cliques.proofs.open_labels.Tie as tie
+use Rattle.node_cliques.proofs.clear_cliques.Statement.{statement}
+use Rattle.node_cliques.proofs.clear_cliques.Tie as tie
 
 abbrev Inv-loop : tie.InvT-loop
 Inv-loop none roster list₀ i₀ list i = Filled (unmarked roster) none list₀ list i
@@ -49,8 +49,8 @@ same-length c = c .before .loop .inv .size
 returns : tie.Need-returns Inv-loop μ-loop
 returns c = filled-end _ _ _ _ _ (c .before .loop .inv) (omega arith)
 
-pub open-labels-spec : {M : Type 1} → statement M
-open-labels-spec =
+pub clear-cliques-spec : {M : Type 1} → statement M
+clear-cliques-spec =
     tie.close
     (tie.spec
     Inv-loop
