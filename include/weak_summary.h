@@ -129,7 +129,7 @@ uint32_t ws_cliques(const uint32_t *words, size_t words_length, const uint32_t *
                     uint32_t *targets, size_t targets_length);
 
 /*
- * Summarise: the table's triples with each subject and object replaced by its representative.
+ * Summarise, weakly: the table's triples with each subject and object replaced by its representative.
  *   result  any length; takes the summary, the rest is zero.
  *   map     N numbers: each node's representative, WS_ABSENT for a code that is no node, so for each word.
  *   work    2 * N numbers with any content; zero afterwards.
@@ -144,6 +144,14 @@ uint32_t ws_cliques(const uint32_t *words, size_t words_length, const uint32_t *
 uint32_t ws_summarise(const uint32_t *words, size_t words_length, const uint32_t *table, size_t table_length,
                       const uint8_t *roster, size_t roster_length, uint32_t *result, size_t result_length,
                       uint32_t *map, size_t map_length, uint32_t *work, size_t work_length, size_t *count);
+
+/*
+ * Summarise strongly: as ws_summarise, but nodes are put together only if they have the same source clique and the same
+ * target clique, none counting as a value. Lists, refusals and what they leave are those of ws_summarise.
+ */
+uint32_t ws_summarise_strong(const uint32_t *words, size_t words_length, const uint32_t *table, size_t table_length,
+                             const uint8_t *roster, size_t roster_length, uint32_t *result, size_t result_length,
+                             uint32_t *map, size_t map_length, uint32_t *work, size_t work_length, size_t *count);
 
 /*
  * Look up: whether a triple is in a list, in any order.

@@ -35,11 +35,12 @@ How it is measured:
 /// The name by which a section is chosen, and what prints it.
 type Section = (&'static str, fn(&Settings));
 
-const SECTIONS: [Section; 8] = [
+const SECTIONS: [Section; 9] = [
     ("roster", tables::own_rosters),
     ("saturate", tables::saturations),
     ("cliques", tables::clique_lists),
     ("summarise", tables::summaries),
+    ("summarise-strong", tables::strong_summaries),
     ("look-up", tables::look_ups),
     ("ask", asks::all),
     ("feed", feeds::all),

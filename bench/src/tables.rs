@@ -1,4 +1,4 @@
-//! Own roster, saturate, cliques, summarise and look up.
+//! Own roster, saturate, cliques, the two summaries and look up.
 
 use crate::inputs::{self, Input, WORDS};
 use crate::measure::{heading, measure, series, sizes, Settings, Timing};
@@ -87,21 +87,24 @@ fn cliques(settings: &Settings, input: &Input) -> Timing {
     )
 }
 
+type Summarise = fn(&[u32], &[u32], &[u8], &mut [u32], &mut [u32], &mut [u32], &mut usize) -> u32;
+
+/// A summary by the proved and by the plain engine.
+type Summary = [Summarise; 2];
+
+const WEAK: Summary = [proved::summarise, plain::summarise];
+const STRONG: Summary = [proved::summarise_strong, plain::summarise_strong];
+
 /// Summarises into as many slots as the table has triples, or fewer.
-fn summarise(settings: &Settings, input: &Input, slots: usize) -> Timing {
-    let (table, roster) = (&input.table, &input.roster);
-    time(
-        settings,
-        &ones(0, [3 * slots, input.n, 2 * input.n]),
-        |l| {
+fn summarise(settings: &Settings, summary: Summary, input: &Input, slots: usize) -> Timing {
+    let before = ones(0, [3 * slots, input.n, 2 * input.n]);
+    let [proved, plain] = summary.map(|call| {
+        move |l: &mut Written| {
             let [result, map, work] = &mut l.lists;
-            proved::summarise(&WORDS, table, roster, result, map, work, &mut l.count)
-        },
-        |l| {
-            let [result, map, work] = &mut l.lists;
-            plain::summarise(&WORDS, table, roster, result, map, work, &mut l.count)
-        },
-    )
+            call(&WORDS, &input.table, &input.roster, result, map, work, &mut l.count)
+        }
+    });
+    time(settings, &before, proved, plain)
 }
 
 fn look_up(settings: &Settings, list: &[u32], t: [u32; 3]) -> Timing {
@@ -168,15 +171,42 @@ pub fn saturations(settings: &Settings) {
     series(settings, "data under a tree, one slot short", sizes, |t| saturate(settings, &inputs::property_tree(t), 1));
 }
 
-pub fn summaries(settings: &Settings) {
+/// An input with this many triples.
+type Make = fn(usize) -> Input;
+
+/// The inputs of both summaries; the second line has few slots.
+fn summary_lines(settings: &Settings, summary: Summary, few: usize) {
     let sizes = &sizes(settings);
+    let line = |input: &str, make: Make| {
+        series(settings, input, sizes, |t| summarise(settings, summary, &make(t), t));
+    };
+    line("data-heavy", inputs::data_heavy);
+    series(settings, &format!("data-heavy, {few} slots"), sizes, |t| {
+        summarise(settings, summary, &inputs::data_heavy(t), few)
+    });
+    line("type-heavy", inputs::type_heavy);
+    line("one class", inputs::one_class);
+    line("all nodes marked", inputs::all_marked);
+}
+
+pub fn summaries(settings: &Settings) {
     let note =
         "Size: triples of the table. N is 65,536. Result: triples of the summary. The result list has as many slots \
                 as the table has triples; in the lines \"256 slots\" it has 256.";
     heading("Summarise", note);
-    series(settings, "data-heavy", sizes, |t| summarise(settings, &inputs::data_heavy(t), t));
-    series(settings, "data-heavy, 256 slots", sizes, |t| summarise(settings, &inputs::data_heavy(t), 256));
-    series(settings, "type-heavy", sizes, |t| summarise(settings, &inputs::type_heavy(t), t));
-    series(settings, "one class", sizes, |t| summarise(settings, &inputs::one_class(t), t));
-    series(settings, "all nodes marked", sizes, |t| summarise(settings, &inputs::all_marked(t), t));
+    summary_lines(settings, WEAK, 256);
+}
+
+pub fn strong_summaries(settings: &Settings) {
+    let note = "As for summarise; in the lines \"1024 slots\" the result list has 1,024. Star: one property, up to 60,000 \
+                subjects, one object. Own ends: up to 21,000 properties, each with its own subject and object. One source \
+                clique: up to 32,000 nodes, each with its own target clique. Larger tables of these three repeat \
+                their triples.";
+    heading("Summarise strongly", note);
+    summary_lines(settings, STRONG, 1_024);
+    let shapes: [(&str, Make); 3] =
+        [("star", inputs::star), ("own ends", inputs::own_ends), ("one source clique", inputs::one_source)];
+    for (input, make) in shapes {
+        series(settings, input, &sizes(settings), |t| summarise(settings, STRONG, &make(t), t));
+    }
 }

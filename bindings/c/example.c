@@ -1,5 +1,5 @@
 /* The papers' example through the C interface: read, own roster, saturate, summarise, ask, and an intake; then the same with
-   other words than 0 to 4. Each result is checked against the papers'. */
+   other words than 0 to 4, and the two summaries of a chain. Each result is checked against the papers'. */
 #include <stdio.h>
 #include <string.h>
 
@@ -160,9 +160,25 @@ static void refused_words(void) {
     check(memcmp(roster, before, OTHER_N) == 0, "refused calls alter nothing");
 }
 
+/* A chain of three nodes: weakly they are one, strongly each is fed differently. */
+static void both_summaries(void) {
+    static const uint32_t rdfs[WS_WORDS_NUMBERS] = WS_RDFS_WORDS;
+    static const uint32_t chain[6] = {10, 5, 11, 11, 5, 12}, loop[6] = {10, 5, 10};
+    size_t weak = 0, strong = 0;
+    check(ws_own_roster(rdfs, WS_WORDS_NUMBERS, chain, 6, roster, N) == WS_OK, "own roster of a chain");
+    uint32_t status =
+        ws_summarise(rdfs, WS_WORDS_NUMBERS, chain, 6, roster, N, summary, 6, map, N, work, 2 * N, &weak);
+    check(status == WS_OK && weak == 1 && memcmp(summary, loop, sizeof loop) == 0, "weak summary of a chain");
+    status = ws_summarise_strong(rdfs, WS_WORDS_NUMBERS, chain, 6, roster, N, summary, 6, map, N, work, 2 * N, &strong);
+    check(status == WS_OK && strong == 2 && memcmp(summary, chain, sizeof chain) == 0, "strong summary of a chain");
+    status = ws_summarise_strong(rdfs, WS_WORDS_NUMBERS, chain, 6, roster, N, summary, 5, map, N, work, 2 * N, &strong);
+    check(status == WS_REFUSED_SLOTS && map[10] == 0, "strongly, 5 numbers are refused with 5");
+}
+
 int main(void) {
     the_papers_words();
     other_words();
+    both_summaries();
     refused_words();
     printf("C example: %d results differ from the papers'\n", failures);
     return failures != 0;

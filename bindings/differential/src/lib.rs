@@ -7,6 +7,7 @@ mod generate;
 mod long;
 mod random;
 mod report;
+mod shapes;
 mod tables;
 mod texts;
 mod words;
@@ -37,7 +38,8 @@ fn turn(random: &mut Random, report: &mut Report, mistake: Mistake) {
         tables::own_roster(random, report);
         tables::saturate(random, report, mistake);
         tables::cliques(random, report, mistake);
-        tables::summarise(random, report, mistake);
+        tables::summarise(random, report, mistake, &tables::WEAK);
+        tables::summarise(random, report, mistake, &tables::STRONG);
         tables::look_up(random, report);
         asks::ask(random, report);
         texts::read(random, report);

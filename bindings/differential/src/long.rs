@@ -4,7 +4,8 @@ use crate::asks;
 use crate::feeds;
 use crate::random::Random;
 use crate::report::Report;
-use crate::tables::{self, Lent};
+use crate::shapes;
+use crate::tables::{self, Lent, STRONG, WEAK};
 use crate::words::{self, free_code, Words, RDFS};
 use weak_summary_reference::{self as plain, Mistake, MAX_SIZE, MAX_TRIPLES, QUERY_NUMBERS};
 
@@ -49,7 +50,8 @@ fn on_table(random: &mut Random, report: &mut Report, mistake: Mistake, words: &
     tables::compare_own_roster(report, (words.to_vec(), table.to_vec(), random.junk_bytes(n)));
     for slots in [amount, amount / 2, 40] {
         let lent = lent(random, words, table, n, slots);
-        tables::compare_summarise(report, mistake, lent);
+        tables::compare_summarise(report, mistake, &WEAK, lent.clone());
+        tables::compare_summarise(report, mistake, &STRONG, lent);
     }
     let mut cliques = lent(random, words, table, n, 0);
     cliques.result = random.junk(n);
@@ -61,6 +63,17 @@ fn on_table(random: &mut Random, report: &mut Report, mistake: Mistake, words: &
     query[..6].copy_from_slice(&[1, 1, t[0], t[1], 0, 3]);
     let map = (0..n as u32).collect();
     asks::compare_ask(report, asks::Lent { words: words.to_vec(), table: table.to_vec(), map, query, maybe: 9 });
+}
+
+/// Strong summaries of large shapes, the last triples first, with result slots that fit and that do not.
+fn strong_shapes(random: &mut Random, report: &mut Report, mistake: Mistake, words: &Words) {
+    for table in shapes::all(words) {
+        let turned: Vec<&[u32]> = table.chunks_exact(3).rev().collect();
+        for slots in [turned.len(), turned.len() / 2] {
+            let lent = lent(random, words, &turned.concat(), MAX_SIZE, slots);
+            tables::compare_summarise(report, mistake, &STRONG, lent);
+        }
+    }
 }
 
 /// Long saturations, with result slots that fit and that do not.
@@ -88,7 +101,8 @@ fn limits(random: &mut Random, report: &mut Report) {
             tables::compare_own_roster(report, (words.to_vec(), Vec::new(), random.junk_bytes(n)));
             feeds::open_with(random, report, &words, n, 2);
             let empty = lent(random, &words, &[], n, 2);
-            tables::compare_summarise(report, Mistake::None, empty.clone());
+            tables::compare_summarise(report, Mistake::None, &WEAK, empty.clone());
+            tables::compare_summarise(report, Mistake::None, &STRONG, empty.clone());
             tables::compare_saturate(report, Mistake::None, empty);
         }
     }
@@ -103,6 +117,9 @@ pub fn all(random: &mut Random, report: &mut Report, mistake: Mistake) {
         for words in [RDFS, words::others(random, sizes[0])] {
             on_table(random, report, mistake, &words, sizes);
         }
+    }
+    for words in [RDFS, words::others(random, MAX_SIZE)] {
+        strong_shapes(random, report, mistake, &words);
     }
     // The wrong saturations take all pairs, which is too slow here.
     if !matches!(mistake, Mistake::OneRound | Mistake::WrongWay) {

@@ -1,6 +1,6 @@
 //! Cases counted by call and outcome, and the differences found.
 
-use std::collections::BTreeMap;
+use std::collections::{BTreeMap, BTreeSet};
 use std::fmt::Debug;
 
 #[derive(Clone, Copy, PartialEq, Eq, PartialOrd, Ord, Debug)]
@@ -9,6 +9,7 @@ pub enum Call {
     Saturate,
     Cliques,
     Summarise,
+    SummariseStrong,
     LookUp,
     Ask,
     Open,
@@ -25,6 +26,7 @@ impl Call {
             Call::Saturate => "saturate",
             Call::Cliques => "cliques",
             Call::Summarise => "summarise",
+            Call::SummariseStrong => "summarise strongly",
             Call::LookUp => "look up",
             Call::Ask => "ask",
             Call::Open => "open",
@@ -55,6 +57,8 @@ pub struct Outcome<L> {
 
 pub struct Report {
     counts: BTreeMap<Call, [usize; NO + 1]>,
+    /// The calls in which there was a difference.
+    different: BTreeSet<Call>,
     pub cases: usize,
     pub differences: usize,
     shown: usize,
@@ -78,7 +82,7 @@ fn cut(text: String) -> String {
 impl Report {
     /// A report that prints this many differences.
     pub fn new(shown: usize) -> Report {
-        Report { counts: BTreeMap::new(), cases: 0, differences: 0, shown }
+        Report { counts: BTreeMap::new(), different: BTreeSet::new(), cases: 0, differences: 0, shown }
     }
 
     /// Counts a case and compares the outcomes. `yes` is the answer of an accepted call that has one.
@@ -97,6 +101,7 @@ impl Report {
             return;
         }
         self.differences += 1;
+        self.different.insert(call);
         if self.differences <= self.shown {
             println!("DIFFERENCE in {}, case {}", call.name(), self.cases);
             println!("  lent:         {}", cut(format!("{before:?}")));
@@ -118,6 +123,11 @@ impl Report {
             println!("| {} | {total} | {accepted} | {refused} |", call.name());
         }
         println!("{} cases, {} differences", self.cases, self.differences);
+    }
+
+    /// Whether the engines differ in a call.
+    pub fn differs(&self, call: Call) -> bool {
+        self.different.contains(&call)
     }
 
     /// Whether a call has a case of this status.

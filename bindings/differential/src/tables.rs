@@ -1,4 +1,4 @@
-//! Own roster, saturate, cliques, summarise and look up.
+//! Own roster, saturate, cliques, the two summaries and look up.
 
 use crate::generate::{self, other_length, result_length, site};
 use crate::random::Random;
@@ -101,18 +101,33 @@ pub fn compare_cliques(report: &mut Report, mistake: Mistake, before: Lent) {
     report.compare(Call::Cliques, &before, ours, theirs, true);
 }
 
-/// The number of triples of the plain summary.
-fn summary_size(site: &generate::Site) -> usize {
+type Proved = fn(&[u32], &[u32], &[u8], &mut [u32], &mut [u32], &mut [u32], &mut usize) -> u32;
+type Plain = fn(Mistake, &[u32], &[u32], &[u8], [&mut [u32]; 3], &mut usize) -> u32;
+
+/// A summary by both engines.
+pub struct Summary {
+    call: Call,
+    proved: Proved,
+    plain: Plain,
+}
+
+pub const WEAK: Summary = Summary { call: Call::Summarise, proved: proved::summarise, plain: plain::summarise_with };
+
+pub const STRONG: Summary =
+    Summary { call: Call::SummariseStrong, proved: proved::summarise_strong, plain: plain::summarise_strong_with };
+
+/// The number of triples of the summary.
+fn summary_size(summary: &Summary, site: &generate::Site) -> usize {
     let mut count = 0;
-    let mut result = vec![0; site.table.len()];
-    let (mut map, mut work) = (vec![0; site.n], vec![0; 2 * site.n]);
-    let status = plain::summarise(&site.words, &site.table, &site.roster, &mut result, &mut map, &mut work, &mut count);
+    let mut lists = [site.table.len(), site.n, 2 * site.n].map(|length| vec![0; length]);
+    let lists = lists.each_mut().map(Vec::as_mut_slice);
+    let status = (summary.plain)(Mistake::None, &site.words, &site.table, &site.roster, lists, &mut count);
     triples_of(status, count)
 }
 
-pub fn summarise(random: &mut Random, report: &mut Report, mistake: Mistake) {
+pub fn summarise(random: &mut Random, report: &mut Report, mistake: Mistake, summary: &Summary) {
     let site = site(random);
-    let length = result_length(random, summary_size(&site));
+    let length = result_length(random, summary_size(summary, &site));
     let lengths = [near(random, site.n), near(random, 2 * site.n)];
     let before = Lent {
         words: site.words,
@@ -123,18 +138,18 @@ pub fn summarise(random: &mut Random, report: &mut Report, mistake: Mistake) {
         work: random.junk(lengths[1]),
         number: random.below(1 << 40),
     };
-    compare_summarise(report, mistake, before);
+    compare_summarise(report, mistake, summary, before);
 }
 
-pub fn compare_summarise(report: &mut Report, mistake: Mistake, before: Lent) {
+pub fn compare_summarise(report: &mut Report, mistake: Mistake, summary: &Summary, before: Lent) {
     let ours = run(&before, |l| {
-        proved::summarise(&l.words, &l.table, &l.roster, &mut l.result, &mut l.map, &mut l.work, &mut l.number)
+        (summary.proved)(&l.words, &l.table, &l.roster, &mut l.result, &mut l.map, &mut l.work, &mut l.number)
     });
     let theirs = run(&before, |l| {
         let lists: [&mut [u32]; 3] = [&mut l.result, &mut l.map, &mut l.work];
-        plain::summarise_with(mistake, &l.words, &l.table, &l.roster, lists, &mut l.number)
+        (summary.plain)(mistake, &l.words, &l.table, &l.roster, lists, &mut l.number)
     });
-    report.compare(Call::Summarise, &before, ours, theirs, true);
+    report.compare(summary.call, &before, ours, theirs, true);
 }
 
 pub fn look_up(random: &mut Random, report: &mut Report) {

@@ -10,11 +10,12 @@ fn options(mistake: Mistake, shown: usize) -> Options {
 fn engines_agree_and_every_refusal_occurs() {
     let report = run(&options(Mistake::None, 20));
     assert_eq!(report.differences, 0);
-    let refusals: [(Call, &[usize]); 10] = [
+    let refusals: [(Call, &[usize]); 11] = [
         (Call::OwnRoster, &[1, 3, 10]),
         (Call::Saturate, &[1, 2, 3, 4, 5, 10]),
         (Call::Cliques, &[1, 2, 3, 4, 10]),
         (Call::Summarise, &[1, 2, 3, 4, 5, 10]),
+        (Call::SummariseStrong, &[1, 2, 3, 4, 5, 10]),
         (Call::LookUp, &[1]),
         (Call::Ask, &[1, 3, 6, 10]),
         (Call::Open, &[1, 2, 10]),
@@ -33,5 +34,13 @@ fn engines_agree_and_every_refusal_occurs() {
 fn each_mistake_is_noticed() {
     for mistake in Mistake::ALL {
         assert!(run(&options(mistake, 0)).differences > 0, "{}", mistake.name());
+    }
+}
+
+#[test]
+fn strong_summaries_notice_their_mistakes() {
+    use Mistake::{ClassLinks, FirstSeen, FixedWords, NoneMatchesAll, NoneMatchesNothing};
+    for mistake in [ClassLinks, FirstSeen, FixedWords, NoneMatchesAll, NoneMatchesNothing] {
+        assert!(run(&options(mistake, 0)).differs(Call::SummariseStrong), "{}", mistake.name());
     }
 }

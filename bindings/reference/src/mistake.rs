@@ -1,5 +1,5 @@
-//! The five course mistakes of the scope paper, one that the rules for domains and ranges invite, and one that the word table
-//! invites, to show that a comparison with a wrong engine is noticed.
+//! The five course mistakes of the scope paper, one that the rules for domains and ranges invite, one that the word table
+//! invites, and two that the strong summary invites, to show that a comparison with a wrong engine is noticed.
 
 use crate::Words;
 
@@ -21,10 +21,14 @@ pub enum Mistake {
     WrongWay,
     /// Codes 0 to 4 stay the reserved ones where other words are loaded.
     FixedWords,
+    /// Strongly, a node that lacks a clique is with no other.
+    NoneMatchesNothing,
+    /// Strongly, a side where one of two nodes has no clique is not looked at.
+    NoneMatchesAll,
 }
 
 impl Mistake {
-    pub const ALL: [Mistake; 7] = [
+    pub const ALL: [Mistake; 9] = [
         Mistake::OneRound,
         Mistake::TypedOnlyStays,
         Mistake::ClassLinks,
@@ -32,6 +36,8 @@ impl Mistake {
         Mistake::FirstSeen,
         Mistake::WrongWay,
         Mistake::FixedWords,
+        Mistake::NoneMatchesNothing,
+        Mistake::NoneMatchesAll,
     ];
 
     pub fn name(self) -> &'static str {
@@ -44,6 +50,8 @@ impl Mistake {
             Mistake::FirstSeen => "first-seen",
             Mistake::WrongWay => "wrong-way",
             Mistake::FixedWords => "fixed-words",
+            Mistake::NoneMatchesNothing => "none-matches-nothing",
+            Mistake::NoneMatchesAll => "none-matches-all",
         }
     }
 

@@ -1,4 +1,4 @@
-//! Cliques, representatives and the summary, by a textbook union-find.
+//! Cliques, representatives and the weak summary, by a textbook union-find.
 
 use crate::triples::{pack, put_sorted, PackedSet};
 use crate::words::{Kind, Words};
@@ -37,22 +37,43 @@ impl UnionFind {
     }
 }
 
-/// The cliques of one side: place 0 of a triple gives source cliques, place 2 target cliques.
-fn put_cliques(mistake: Mistake, words: Words, table: &[u32], roster: &[u8], place: usize, out: &mut [u32]) {
-    let words = mistake.words(words);
-    let n = roster.len();
-    let mut sets = UnionFind::new(n);
-    let mut first = vec![ABSENT; n];
-    let mut has_clique = vec![false; n];
-    for t in table.chunks_exact(3).filter(|t| words.is_data(t[1])) {
-        let node = t[place] as usize;
-        if roster[node] == 0 || mistake == Mistake::ClassLinks {
-            sets.join_first(&mut first[node], t[1]);
-            has_clique[t[1] as usize] = true;
+/// The cliques of one side.
+pub struct Side {
+    sets: UnionFind,
+    /// A property that each node has at this side.
+    first: Vec<u32>,
+    has_clique: Vec<bool>,
+}
+
+impl Side {
+    /// Place 0 of a triple gives source cliques, place 2 target cliques.
+    pub fn new(mistake: Mistake, words: Words, table: &[u32], roster: &[u8], place: usize) -> Side {
+        let words = mistake.words(words);
+        let n = roster.len();
+        let mut side = Side { sets: UnionFind::new(n), first: vec![ABSENT; n], has_clique: vec![false; n] };
+        for t in table.chunks_exact(3).filter(|t| words.is_data(t[1])) {
+            let node = t[place] as usize;
+            if roster[node] == 0 || mistake == Mistake::ClassLinks {
+                side.sets.join_first(&mut side.first[node], t[1]);
+                side.has_clique[t[1] as usize] = true;
+            }
+        }
+        side
+    }
+
+    /// The smallest property of each property's clique, absent where it has none.
+    fn put(&mut self, out: &mut [u32]) {
+        for (p, entry) in out.iter_mut().enumerate() {
+            *entry = if self.has_clique[p] { self.sets.find(p as u32) } else { ABSENT };
         }
     }
-    for p in 0..n {
-        out[p] = if has_clique[p] { sets.find(p as u32) } else { ABSENT };
+
+    /// The smallest property of a node's clique, absent where it has none.
+    pub fn of_node(&mut self, node: u32) -> u32 {
+        match self.first[node as usize] {
+            ABSENT => ABSENT,
+            property => self.sets.find(property),
+        }
     }
 }
 
@@ -79,8 +100,8 @@ pub fn cliques_with(
     if refusal != OK {
         return refusal;
     }
-    put_cliques(mistake, words, table, roster, 0, sources);
-    put_cliques(mistake, words, table, roster, 2, targets);
+    Side::new(mistake, words, table, roster, 0).put(sources);
+    Side::new(mistake, words, table, roster, 2).put(targets);
     OK
 }
 
@@ -215,8 +236,20 @@ pub fn summarise_with(
     words: &[u32],
     table: &[u32],
     roster: &[u8],
+    lists: [&mut [u32]; 3],
+    count: &mut usize,
+) -> u32 {
+    condense(words, table, roster, lists, count, |words, map| put_map(mistake, words, table, roster, map))
+}
+
+/// The checks, the map as it is put, and the images.
+pub fn condense(
+    words: &[u32],
+    table: &[u32],
+    roster: &[u8],
     [result, map, work]: [&mut [u32]; 3],
     count: &mut usize,
+    put_map: impl FnOnce(Words, &mut [u32]),
 ) -> u32 {
     let n = roster.len();
     let Some(words) = Words::of(words) else {
@@ -229,7 +262,7 @@ pub fn summarise_with(
     if refusal != OK {
         return refusal;
     }
-    put_map(mistake, words, table, roster, map);
+    put_map(words, map);
     work.fill(0);
     let found = images(table, map);
     if found.len() > result.len() / 3 {

@@ -75,6 +75,35 @@ pub fn summarise(
     }
 }
 
+pub fn summarise_strong(
+    words: &[u32],
+    table: &[u32],
+    roster: &[u8],
+    result: &mut [u32],
+    map: &mut [u32],
+    work: &mut [u32],
+    count: &mut usize,
+) -> u32 {
+    // SAFETY: each pointer comes with the length of its slice, or is a reference.
+    unsafe {
+        ffi::ws_summarise_strong(
+            words.as_ptr(),
+            words.len(),
+            table.as_ptr(),
+            table.len(),
+            roster.as_ptr(),
+            roster.len(),
+            result.as_mut_ptr(),
+            result.len(),
+            map.as_mut_ptr(),
+            map.len(),
+            work.as_mut_ptr(),
+            work.len(),
+            count,
+        )
+    }
+}
+
 pub fn look_up(list: &[u32], s: u32, p: u32, o: u32, found: &mut u32) -> u32 {
     // SAFETY: the pointer comes with the length of its slice, or is a reference.
     unsafe { ffi::ws_look_up(list.as_ptr(), list.len(), s, p, o, found) }

@@ -51,6 +51,22 @@ extern "C" {
         count: *mut usize,
     ) -> u32;
 
+    pub fn ws_summarise_strong(
+        words: *const u32,
+        words_length: usize,
+        table: *const u32,
+        table_length: usize,
+        roster: *const u8,
+        roster_length: usize,
+        result: *mut u32,
+        result_length: usize,
+        map: *mut u32,
+        map_length: usize,
+        work: *mut u32,
+        work_length: usize,
+        count: *mut usize,
+    ) -> u32;
+
     pub fn ws_look_up(
         list: *const u32,
         list_length: usize,

@@ -69,6 +69,20 @@ pub fn summarise(
     accepted(calls::summarise(&words.0, table, roster, result, map, work, &mut count)).map(|()| count)
 }
 
+/// As [`summarise`], but nodes are put together only if they have the same source clique and the same target clique, none
+/// counting as a value.
+pub fn summarise_strong(
+    words: Words,
+    table: &[u32],
+    roster: &[u8],
+    result: &mut [u32],
+    map: &mut [u32],
+    work: &mut [u32],
+) -> Result<usize, Refusal> {
+    let mut count = 0;
+    accepted(calls::summarise_strong(&words.0, table, roster, result, map, work, &mut count)).map(|()| count)
+}
+
 /// Whether the triple is in the list.
 pub fn look_up(list: &[u32], t: Triple) -> Result<bool, Refusal> {
     let mut found = 0;

@@ -2,15 +2,18 @@
 
 mod common;
 
-use common::{roster_of, RDFS, SIX};
-use weak_summary::{ask, cliques, own_roster, read, saturate, summarise, write};
+use common::{roster_of, Summarise, RDFS, SIX};
+use weak_summary::{ask, cliques, own_roster, read, saturate, summarise, summarise_strong, write};
 use weak_summary::{calls, look_up, End, Intake, Pattern, Query, Refusal};
 
+/// A table, a roster, the lengths of result, map and work, and the refusal.
+type Case<'a> = (&'a [u32], &'a [u8], [usize; 3], Refusal);
+
 /// Summarises into lists of ones and gives them back with the answer.
-fn summarised(table: &[u32], roster: &[u8], lengths: [usize; 3]) -> (Result<usize, Refusal>, [Vec<u32>; 3]) {
+fn summarised(call: Summarise, (table, roster, lengths, _): Case) -> (Result<usize, Refusal>, [Vec<u32>; 3]) {
     let mut lists = lengths.map(|length| vec![1; length]);
     let [result, map, work] = &mut lists;
-    let answer = summarise(RDFS, table, roster, result, map, work);
+    let answer = call(RDFS, table, roster, result, map, work);
     (answer, lists)
 }
 
@@ -18,11 +21,8 @@ fn all(lists: &[Vec<u32>], value: u32) -> bool {
     lists.iter().flatten().all(|&x| x == value)
 }
 
-/// A table, a roster, the lengths of result, map and work, and the refusal.
-type Case<'a> = (&'a [u32], &'a [u8], [usize; 3], Refusal);
-
 #[test]
-fn summarise_refuses_in_order() {
+fn both_summaries_refuse_in_order() {
     let roster = roster_of(RDFS, &SIX, 14);
     let mut marked = roster.clone();
     marked[3] = 1;
@@ -40,10 +40,12 @@ fn summarise_refuses_in_order() {
         (&SIX, &[0; 14], [0, 14, 28], Refusal::Cover),
         (&SIX, &roster, [17, 14, 28], Refusal::Slots),
     ];
-    for (table, roster, lengths, refusal) in cases {
-        let (answer, lists) = summarised(table, roster, lengths);
-        assert_eq!(answer, Err(refusal));
-        assert!(all(&lists, if refusal == Refusal::Slots { 0 } else { 1 }));
+    for call in [summarise as Summarise, summarise_strong] {
+        for case in cases {
+            let (answer, lists) = summarised(call, case);
+            assert_eq!(answer, Err(case.3));
+            assert!(all(&lists, if case.3 == Refusal::Slots { 0 } else { 1 }));
+        }
     }
 }
 

@@ -58,7 +58,7 @@ fn open(words: &[u32], given: &Given, l: &mut Lent) -> u32 {
 type Call = fn(&[u32], &Given, &mut Lent) -> u32;
 
 /// The calls that take words; a feed comes straight after an opening.
-const CALLS: [(&str, Call); 8] = [
+const CALLS: [(&str, Call); 9] = [
     ("own roster", |words, given, l| calls::own_roster(words, &given.table, &mut l.roster)),
     ("saturate", |words, given, l| {
         calls::saturate(words, &given.table, &given.roster, &mut l.result, &mut l.numbers[0])
@@ -67,6 +67,10 @@ const CALLS: [(&str, Call); 8] = [
     ("summarise", |words, given, l| {
         let [count, _] = &mut l.numbers;
         calls::summarise(words, &given.table, &given.roster, &mut l.result, &mut l.map, &mut l.work, count)
+    }),
+    ("summarise strongly", |words, given, l| {
+        let [count, _] = &mut l.numbers;
+        calls::summarise_strong(words, &given.table, &given.roster, &mut l.result, &mut l.map, &mut l.work, count)
     }),
     ("ask", |words, given, l| calls::ask(words, &given.table, &l.map, &given.query, &mut l.answer)),
     ("open", open),

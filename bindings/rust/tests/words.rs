@@ -2,7 +2,8 @@
 
 mod common;
 
-use common::{map_with, roster_of, saturation_of, summary_of, RDFS, SIX, SIX_NODES, SIX_SATURATED, SIX_SUMMARY};
+use common::{map_with, roster_of, saturation_of, strong_summary_of, summary_of};
+use common::{RDFS, SIX, SIX_NODES, SIX_SATURATED, SIX_SUMMARY};
 use weak_summary::{ask, cliques, own_roster, saturate, summarise};
 use weak_summary::{Answer, End, Intake, Pattern, Query, Refusal, Words, ABSENT};
 
@@ -87,6 +88,17 @@ fn summaries_are_renamed() {
             let found = summary_of(names.words, &names.triples(table), names.n);
             assert_eq!(found, (names.triples(summary), names.list(nodes)), "{:?} {table:?}", names.words);
         }
+    }
+}
+
+#[test]
+fn strong_summaries_are_renamed() {
+    let nodes = [(10, 10), (11, 10), (12, 12), (13, 13), (14, 14)];
+    for names in renamings() {
+        let table = names.triples(&[10, 5, 12, 11, 5, 13, 12, 6, 14]);
+        let summary = names.triples(&[10, 5, 12, 10, 5, 13, 12, 6, 14]);
+        let found = strong_summary_of(names.words, &table, names.n);
+        assert_eq!(found, (summary, names.list(&nodes)), "{:?}", names.words);
     }
 }
 

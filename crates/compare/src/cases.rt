@@ -7,13 +7,14 @@ use comparison::report::ASK;
 use comparison::report::CLIQUES;
 use comparison::report::OWN_ROSTER;
 use comparison::report::SATURATE;
+use comparison::report::STRONG;
 use comparison::report::SUMMARISE;
 use comparison::report::small;
 use model::Vocabulary;
 
 // The own roster of a table with n codes.
 pub fn own_roster(
-    tally: &mut [u64; 129],
+    tally: &mut [u64; 145],
     name: &[u8],
     expected: u32,
     words: Vocabulary,
@@ -29,7 +30,7 @@ pub fn own_roster(
 
 // Saturates into that many numbers.
 pub fn saturate(
-    tally: &mut [u64; 129],
+    tally: &mut [u64; 145],
     name: &[u8],
     expected: u32,
     words: Vocabulary,
@@ -46,7 +47,7 @@ pub fn saturate(
 
 // A table whose saturation has that many numbers: one number less is too few.
 pub fn closes(
-    tally: &mut [u64; 129],
+    tally: &mut [u64; 145],
     name: &[u8],
     words: Vocabulary,
     table: &[u32],
@@ -61,7 +62,7 @@ pub fn closes(
 
 // Cliques into lists of those lengths.
 pub fn cliques(
-    tally: &mut [u64; 129],
+    tally: &mut [u64; 145],
     name: &[u8],
     expected: u32,
     words: Vocabulary,
@@ -90,9 +91,47 @@ pub fn cliques(
     small(CLIQUES, name, expected, got);
 }
 
-// Summarises with a result, a map and a work list of those lengths.
+// Summarises weakly or strongly, into the result that is lent, with a map and a work list of those lengths.
+pub fn summarise_into(
+    tally: &mut [u64; 145],
+    call: usize,
+    name: &[u8],
+    expected: u32,
+    words: Vocabulary,
+    table: &[u32],
+    roster: &[u8],
+    result: &mut [u32],
+    map: usize,
+    work: usize,
+) {
+    let mut a = [0u32; 311];
+    let mut b = [0u32; 622];
+    let mut c = [0u32; 60];
+    let mut d = [0u32; 311];
+    let mut e = [0u32; 622];
+    let r = at_most(result.len(), 60);
+    let m = at_most(map, 311);
+    let w = at_most(work, 622);
+    let got = calls::summarise(
+        tally,
+        call,
+        0,
+        words,
+        table,
+        roster,
+        result,
+        &mut a[0..m],
+        &mut b[0..w],
+        &mut c[0..r],
+        &mut d[0..m],
+        &mut e[0..w],
+    );
+    small(call, name, expected, got.refused);
+}
+
+// Summarises in both ways, with a result, a map and a work list of those lengths.
 pub fn summarise(
-    tally: &mut [u64; 129],
+    tally: &mut [u64; 145],
     name: &[u8],
     expected: u32,
     words: Vocabulary,
@@ -103,33 +142,37 @@ pub fn summarise(
     work: usize,
 ) {
     let mut a = [0u32; 60];
-    let mut b = [0u32; 311];
-    let mut c = [0u32; 622];
-    let mut d = [0u32; 60];
-    let mut e = [0u32; 311];
-    let mut f = [0u32; 622];
+    let mut b = [0u32; 60];
     let r = at_most(result, 60);
-    let m = at_most(map, 311);
-    let w = at_most(work, 622);
-    let got = calls::summarise(
+    summarise_into(
         tally,
-        0,
+        SUMMARISE,
+        name,
+        expected,
         words,
         table,
         roster,
         &mut a[0..r],
-        &mut b[0..m],
-        &mut c[0..w],
-        &mut d[0..r],
-        &mut e[0..m],
-        &mut f[0..w],
+        map,
+        work,
     );
-    small(SUMMARISE, name, expected, got.refused);
+    summarise_into(
+        tally,
+        STRONG,
+        name,
+        expected,
+        words,
+        table,
+        roster,
+        &mut b[0..r],
+        map,
+        work,
+    );
 }
 
-// The three calls on a table with its roster, with lists long enough.
+// Saturates, finds the cliques and summarises in both ways, with lists long enough.
 pub fn three(
-    tally: &mut [u64; 129],
+    tally: &mut [u64; 145],
     name: &[u8],
     expected: u32,
     words: Vocabulary,
@@ -144,7 +187,7 @@ pub fn three(
 
 // Asks a query of `count` patterns, the first of which is given and the others ask nothing of the table.
 pub fn ask(
-    tally: &mut [u64; 129],
+    tally: &mut [u64; 145],
     name: &[u8],
     expected: u32,
     words: Vocabulary,

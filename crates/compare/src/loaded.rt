@@ -80,7 +80,7 @@ const HIGH: [u32; 21] = [
 
 // The two calls without a roster to be judged, with n codes. The query has no match.
 fn two(
-    tally: &mut [u64; 129],
+    tally: &mut [u64; 145],
     name: &[u8],
     expected: u32,
     words: Vocabulary,
@@ -103,7 +103,7 @@ fn two(
 }
 
 fn five(
-    tally: &mut [u64; 129],
+    tally: &mut [u64; 145],
     name: &[u8],
     expected: u32,
     words: Vocabulary,
@@ -115,13 +115,13 @@ fn five(
 }
 
 // The saturation's summary has 14 triples.
-fn summaries(tally: &mut [u64; 129], words: Vocabulary, closed: &[u32], roster: &[u8]) {
+fn summaries(tally: &mut [u64; 145], words: Vocabulary, closed: &[u32], roster: &[u8]) {
     summarise(tally, b"42-numbers", 0, words, closed, roster, 42, 24, 48);
     summarise(tally, b"41-numbers", 5, words, closed, roster, 41, 24, 48);
 }
 
 // Type is 10 and range 14; 0 is a property as any other.
-fn asks(tally: &mut [u64; 129], words: Vocabulary, closed: &[u32]) {
+fn asks(tally: &mut [u64; 145], words: Vocabulary, closed: &[u32]) {
     let map = [0u32; 24];
     ask(
         tally,
@@ -156,7 +156,7 @@ fn asks(tally: &mut [u64; 129], words: Vocabulary, closed: &[u32]) {
 }
 
 // The example's saturation has 17 triples.
-fn rising(tally: &mut [u64; 129], table: &[u32], roster: &[u8]) {
+fn rising(tally: &mut [u64; 145], table: &[u32], roster: &[u8]) {
     let words = table_of(10, 11, 12, 13, 14);
     let mut closed = [0u32; 51];
     five(tally, b"words-10-to-14", 0, words, table, roster);
@@ -166,7 +166,7 @@ fn rising(tally: &mut [u64; 129], table: &[u32], roster: &[u8]) {
     asks(tally, words, &closed);
 }
 
-fn turned(tally: &mut [u64; 129], table: &[u32], six: &[u32], roster: &[u8]) {
+fn turned(tally: &mut [u64; 145], table: &[u32], six: &[u32], roster: &[u8]) {
     let words = table_of(4, 3, 2, 1, 0);
     closes(tally, b"words-4-to-0", words, table, roster, 51);
     three(tally, b"words-4-to-0-six", 4, words, six, roster);
@@ -175,7 +175,7 @@ fn turned(tally: &mut [u64; 129], table: &[u32], six: &[u32], roster: &[u8]) {
 
 // With words 310, 5, 6, 7, 8, N 311 and the code `more` marked.
 fn high_three(
-    tally: &mut [u64; 129],
+    tally: &mut [u64; 145],
     name: &[u8],
     expected: u32,
     words: Vocabulary,
@@ -191,7 +191,7 @@ fn high_three(
     three(tally, name, expected, words, table, &roster);
 }
 
-fn high(tally: &mut [u64; 129], table: &[u32]) {
+fn high(tally: &mut [u64; 145], table: &[u32]) {
     let words = table_of(310, 5, 6, 7, 8);
     high_three(tally, b"words-310", 0, words, table, 3);
     high_three(tally, b"310-marked", 2, words, table, 310);
@@ -203,7 +203,7 @@ fn high(tally: &mut [u64; 129], table: &[u32]) {
 }
 
 // Two words equal, or one not below N.
-fn wrong(tally: &mut [u64; 129], six: &[u32], roster: &[u8]) {
+fn wrong(tally: &mut [u64; 145], six: &[u32], roster: &[u8]) {
     let more = [0u8, 0, 0, 0, 0, 2, 2, 2, 1, 1, 0, 0, 0, 0, 0];
     let over = table_of(0, 1, 2, 3, 14);
     five(
@@ -219,7 +219,7 @@ fn wrong(tally: &mut [u64; 129], six: &[u32], roster: &[u8]) {
 }
 
 // Refusal 1 comes before 10.
-fn lengths(tally: &mut [u64; 129], equal: Vocabulary, six: &[u32], roster: &[u8]) {
+fn lengths(tally: &mut [u64; 145], equal: Vocabulary, six: &[u32], roster: &[u8]) {
     five(tally, b"equal-words-N-4", 1, equal, &[], &[0; 4]);
     five(
         tally,
@@ -253,7 +253,7 @@ fn lengths(tally: &mut [u64; 129], equal: Vocabulary, six: &[u32], roster: &[u8]
 }
 
 // All others come after it.
-fn others(tally: &mut [u64; 129], equal: Vocabulary, six: &[u32], roster: &[u8]) {
+fn others(tally: &mut [u64; 145], equal: Vocabulary, six: &[u32], roster: &[u8]) {
     let over = [0u8, 0, 0, 0, 0, 2, 2, 2, 1, 1, 0, 0, 0, 4];
     three(tally, b"equal-words-value-4", 10, equal, six, &over);
     five(
@@ -285,7 +285,7 @@ fn others(tally: &mut [u64; 129], equal: Vocabulary, six: &[u32], roster: &[u8])
     );
 }
 
-fn loaded(tally: &mut [u64; 129], six: &[u32], roster: &[u8], low: &[u8]) {
+fn loaded(tally: &mut [u64; 145], six: &[u32], roster: &[u8], low: &[u8]) {
     rising(tally, &RISING, low);
     closes(
         tally,
@@ -302,6 +302,6 @@ fn loaded(tally: &mut [u64; 129], six: &[u32], roster: &[u8], low: &[u8]) {
     others(tally, table_of(0, 1, 2, 3, 3), six, roster);
 }
 
-pub fn all(tally: &mut [u64; 129]) {
+pub fn all(tally: &mut [u64; 145]) {
     loaded(tally, &SIX, &SIX_ROSTER, &LOW_ROSTER);
 }

@@ -6,14 +6,16 @@ mod loaded;
 mod queries;
 mod sizes;
 mod small;
+mod strong;
 
 use comparison::report;
 use comparison::sites;
 
 fn main() {
-    let mut tally = [0u64; 129];
+    let mut tally = [0u64; 145];
     small::all(&mut tally);
     loaded::all(&mut tally);
+    strong::all(&mut tally);
     sizes::all(&mut tally);
     sites::all(&mut tally);
     queries::all(&mut tally);

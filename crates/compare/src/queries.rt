@@ -92,7 +92,7 @@ fn identity(map: &mut [u32]) {
 
 // Two queries on a list and on its summary, with its map.
 fn ask_both(
-    tally: &mut [u64; 129],
+    tally: &mut [u64; 145],
     seed: u64,
     given: Vocabulary,
     list: &[u32],
@@ -106,7 +106,7 @@ fn ask_both(
 
 // A query with the codes as they are.
 fn ask_plain(
-    tally: &mut [u64; 129],
+    tally: &mut [u64; 145],
     seed: u64,
     given: Vocabulary,
     list: &[u32],
@@ -129,12 +129,20 @@ fn summary_end(
 ) -> usize
     ensures { λ r. ⌜ r ≤ length (now (summary .exit)) ⌝ }
 {
-    let answer = naive::summarise(calls::plain_words(right), list, roster, summary, map, work);
+    let answer = naive::summarise(
+        calls::plain_words(right),
+        false,
+        list,
+        roster,
+        summary,
+        map,
+        work,
+    );
     triples_end(answer.count, summary.len())
 }
 
 fn ask_list(
-    tally: &mut [u64; 129],
+    tally: &mut [u64; 145],
     seed: u64,
     list: &[u32],
     roster: &[u8],
@@ -152,7 +160,7 @@ fn ask_list(
 }
 
 fn ask_site(
-    tally: &mut [u64; 129],
+    tally: &mut [u64; 145],
     seed: u64,
     table: &mut [u32],
     roster: &mut [u8],
@@ -175,7 +183,7 @@ fn ask_site(
     );
 }
 
-fn ask_case(tally: &mut [u64; 129], seed: u64) {
+fn ask_case(tally: &mut [u64; 145], seed: u64) {
     let mut table = [0u32; 62];
     let mut roster = [0u8; 24];
     let mut closed = [0u32; 240];
@@ -200,7 +208,7 @@ fn ask_case(tally: &mut [u64; 129], seed: u64) {
     );
 }
 
-pub fn all(tally: &mut [u64; 129]) {
+pub fn all(tally: &mut [u64; 145]) {
     let mut seed = 1000000;
     while seed < 1100000 {
         ask_case(tally, seed);

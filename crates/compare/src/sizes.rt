@@ -5,11 +5,12 @@ use comparison::report::ASK;
 use comparison::report::CLIQUES;
 use comparison::report::OWN_ROSTER;
 use comparison::report::SATURATE;
+use comparison::report::STRONG;
 use comparison::report::SUMMARISE;
 use comparison::report::sized;
 use lists::rdfs_words;
 
-fn own_roster(tally: &mut [u64; 129], n: usize, table: &[u32]) -> u32 {
+fn own_roster(tally: &mut [u64; 145], n: usize, table: &[u32]) -> u32 {
     let mut a = [0u8; 65537];
     let mut b = [0u8; 65537];
     let m = at_most(n, 65537);
@@ -21,7 +22,7 @@ fn mark(roster: &mut [u8]) {
     comparison::random::set_mark(roster, 5, 2);
 }
 
-fn saturate_in(tally: &mut [u64; 129], table: &[u32], roster: &mut [u8]) -> u32 {
+fn saturate_in(tally: &mut [u64; 145], table: &[u32], roster: &mut [u8]) -> u32 {
     let mut a = [0u32; 6];
     let mut b = [0u32; 6];
     mark(roster);
@@ -29,14 +30,14 @@ fn saturate_in(tally: &mut [u64; 129], table: &[u32], roster: &mut [u8]) -> u32 
     got.refused
 }
 
-fn saturate(tally: &mut [u64; 129], n: usize, table: &[u32]) -> u32 {
+fn saturate(tally: &mut [u64; 145], n: usize, table: &[u32]) -> u32 {
     let mut roster = [0u8; 65537];
     let m = at_most(n, 65537);
     saturate_in(tally, table, &mut roster[0..m])
 }
 
 fn cliques_in(
-    tally: &mut [u64; 129],
+    tally: &mut [u64; 145],
     table: &[u32],
     roster: &mut [u8],
     a: &mut [u32],
@@ -48,7 +49,7 @@ fn cliques_in(
     calls::cliques(tally, 0, rdfs_words(), table, roster, a, b, c, d)
 }
 
-fn cliques(tally: &mut [u64; 129], n: usize, table: &[u32]) -> u32 {
+fn cliques(tally: &mut [u64; 145], n: usize, table: &[u32]) -> u32 {
     let mut roster = [0u8; 65537];
     let mut a = [0u32; 65537];
     let mut b = [0u32; 65537];
@@ -67,7 +68,8 @@ fn cliques(tally: &mut [u64; 129], n: usize, table: &[u32]) -> u32 {
 }
 
 fn summarise_in(
-    tally: &mut [u64; 129],
+    tally: &mut [u64; 145],
+    call: usize,
     table: &[u32],
     roster: &mut [u8],
     map: &mut [u32],
@@ -80,6 +82,7 @@ fn summarise_in(
     mark(roster);
     let got = calls::summarise(
         tally,
+        call,
         0,
         rdfs_words(),
         table,
@@ -94,7 +97,7 @@ fn summarise_in(
     got.refused
 }
 
-fn summarise(tally: &mut [u64; 129], n: usize, table: &[u32]) -> u32 {
+fn summarise(tally: &mut [u64; 145], call: usize, n: usize, table: &[u32]) -> u32 {
     let mut roster = [0u8; 65537];
     let mut map = [0u32; 65537];
     let mut work = [0u32; 131074];
@@ -104,6 +107,7 @@ fn summarise(tally: &mut [u64; 129], n: usize, table: &[u32]) -> u32 {
     let w = at_most(2 * m, 131074);
     summarise_in(
         tally,
+        call,
         table,
         &mut roster[0..m],
         &mut map[0..m],
@@ -114,7 +118,7 @@ fn summarise(tally: &mut [u64; 129], n: usize, table: &[u32]) -> u32 {
 }
 
 // Asks for a triple with property 0 between any two nodes, of which there is none.
-fn ask(tally: &mut [u64; 129], n: usize, table: &[u32]) -> u32 {
+fn ask(tally: &mut [u64; 145], n: usize, table: &[u32]) -> u32 {
     let map = [0u32; 65537];
     let mut query = [0u32; 41];
     query[0] = 1;
@@ -122,15 +126,21 @@ fn ask(tally: &mut [u64; 129], n: usize, table: &[u32]) -> u32 {
     calls::ask(tally, 0, rdfs_words(), table, &map[0..m], &query)
 }
 
-fn at_size(tally: &mut [u64; 129], n: usize, table: &[u32], expected: u32) {
+fn at_size(tally: &mut [u64; 145], n: usize, table: &[u32], expected: u32) {
     sized(OWN_ROSTER, n, expected, own_roster(tally, n, table));
     sized(SATURATE, n, expected, saturate(tally, n, table));
     sized(CLIQUES, n, expected, cliques(tally, n, table));
-    sized(SUMMARISE, n, expected, summarise(tally, n, table));
+    sized(
+        SUMMARISE,
+        n,
+        expected,
+        summarise(tally, SUMMARISE, n, table),
+    );
+    sized(STRONG, n, expected, summarise(tally, STRONG, n, table));
     sized(ASK, n, expected, ask(tally, n, table));
 }
 
-pub fn all(tally: &mut [u64; 129]) {
+pub fn all(tally: &mut [u64; 145]) {
     let table = [65535u32, 5, 65534];
     at_size(tally, 4, &[], 1);
     at_size(tally, 5, &[], 0);

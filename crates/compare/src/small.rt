@@ -11,13 +11,13 @@ const SIX: [u32; 18] = [5, 2, 7, 6, 2, 7, 7, 3, 8, 8, 1, 9, 10, 5, 12, 11, 6, 13
 
 const SIX_ROSTER: [u8; 14] = [0, 0, 0, 0, 0, 2, 2, 2, 1, 1, 0, 0, 0, 0];
 
-fn own_roster(tally: &mut [u64; 129], name: &[u8], expected: u32, table: &[u32]) {
+fn own_roster(tally: &mut [u64; 145], name: &[u8], expected: u32, table: &[u32]) {
     cases::own_roster(tally, name, expected, rdfs_words(), table, 14);
 }
 
 // Saturates into that many numbers.
 fn saturate(
-    tally: &mut [u64; 129],
+    tally: &mut [u64; 145],
     name: &[u8],
     expected: u32,
     table: &[u32],
@@ -29,7 +29,7 @@ fn saturate(
 
 // Cliques into lists of those lengths.
 fn cliques(
-    tally: &mut [u64; 129],
+    tally: &mut [u64; 145],
     name: &[u8],
     expected: u32,
     table: &[u32],
@@ -49,9 +49,9 @@ fn cliques(
     );
 }
 
-// Summarises with a result, a map and a work list of those lengths.
+// Summarises in both ways, with a result, a map and a work list of those lengths.
 fn summarise(
-    tally: &mut [u64; 129],
+    tally: &mut [u64; 145],
     name: &[u8],
     expected: u32,
     table: &[u32],
@@ -73,13 +73,13 @@ fn summarise(
     );
 }
 
-// The three calls on a table with its roster, with lists long enough.
-fn three(tally: &mut [u64; 129], name: &[u8], expected: u32, table: &[u32], roster: &[u8]) {
+// Saturates, finds the cliques and summarises in both ways, with lists long enough.
+fn three(tally: &mut [u64; 145], name: &[u8], expected: u32, table: &[u32], roster: &[u8]) {
     cases::three(tally, name, expected, rdfs_words(), table, roster);
 }
 
 // Refusals 1 and 2 of these calls.
-fn lists_and_rosters(tally: &mut [u64; 129], six: &[u32], roster: &[u8]) {
+fn lists_and_rosters(tally: &mut [u64; 145], six: &[u32], roster: &[u8]) {
     let over = [0u8, 0, 0, 0, 0, 2, 2, 2, 1, 1, 0, 0, 0, 4];
     let reserved = [0u8, 0, 1, 0, 0, 2, 2, 2, 1, 1, 0, 0, 0, 0];
     three(tally, b"six", 0, six, roster);
@@ -89,7 +89,7 @@ fn lists_and_rosters(tally: &mut [u64; 129], six: &[u32], roster: &[u8]) {
 }
 
 // Refusal 3, also beside an uncovered triple.
-fn codes(tally: &mut [u64; 129], roster: &[u8]) {
+fn codes(tally: &mut [u64; 145], roster: &[u8]) {
     three(tally, b"10-5-14", 3, &[10, 5, 14], roster);
     three(tally, b"10-5-0", 3, &[10, 5, 0], roster);
     three(
@@ -109,14 +109,14 @@ fn codes(tally: &mut [u64; 129], roster: &[u8]) {
 }
 
 // Refusal 4.
-fn covers(tally: &mut [u64; 129], six: &[u32], roster: &[u8]) {
+fn covers(tally: &mut [u64; 145], six: &[u32], roster: &[u8]) {
     let none = [0u8; 14];
     three(tally, b"uncovered", 4, &[10, 5, 11, 10, 10, 11], roster);
     three(tally, b"no-marks", 4, six, &none);
 }
 
 // Results with enough slots and with too few.
-fn slots(tally: &mut [u64; 129], six: &[u32], roster: &[u8]) {
+fn slots(tally: &mut [u64; 145], six: &[u32], roster: &[u8]) {
     saturate(tally, b"51-numbers", 0, six, roster, 51);
     saturate(tally, b"50-numbers", 5, six, roster, 50);
     saturate(tally, b"0-numbers", 5, six, roster, 0);
@@ -125,14 +125,14 @@ fn slots(tally: &mut [u64; 129], six: &[u32], roster: &[u8]) {
 }
 
 // A table whose saturation has that many numbers: one number less is too few.
-fn closes(tally: &mut [u64; 129], name: &[u8], table: &[u32], roster: &[u8], numbers: usize)
+fn closes(tally: &mut [u64; 145], name: &[u8], table: &[u32], roster: &[u8], numbers: usize)
     requires { ⌜ 0 < numbers ⌝ }
 {
     cases::closes(tally, name, rdfs_words(), table, roster, numbers);
 }
 
 // Each of the rules 7 to 10 alone.
-fn constraints(tally: &mut [u64; 129], roster: &[u8]) {
+fn constraints(tally: &mut [u64; 145], roster: &[u8]) {
     closes(tally, b"rule-7", &[5, 2, 6, 6, 3, 8], roster, 9);
     closes(tally, b"rule-8", &[5, 2, 6, 6, 4, 8], roster, 9);
     closes(tally, b"rule-9", &[5, 3, 8, 8, 1, 9], roster, 9);
@@ -140,7 +140,7 @@ fn constraints(tally: &mut [u64; 129], roster: &[u8]) {
 }
 
 // The other way round nothing follows.
-fn other_ways(tally: &mut [u64; 129], roster: &[u8]) {
+fn other_ways(tally: &mut [u64; 145], roster: &[u8]) {
     closes(tally, b"domain-above", &[6, 2, 5, 6, 3, 8], roster, 6);
     closes(tally, b"range-above", &[6, 2, 5, 6, 4, 8], roster, 6);
     closes(tally, b"domain-below", &[5, 3, 8, 9, 1, 8], roster, 6);
@@ -148,7 +148,7 @@ fn other_ways(tally: &mut [u64; 129], roster: &[u8]) {
 }
 
 // The rules one after the other, and around cycles.
-fn chains(tally: &mut [u64; 129], roster: &[u8]) {
+fn chains(tally: &mut [u64; 145], roster: &[u8]) {
     let chain = [5u32, 2, 6, 6, 2, 7, 7, 3, 8, 8, 1, 9];
     closes(tally, b"chain", &chain, roster, 30);
     let properties = [5u32, 2, 6, 6, 2, 5, 5, 3, 8];
@@ -158,14 +158,14 @@ fn chains(tally: &mut [u64; 129], roster: &[u8]) {
 }
 
 // Lists of wrong lengths.
-fn lengths(tally: &mut [u64; 129], six: &[u32], roster: &[u8]) {
+fn lengths(tally: &mut [u64; 145], six: &[u32], roster: &[u8]) {
     cliques(tally, b"13-sources", 1, six, roster, 13, 14);
     cliques(tally, b"15-targets", 1, six, roster, 14, 15);
     summarise(tally, b"13-map", 1, six, roster, 18, 13, 28);
     summarise(tally, b"29-work", 1, six, roster, 18, 14, 29);
 }
 
-fn rosters(tally: &mut [u64; 129], six: &[u32]) {
+fn rosters(tally: &mut [u64; 145], six: &[u32]) {
     own_roster(tally, b"six", 0, six);
     own_roster(tally, b"length-4", 1, &[5, 2, 7, 6]);
     own_roster(tally, b"10-5-14", 3, &[10, 5, 14]);
@@ -173,7 +173,7 @@ fn rosters(tally: &mut [u64; 129], six: &[u32]) {
     own_roster(tally, b"10-5-0-uncovered", 3, &[10, 5, 0, 10, 10, 11]);
 }
 
-fn look_ups(tally: &mut [u64; 129], six: &[u32]) {
+fn look_ups(tally: &mut [u64; 145], six: &[u32]) {
     let refused = calls::look_up(tally, 0, &[5, 2, 7, 6], 5, 2, 7);
     small(LOOK_UP, b"length-4", 1, refused);
     let held = calls::look_up(tally, 0, six, 11, 6, 13);
@@ -184,7 +184,7 @@ fn look_ups(tally: &mut [u64; 129], six: &[u32]) {
 
 // Asks a query of `count` patterns, the first of which is given and the others ask nothing of the table.
 fn ask(
-    tally: &mut [u64; 129],
+    tally: &mut [u64; 145],
     name: &[u8],
     expected: u32,
     table: &[u32],
@@ -204,14 +204,14 @@ fn ask(
     );
 }
 
-fn answers(tally: &mut [u64; 129], six: &[u32], map: &[u32]) {
+fn answers(tally: &mut [u64; 145], six: &[u32], map: &[u32]) {
     ask(tally, b"maybe", 9, six, map, 1, &[0, 0, 5, 0, 1]);
     ask(tally, b"variable-7", 9, six, map, 1, &[0, 7, 5, 0, 1]);
     ask(tally, b"none", 0, six, map, 1, &[0, 0, 5, 0, 0]);
     ask(tally, b"no-triples", 0, &[], map, 1, &[0, 0, 5, 0, 1]);
 }
 
-fn tables_refused(tally: &mut [u64; 129], map: &[u32]) {
+fn tables_refused(tally: &mut [u64; 145], map: &[u32]) {
     ask(
         tally,
         b"length-4",
@@ -233,18 +233,18 @@ fn tables_refused(tally: &mut [u64; 129], map: &[u32]) {
     );
 }
 
-fn counts_refused(tally: &mut [u64; 129], six: &[u32], map: &[u32]) {
+fn counts_refused(tally: &mut [u64; 145], six: &[u32], map: &[u32]) {
     ask(tally, b"no-patterns", 6, six, map, 0, &[0, 0, 5, 0, 1]);
     ask(tally, b"9-patterns", 6, six, map, 9, &[0, 0, 5, 0, 1]);
 }
 
-fn patterns_refused(tally: &mut [u64; 129], six: &[u32], map: &[u32]) {
+fn patterns_refused(tally: &mut [u64; 145], six: &[u32], map: &[u32]) {
     ask(tally, b"variable-8", 6, six, map, 1, &[0, 8, 5, 0, 0]);
     ask(tally, b"code-14", 6, six, map, 1, &[0, 0, 5, 1, 14]);
     ask(tally, b"property-14", 6, six, map, 1, &[0, 0, 14, 0, 1]);
 }
 
-fn asks(tally: &mut [u64; 129], six: &[u32]) {
+fn asks(tally: &mut [u64; 145], six: &[u32]) {
     let map = [0u32, 1, 2, 3, 4, 5, 6, 7, 8, 9, 10, 11, 12, 13];
     answers(tally, six, &map);
     tables_refused(tally, &map);
@@ -252,7 +252,7 @@ fn asks(tally: &mut [u64; 129], six: &[u32]) {
     patterns_refused(tally, six, &map);
 }
 
-fn table_cases(tally: &mut [u64; 129], six: &[u32], roster: &[u8]) {
+fn table_cases(tally: &mut [u64; 145], six: &[u32], roster: &[u8]) {
     lists_and_rosters(tally, six, roster);
     codes(tally, roster);
     covers(tally, six, roster);
@@ -266,6 +266,6 @@ fn table_cases(tally: &mut [u64; 129], six: &[u32], roster: &[u8]) {
     asks(tally, six);
 }
 
-pub fn all(tally: &mut [u64; 129]) {
+pub fn all(tally: &mut [u64; 145]) {
     table_cases(tally, &SIX, &SIX_ROSTER);
 }

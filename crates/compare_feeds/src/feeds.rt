@@ -39,7 +39,7 @@ pub fn opened(words: Vocabulary) -> State {
 
 // What the intake's lists hold, against H in rising order, its summary and its map.
 fn check_against(
-    tally: &mut [u64; 129],
+    tally: &mut [u64; 145],
     seed: u64,
     state: State,
     h: &[u32],
@@ -83,7 +83,7 @@ fn check_against(
 }
 
 fn check_lists(
-    tally: &mut [u64; 129],
+    tally: &mut [u64; 145],
     seed: u64,
     state: State,
     h: &[u32],
@@ -178,7 +178,7 @@ fn naive_feed(
     fed
 }
 
-fn check_fed(tally: &mut [u64; 129], seed: u64, got: Answer, held: usize, plain: Fed) {
+fn check_fed(tally: &mut [u64; 145], seed: u64, got: Answer, held: usize, plain: Fed) {
     check(tally, FEED, seed, b"answer", got.refused == plain.refused);
     check(tally, FEED, seed, b"new", plain.new == (got.count == 1));
     check(tally, FEED, seed, b"held", held == plain.held);
@@ -187,7 +187,7 @@ fn check_fed(tally: &mut [u64; 129], seed: u64, got: Answer, held: usize, plain:
 
 // Feeds both with a word table and a work list, and compares answers, counts and the work list.
 fn feed_both(
-    tally: &mut [u64; 129],
+    tally: &mut [u64; 145],
     seed: u64,
     state: State,
     words: Vocabulary,
@@ -220,7 +220,7 @@ fn feed_both(
 
 // A feed with all lists lent, after which all is compared; the engine's answer.
 pub fn feed_with(
-    tally: &mut [u64; 129],
+    tally: &mut [u64; 145],
     seed: u64,
     state: State,
     roster: &[u8],
@@ -274,7 +274,7 @@ pub fn feed_with(
 
 // A feed with a word table and a work list of w numbers, after which all is compared.
 pub fn feed(
-    tally: &mut [u64; 129],
+    tally: &mut [u64; 145],
     seed: u64,
     state: State,
     words: Vocabulary,
@@ -323,7 +323,7 @@ fn words_fed(state: State, seed: u64, n: usize) -> Vocabulary {
 
 // Feeds the triple at place i of a table; now and then with wrong words or a work list of a wrong length.
 fn feed_at(
-    tally: &mut [u64; 129],
+    tally: &mut [u64; 145],
     seed: u64,
     state: State,
     i: usize,
@@ -359,7 +359,7 @@ fn feed_at(
 
 // Feeds the 30 triples of a table one after the other.
 fn feed_all(
-    tally: &mut [u64; 129],
+    tally: &mut [u64; 145],
     seed: u64,
     words: Vocabulary,
     table: &[u32],
@@ -399,7 +399,7 @@ fn make(seed: u64, table: &mut [u32], roster: &mut [u8]) {
 }
 
 fn run(
-    tally: &mut [u64; 129],
+    tally: &mut [u64; 145],
     seed: u64,
     table: &[u32],
     roster: &[u8],
@@ -439,7 +439,7 @@ fn run(
 }
 
 fn intake_of(
-    tally: &mut [u64; 129],
+    tally: &mut [u64; 145],
     seed: u64,
     table: &mut [u32],
     roster: &mut [u8],
@@ -485,7 +485,7 @@ fn feed_junk(
 }
 
 fn check_refused(
-    tally: &mut [u64; 129],
+    tally: &mut [u64; 145],
     expected: u32,
     answer: Found,
     held: usize,
@@ -499,7 +499,7 @@ fn check_refused(
 }
 
 fn check_four(
-    tally: &mut [u64; 129],
+    tally: &mut [u64; 145],
     triples: &[u32],
     summary: &[u32],
     map: &[u32],
@@ -525,7 +525,7 @@ fn check_four(
 
 // A feed of 10 5 12 that is refused before the state matters: it leaves all as it was, also what no opening left there.
 pub fn feed_refused(
-    tally: &mut [u64; 129],
+    tally: &mut [u64; 145],
     expected: u32,
     words: Vocabulary,
     roster: &[u8],
@@ -576,7 +576,7 @@ fn summary_room(seed: u64, r: usize) -> usize
     at_most(whole + pick(seed, 83, 3) as usize, 100)
 }
 
-fn intake_case(tally: &mut [u64; 129], seed: u64) {
+fn intake_case(tally: &mut [u64; 145], seed: u64) {
     let mut table = [0u32; 90];
     let mut roster = [0u8; 24];
     let mut triples = [0u32; 100];
@@ -603,7 +603,7 @@ fn intake_case(tally: &mut [u64; 129], seed: u64) {
     );
 }
 
-pub fn all(tally: &mut [u64; 129]) {
+pub fn all(tally: &mut [u64; 145]) {
     let mut seed = 2000000;
     while seed < 2030000 {
         intake_case(tally, seed);

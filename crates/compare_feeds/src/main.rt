@@ -7,7 +7,7 @@ mod small;
 use comparison::report;
 
 fn main() {
-    let mut tally = [0u64; 129];
+    let mut tally = [0u64; 145];
     small::all(&mut tally);
     sizes::all(&mut tally);
     feeds::all(&mut tally);

@@ -8,7 +8,7 @@ use comparison::report::sized;
 use lists::rdfs_words;
 use model::Vocabulary;
 
-fn open(tally: &mut [u64; 129], n: usize) -> u32 {
+fn open(tally: &mut [u64; 145], n: usize) -> u32 {
     let roster = [0u8; 65537];
     let mut map = [0u32; 65537];
     let mut plain_map = [0u32; 65537];
@@ -33,7 +33,7 @@ fn open(tally: &mut [u64; 129], n: usize) -> u32 {
 
 // An opened intake is fed 65535 5 65534.
 fn feed_in(
-    tally: &mut [u64; 129],
+    tally: &mut [u64; 145],
     words: Vocabulary,
     roster: &[u8],
     map: &mut [u32],
@@ -78,7 +78,7 @@ fn feed_in(
     )
 }
 
-fn feed(tally: &mut [u64; 129], n: usize) -> u32 {
+fn feed(tally: &mut [u64; 145], n: usize) -> u32 {
     let mut roster = [0u8; 65537];
     let mut map = [0u32; 65537];
     let mut work = [0u32; 131074];
@@ -99,7 +99,7 @@ fn feed(tally: &mut [u64; 129], n: usize) -> u32 {
 }
 
 // A size that is refused.
-fn feed_refused(tally: &mut [u64; 129], n: usize) -> u32 {
+fn feed_refused(tally: &mut [u64; 145], n: usize) -> u32 {
     let roster = [0u8; 65537];
     let mut a = [0u32; 6];
     let mut b = [0u32; 6];
@@ -127,7 +127,7 @@ fn feed_refused(tally: &mut [u64; 129], n: usize) -> u32 {
     )
 }
 
-pub fn all(tally: &mut [u64; 129]) {
+pub fn all(tally: &mut [u64; 145]) {
     sized(OPEN, 4, 1, open(tally, 4));
     sized(OPEN, 5, 0, open(tally, 5));
     sized(OPEN, 65536, 0, open(tally, 65536));

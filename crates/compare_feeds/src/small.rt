@@ -15,7 +15,7 @@ const SIX_ROSTER: [u8; 14] = [0, 0, 0, 0, 0, 2, 2, 2, 1, 1, 0, 0, 0, 0];
 
 // Opens with lists of those lengths.
 fn open(
-    tally: &mut [u64; 129],
+    tally: &mut [u64; 145],
     name: &[u8],
     expected: u32,
     words: Vocabulary,
@@ -48,7 +48,7 @@ fn open(
     small(OPEN, name, expected, got);
 }
 
-fn opens(tally: &mut [u64; 129], words: Vocabulary, roster: &[u8]) {
+fn opens(tally: &mut [u64; 145], words: Vocabulary, roster: &[u8]) {
     let over = [0u8, 0, 0, 0, 0, 2, 2, 2, 1, 1, 0, 0, 0, 4];
     let reserved = [2u8, 0, 0, 0, 0, 2, 2, 2, 1, 1, 0, 0, 0, 0];
     open(tally, b"equal-slots", 0, words, roster, 7, 8, 14);
@@ -59,7 +59,7 @@ fn opens(tally: &mut [u64; 129], words: Vocabulary, roster: &[u8]) {
 }
 
 // With other words: a code that is reserved by them may not be marked, and 0 may be.
-fn opens_loaded(tally: &mut [u64; 129], roster: &[u8]) {
+fn opens_loaded(tally: &mut [u64; 145], roster: &[u8]) {
     let marked = [2u8, 0, 0, 0, 0, 2, 2, 2, 1, 1, 0, 0, 0, 0];
     let nine = table_of(9, 1, 2, 3, 4);
     let ten = table_of(10, 1, 2, 3, 4);
@@ -68,7 +68,7 @@ fn opens_loaded(tally: &mut [u64; 129], roster: &[u8]) {
 }
 
 // With wrong words: 1 comes before 10, and 10 before 2.
-fn opens_wrong(tally: &mut [u64; 129], equal: Vocabulary, roster: &[u8]) {
+fn opens_wrong(tally: &mut [u64; 145], equal: Vocabulary, roster: &[u8]) {
     let over = [0u8, 0, 0, 0, 0, 2, 2, 2, 1, 1, 0, 0, 0, 4];
     let large = table_of(0, 1, 2, 3, 14);
     open(tally, b"equal-words", 10, equal, roster, 6, 6, 14);
@@ -156,7 +156,7 @@ fn small_feed(i: usize, expected: u32, got: u32) {
 }
 
 fn feed(
-    tally: &mut [u64; 129],
+    tally: &mut [u64; 145],
     i: usize,
     state: State,
     list: &[u32],
@@ -191,7 +191,7 @@ fn feed(
 }
 
 fn feed_two_slots(
-    tally: &mut [u64; 129],
+    tally: &mut [u64; 145],
     list: &[u32],
     roster: &[u8],
     triples: &mut [u32],
@@ -207,7 +207,7 @@ fn feed_two_slots(
     }
 }
 
-fn feed_opened(tally: &mut [u64; 129], roster: &[u8]) {
+fn feed_opened(tally: &mut [u64; 145], roster: &[u8]) {
     let mut a = [0u32; 8];
     let mut b = [0u32; 7];
     let mut c = [0u32; 14];
@@ -232,7 +232,7 @@ fn feed_opened(tally: &mut [u64; 129], roster: &[u8]) {
 
 // A feed of 10 5 12 that is refused, with lists of those lengths.
 fn feed_refused(
-    tally: &mut [u64; 129],
+    tally: &mut [u64; 145],
     name: &[u8],
     expected: u32,
     words: Vocabulary,
@@ -269,7 +269,7 @@ fn feed_refused(
     small(FEED, name, expected, got);
 }
 
-fn feeds_refused(tally: &mut [u64; 129], words: Vocabulary, roster: &[u8]) {
+fn feeds_refused(tally: &mut [u64; 145], words: Vocabulary, roster: &[u8]) {
     let over = [0u8, 0, 0, 0, 0, 2, 2, 2, 1, 1, 0, 0, 0, 4];
     let reserved = [2u8, 0, 0, 0, 0, 2, 2, 2, 1, 1, 0, 0, 0, 0];
     feed_refused(tally, b"unequal-slots", 1, words, roster, 9, 6, 14);
@@ -278,14 +278,14 @@ fn feeds_refused(tally: &mut [u64; 129], words: Vocabulary, roster: &[u8]) {
     feed_refused(tally, b"reserved-marked", 2, words, &reserved, 6, 6, 14);
 }
 
-fn feeds_loaded(tally: &mut [u64; 129], roster: &[u8]) {
+fn feeds_loaded(tally: &mut [u64; 145], roster: &[u8]) {
     let nine = table_of(9, 1, 2, 3, 4);
     let ten = table_of(10, 1, 2, 3, 4);
     feed_refused(tally, b"word-9-marked", 2, nine, roster, 6, 6, 14);
     feed_refused(tally, b"word-10-subject", 3, ten, roster, 6, 6, 14);
 }
 
-fn feeds_wrong(tally: &mut [u64; 129], equal: Vocabulary, roster: &[u8]) {
+fn feeds_wrong(tally: &mut [u64; 145], equal: Vocabulary, roster: &[u8]) {
     let over = [0u8, 0, 0, 0, 0, 2, 2, 2, 1, 1, 0, 0, 0, 4];
     let none = [0u8; 14];
     feed_refused(tally, b"equal-words", 10, equal, roster, 6, 6, 14);
@@ -295,7 +295,7 @@ fn feeds_wrong(tally: &mut [u64; 129], equal: Vocabulary, roster: &[u8]) {
 }
 
 // What is tried with other words than 0 to 4.
-fn loaded(tally: &mut [u64; 129], roster: &[u8]) {
+fn loaded(tally: &mut [u64; 145], roster: &[u8]) {
     let equal = table_of(0, 1, 2, 3, 3);
     opens_loaded(tally, roster);
     opens_wrong(tally, equal, roster);
@@ -303,7 +303,7 @@ fn loaded(tally: &mut [u64; 129], roster: &[u8]) {
     feeds_wrong(tally, equal, roster);
 }
 
-pub fn all(tally: &mut [u64; 129]) {
+pub fn all(tally: &mut [u64; 145]) {
     opens(tally, rdfs_words(), &SIX_ROSTER);
     feed_opened(tally, &SIX_ROSTER);
     feeds_refused(tally, rdfs_words(), &SIX_ROSTER);

@@ -7,6 +7,7 @@ use super::report::LOOK_UP;
 use super::report::OPEN;
 use super::report::OWN_ROSTER;
 use super::report::SATURATE;
+use super::report::STRONG;
 use super::report::SUMMARISE;
 use super::report::check;
 use super::report::record;
@@ -156,14 +157,14 @@ pub fn column(a: Answer) -> u32 {
     a.refused
 }
 
-fn check_answer(tally: &mut [u64; 129], call: usize, seed: u64, got: Answer, want: Answer) {
+fn check_answer(tally: &mut [u64; 145], call: usize, seed: u64, got: Answer, want: Answer) {
     check(tally, call, seed, b"answer", got.refused == want.refused);
     check(tally, call, seed, b"count", got.count == want.count);
 }
 
 // Compares a list of each engine.
 pub fn check_list(
-    tally: &mut [u64; 129],
+    tally: &mut [u64; 145],
     call: usize,
     seed: u64,
     what: &[u8],
@@ -184,7 +185,7 @@ fn naive_roster(words: Vocabulary, table: &[u32], roster: &mut [u8]) -> u32 {
 }
 
 pub fn own_roster(
-    tally: &mut [u64; 129],
+    tally: &mut [u64; 145],
     seed: u64,
     words: Vocabulary,
     table: &[u32],
@@ -216,7 +217,7 @@ fn naive_saturate(words: Vocabulary, table: &[u32], roster: &[u8], result: &mut 
 }
 
 pub fn saturate(
-    tally: &mut [u64; 129],
+    tally: &mut [u64; 145],
     seed: u64,
     words: Vocabulary,
     table: &[u32],
@@ -257,7 +258,7 @@ fn naive_cliques(
 }
 
 pub fn cliques(
-    tally: &mut [u64; 129],
+    tally: &mut [u64; 145],
     seed: u64,
     words: Vocabulary,
     table: &[u32],
@@ -277,6 +278,7 @@ pub fn cliques(
 }
 
 fn engine_summarise(
+    strong: bool,
     words: Vocabulary,
     table: &[u32],
     roster: &[u8],
@@ -287,10 +289,21 @@ fn engine_summarise(
     junk(result);
     junk(map);
     junk(work);
+    if strong {
+        return of_counted(summarise_strong::summarise_strong(
+            words,
+            table,
+            roster,
+            result,
+            map,
+            work,
+        ));
+    }
     of_counted(summarise::summarise(words, table, roster, result, map, work))
 }
 
 fn naive_summarise(
+    strong: bool,
     words: Vocabulary,
     table: &[u32],
     roster: &[u8],
@@ -301,12 +314,12 @@ fn naive_summarise(
     junk(result);
     junk(map);
     junk(work);
-    naive::summarise(plain_words(words), table, roster, result, map, work)
+    naive::summarise(plain_words(words), strong, table, roster, result, map, work)
 }
 
 // Compares three lists of each engine.
 pub fn check_three(
-    tally: &mut [u64; 129],
+    tally: &mut [u64; 145],
     call: usize,
     seed: u64,
     triples: &[u32],
@@ -318,15 +331,17 @@ pub fn check_three(
 ) {
     check_list(tally, call, seed, b"triples", triples, plain_triples);
     check_list(tally, call, seed, b"map", map, plain_map);
-    if call == SUMMARISE {
+    if call == SUMMARISE || call == STRONG {
         check_list(tally, call, seed, b"work", third, plain_third);
     } else {
         check_list(tally, call, seed, b"summary", third, plain_third);
     }
 }
 
+// Weakly or strongly, by the call that is named.
 pub fn summarise(
-    tally: &mut [u64; 129],
+    tally: &mut [u64; 145],
+    call: usize,
     seed: u64,
     words: Vocabulary,
     table: &[u32],
@@ -338,12 +353,21 @@ pub fn summarise(
     plain_map: &mut [u32],
     plain_work: &mut [u32],
 ) -> Answer {
-    let got = engine_summarise(words, table, roster, result, map, work);
-    let want = naive_summarise(words, table, roster, plain_result, plain_map, plain_work);
-    check_answer(tally, SUMMARISE, seed, got, want);
+    let strong = call == STRONG;
+    let got = engine_summarise(strong, words, table, roster, result, map, work);
+    let want = naive_summarise(
+        strong,
+        words,
+        table,
+        roster,
+        plain_result,
+        plain_map,
+        plain_work,
+    );
+    check_answer(tally, call, seed, got, want);
     check_three(
         tally,
-        SUMMARISE,
+        call,
         seed,
         result,
         map,
@@ -352,11 +376,11 @@ pub fn summarise(
         plain_map,
         plain_work,
     );
-    record(tally, SUMMARISE, got.refused);
+    record(tally, call, got.refused);
     got
 }
 
-pub fn look_up(tally: &mut [u64; 129], seed: u64, list: &[u32], s: u32, p: u32, o: u32) -> u32 {
+pub fn look_up(tally: &mut [u64; 145], seed: u64, list: &[u32], s: u32, p: u32, o: u32) -> u32 {
     let t = Triple {
         subject: s,
         property: p,
@@ -403,7 +427,7 @@ fn query_of(query: &[u32]) -> Query {
 }
 
 pub fn ask(
-    tally: &mut [u64; 129],
+    tally: &mut [u64; 145],
     seed: u64,
     words: Vocabulary,
     table: &[u32],
@@ -445,7 +469,7 @@ fn naive_open(
 
 // An accepted opening makes both counts zero, a refused one leaves them.
 fn check_opened(
-    tally: &mut [u64; 129],
+    tally: &mut [u64; 145],
     seed: u64,
     got: u32,
     want: u32,
@@ -462,7 +486,7 @@ fn check_opened(
 }
 
 pub fn open(
-    tally: &mut [u64; 129],
+    tally: &mut [u64; 145],
     seed: u64,
     words: Vocabulary,
     roster: &[u8],

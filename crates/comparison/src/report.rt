@@ -1,4 +1,4 @@
-// The tally: sixteen counts for each of eight calls, by the number answered, 9 for yes, maybe and new; the last number is that of
+// The tally: sixteen counts for each of nine calls, by the number answered, 9 for yes, maybe and new; the last number is that of
 // the differences.
 use libc::STDOUT_FILENO;
 
@@ -6,7 +6,7 @@ pub const COLUMNS: usize = 16;
 
 const YES: usize = 9;
 
-const DIFFERENCES: usize = 128;
+const DIFFERENCES: usize = 144;
 
 pub const OWN_ROSTER: usize = 0;
 
@@ -16,13 +16,15 @@ pub const CLIQUES: usize = 2;
 
 pub const SUMMARISE: usize = 3;
 
-pub const LOOK_UP: usize = 4;
+pub const STRONG: usize = 4;
 
-pub const ASK: usize = 5;
+pub const LOOK_UP: usize = 5;
 
-pub const OPEN: usize = 6;
+pub const ASK: usize = 6;
 
-pub const FEED: usize = 7;
+pub const OPEN: usize = 7;
+
+pub const FEED: usize = 8;
 
 fn print(text: &[u8]) {
     io::write_all(STDOUT_FILENO, text);
@@ -41,6 +43,8 @@ fn print_call(call: usize) {
         print(b"cliques");
     } else if call == SUMMARISE {
         print(b"summarise");
+    } else if call == STRONG {
+        print(b"summarise-strong");
     } else if call == LOOK_UP {
         print(b"look-up");
     } else if call == ASK {
@@ -52,16 +56,16 @@ fn print_call(call: usize) {
     }
 }
 
-fn add_one(tally: &mut [u64; 129], i: usize) {
-    if i < 129 {
+fn add_one(tally: &mut [u64; 145], i: usize) {
+    if i < 145 {
         tally[i] = std::num::wrapping_add_u64(tally[i], 1);
     }
 }
 
 // Counts an answer of a call.
-pub fn record(tally: &mut [u64; 129], call: usize, answer: u32) {
+pub fn record(tally: &mut [u64; 145], call: usize, answer: u32) {
     let column = answer as usize;
-    if call < 8 {
+    if call < 9 {
         if column < COLUMNS {
             add_one(tally, call * COLUMNS + column);
         }
@@ -69,7 +73,7 @@ pub fn record(tally: &mut [u64; 129], call: usize, answer: u32) {
 }
 
 // Reports what differs.
-pub fn check(tally: &mut [u64; 129], call: usize, seed: u64, what: &[u8], ok: bool) {
+pub fn check(tally: &mut [u64; 145], call: usize, seed: u64, what: &[u8], ok: bool) {
     if ok {
         return;
     }
@@ -109,7 +113,7 @@ pub fn sized(call: usize, n: usize, expected: u32, got: u32) {
     print(b")\n");
 }
 
-fn sum(tally: &[u64; 129], call: usize) -> u64 {
+fn sum(tally: &[u64; 145], call: usize) -> u64 {
     let mut total = 0;
     let mut column = 0;
     while column < COLUMNS {
@@ -119,8 +123,8 @@ fn sum(tally: &[u64; 129], call: usize) -> u64 {
     total
 }
 
-fn count_of(tally: &[u64; 129], call: usize, column: usize) -> u64 {
-    if call < 8 {
+fn count_of(tally: &[u64; 145], call: usize, column: usize) -> u64 {
+    if call < 9 {
         if column < COLUMNS {
             return tally[call * COLUMNS + column];
         }
@@ -129,7 +133,7 @@ fn count_of(tally: &[u64; 129], call: usize, column: usize) -> u64 {
 }
 
 // A refusal's count, if there are any; 9 is none.
-fn print_refusal(tally: &[u64; 129], call: usize, number: usize) {
+fn print_refusal(tally: &[u64; 145], call: usize, number: usize) {
     let count = count_of(tally, call, number);
     if count == 0 || number == YES {
         return;
@@ -140,7 +144,7 @@ fn print_refusal(tally: &[u64; 129], call: usize, number: usize) {
     print_number(count);
 }
 
-fn print_refusals(tally: &[u64; 129], call: usize) {
+fn print_refusals(tally: &[u64; 145], call: usize) {
     let mut number = 1;
     while number < 15 {
         print_refusal(tally, call, number);
@@ -149,7 +153,7 @@ fn print_refusals(tally: &[u64; 129], call: usize) {
 }
 
 // A call's counts, if there are any.
-fn print_line(tally: &[u64; 129], call: usize) {
+fn print_line(tally: &[u64; 145], call: usize) {
     let cases = sum(tally, call);
     if cases == 0 {
         return;
@@ -171,9 +175,9 @@ fn print_line(tally: &[u64; 129], call: usize) {
 }
 
 // A line for each call that was compared, and the number of differences.
-pub fn counts(tally: &[u64; 129]) {
+pub fn counts(tally: &[u64; 145]) {
     let mut call = 0;
-    while call < 8 {
+    while call < 9 {
         print_line(tally, call);
         call += 1;
     }

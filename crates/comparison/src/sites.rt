@@ -11,6 +11,8 @@ use super::random::remainder;
 use super::random::set;
 use super::random::set_mark;
 use super::random::triples_end;
+use super::report::STRONG;
+use super::report::SUMMARISE;
 use super::words;
 use super::words::free_code;
 use lists::word_of;
@@ -243,7 +245,7 @@ pub fn make(seed: u64, table: &mut [u32], roster: &mut [u8]) {
     damage_roster(right, roster, seed);
 }
 
-fn roster_of(tally: &mut [u64; 129], seed: u64, table: &mut [u32], a: &mut [u8], b: &mut [u8]) {
+fn roster_of(tally: &mut [u64; 145], seed: u64, table: &mut [u32], a: &mut [u8], b: &mut [u8]) {
     let n = a.len();
     let right = words::right(seed, n);
     fill_table(table, seed, n);
@@ -252,7 +254,7 @@ fn roster_of(tally: &mut [u64; 129], seed: u64, table: &mut [u32], a: &mut [u8],
     calls::own_roster(tally, seed, words::given(seed, n), table, a, b);
 }
 
-fn roster_case(tally: &mut [u64; 129], seed: u64) {
+fn roster_case(tally: &mut [u64; 145], seed: u64) {
     let mut table = [0u32; 62];
     let mut a = [0u8; 24];
     let mut b = [0u8; 24];
@@ -262,7 +264,7 @@ fn roster_case(tally: &mut [u64; 129], seed: u64) {
 }
 
 fn saturation_of(
-    tally: &mut [u64; 129],
+    tally: &mut [u64; 145],
     seed: u64,
     table: &mut [u32],
     roster: &mut [u8],
@@ -274,7 +276,7 @@ fn saturation_of(
     calls::saturate(tally, seed, given, table, roster, a, b);
 }
 
-fn saturation_case(tally: &mut [u64; 129], seed: u64) {
+fn saturation_case(tally: &mut [u64; 145], seed: u64) {
     let mut table = [0u32; 62];
     let mut roster = [0u8; 24];
     let mut a = [0u32; 600];
@@ -293,7 +295,7 @@ fn saturation_case(tally: &mut [u64; 129], seed: u64) {
 }
 
 fn cliques_of(
-    tally: &mut [u64; 129],
+    tally: &mut [u64; 145],
     seed: u64,
     table: &mut [u32],
     roster: &mut [u8],
@@ -307,7 +309,7 @@ fn cliques_of(
     calls::cliques(tally, seed, given, table, roster, a, b, c, d);
 }
 
-fn cliques_case(tally: &mut [u64; 129], seed: u64) {
+fn cliques_case(tally: &mut [u64; 145], seed: u64) {
     let mut table = [0u32; 62];
     let mut roster = [0u8; 24];
     let mut a = [0u32; 50];
@@ -353,7 +355,8 @@ fn copy(from: &[u32], to: &mut [u32]) {
 }
 
 fn summary_of(
-    tally: &mut [u64; 129],
+    tally: &mut [u64; 145],
+    call: usize,
     seed: u64,
     table: &mut [u32],
     roster: &mut [u8],
@@ -368,6 +371,7 @@ fn summary_of(
     let end = base(seed, table, roster, closed);
     calls::summarise(
         tally,
+        call,
         seed,
         words::given(seed, roster.len()),
         &closed[0..end],
@@ -381,7 +385,7 @@ fn summary_of(
     );
 }
 
-fn summary_case(tally: &mut [u64; 129], seed: u64) {
+fn summary_case(tally: &mut [u64; 145], call: usize, seed: u64) {
     let mut table = [0u32; 62];
     let mut roster = [0u8; 24];
     let mut closed = [0u32; 600];
@@ -398,6 +402,7 @@ fn summary_case(tally: &mut [u64; 129], seed: u64) {
     let w = near(seed, 33, 2 * n);
     summary_of(
         tally,
+        call,
         seed,
         &mut table[0..t],
         &mut roster[0..n],
@@ -412,7 +417,7 @@ fn summary_case(tally: &mut [u64; 129], seed: u64) {
 }
 
 // A triple of the table, or one with another object.
-fn look_up_of(tally: &mut [u64; 129], seed: u64, table: &mut [u32]) {
+fn look_up_of(tally: &mut [u64; 145], seed: u64, table: &mut [u32]) {
     fill_table(table, seed, 24);
     let k = 3 * place_in(seed, 40, table.len() / 3);
     let s = get(table, k);
@@ -422,21 +427,22 @@ fn look_up_of(tally: &mut [u64; 129], seed: u64, table: &mut [u32]) {
     calls::look_up(tally, seed, table, s, p, 5 + pick(seed, 41, 20));
 }
 
-fn look_up_case(tally: &mut [u64; 129], seed: u64) {
+fn look_up_case(tally: &mut [u64; 145], seed: u64) {
     let mut table = [0u32; 62];
     let t = table_length(seed);
     look_up_of(tally, seed, &mut table[0..t]);
 }
 
-fn site_cases(tally: &mut [u64; 129], seed: u64) {
+fn site_cases(tally: &mut [u64; 145], seed: u64) {
     roster_case(tally, seed);
     saturation_case(tally, seed);
     cliques_case(tally, seed);
-    summary_case(tally, seed);
+    summary_case(tally, SUMMARISE, seed);
+    summary_case(tally, STRONG, seed);
     look_up_case(tally, seed);
 }
 
-pub fn all(tally: &mut [u64; 129]) {
+pub fn all(tally: &mut [u64; 145]) {
     let mut seed = 0;
     while seed < 200000 {
         site_cases(tally, seed);

@@ -126,5 +126,5 @@ pub fn plain_lists(
         i += 1;
     }
     sort(triples, count);
-    summarise(words, h, roster, summary, map, work)
+    summarise(words, false, h, roster, summary, map, work)
 }

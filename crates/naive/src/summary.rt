@@ -1,4 +1,4 @@
-// The weak summary, through cliques and weak equivalence.
+// The weak and the strong summary, through cliques. Both clique lists stand in one list, the source cliques first.
 use super::clique_lists::end_of;
 use super::clique_lists::is_data;
 use super::clique_lists::lower;
@@ -11,6 +11,7 @@ use super::flat::accept;
 use super::flat::add;
 use super::flat::entry;
 use super::flat::fill;
+use super::flat::number_at;
 use super::flat::refuse;
 use super::flat::set_entry;
 use super::flat::sort;
@@ -19,6 +20,14 @@ use super::flat::triple_of;
 use super::refusals::mark;
 use super::refusals::table_refusal;
 
+// The clique of a property at a side.
+fn clique_at(cliques: &[u32], sources: bool, property: u32) -> u32 {
+    if sources {
+        return entry(cliques, property);
+    }
+    number_at(cliques, cliques.len() / 2 + property as usize)
+}
+
 // The clique of a data node: that of the property of any data triple that it stands in at that side, absent if there is none.
 fn clique_of(words: Words, table: &[u32], cliques: &[u32], sources: bool, node: u32) -> u32 {
     let count = table.len() / 3;
@@ -26,19 +35,23 @@ fn clique_of(words: Words, table: &[u32], cliques: &[u32], sources: bool, node: 
     while i < count {
         let t = triple_at(table, i);
         if end_of(t, sources) == node && is_data(words, t) {
-            return entry(cliques, t.property);
+            return clique_at(cliques, sources, t.property);
         }
         i += 1;
     }
     ABSENT
 }
 
-// Whether two data nodes have the same non-empty source or target clique, or both have no clique at all.
-fn alike(words: Words, table: &[u32], sources: &[u32], targets: &[u32], a: u32, b: u32) -> bool {
-    let source_a = clique_of(words, table, sources, true, a);
-    let source_b = clique_of(words, table, sources, true, b);
-    let target_a = clique_of(words, table, targets, false, a);
-    let target_b = clique_of(words, table, targets, false, b);
+// Strongly: whether two data nodes have the same source clique and the same target clique, none counting as a value.
+// Weakly: whether they have the same non-empty source or target clique, or both have no clique at all.
+fn alike(words: Words, strong: bool, table: &[u32], cliques: &[u32], a: u32, b: u32) -> bool {
+    let source_a = clique_of(words, table, cliques, true, a);
+    let source_b = clique_of(words, table, cliques, true, b);
+    let target_a = clique_of(words, table, cliques, false, a);
+    let target_b = clique_of(words, table, cliques, false, b);
+    if strong {
+        return source_a == source_b && target_a == target_b;
+    }
     if source_a != ABSENT && source_a == source_b {
         return true;
     }
@@ -69,10 +82,10 @@ fn node_at(table: &[u32], e: usize) -> u32 {
 // Lowers a data node a by a data node b if they are alike.
 fn join_pair(
     words: Words,
+    strong: bool,
     table: &[u32],
     roster: &[u8],
-    sources: &[u32],
-    targets: &[u32],
+    cliques: &[u32],
     map: &mut [u32],
     a: u32,
     b: u32,
@@ -83,7 +96,7 @@ fn join_pair(
     if entry(map, a) <= entry(map, b) {
         return false;
     }
-    if alike(words, table, sources, targets, a, b) {
+    if alike(words, strong, table, cliques, a, b) {
         return lower(map, a, b);
     }
     false
@@ -92,10 +105,10 @@ fn join_pair(
 // Lowers the node a by each node that is alike.
 fn join(
     words: Words,
+    strong: bool,
     table: &[u32],
     roster: &[u8],
-    sources: &[u32],
-    targets: &[u32],
+    cliques: &[u32],
     map: &mut [u32],
     a: u32,
 ) -> bool {
@@ -105,10 +118,10 @@ fn join(
     while e < ends {
         if join_pair(
             words,
+            strong,
             table,
             roster,
-            sources,
-            targets,
+            cliques,
             map,
             a,
             node_at(table, e),
@@ -122,10 +135,10 @@ fn join(
 
 fn join_all(
     words: Words,
+    strong: bool,
     table: &[u32],
     roster: &[u8],
-    sources: &[u32],
-    targets: &[u32],
+    cliques: &[u32],
     map: &mut [u32],
 ) -> bool {
     let ends = table.len() / 3 * 2;
@@ -134,10 +147,10 @@ fn join_all(
     while e < ends {
         if join(
             words,
+            strong,
             table,
             roster,
-            sources,
-            targets,
+            cliques,
             map,
             node_at(table, e),
         ) {
@@ -148,36 +161,32 @@ fn join_all(
     changed
 }
 
-// The smallest code of each class. A chain has no more steps than there are nodes, so as many rounds are enough.
+// The smallest code of each class. A chain has no more steps than there are nodes, so as many rounds are enough; strong classes
+// have no chains.
 fn represent(
     words: Words,
+    strong: bool,
     table: &[u32],
     roster: &[u8],
-    sources: &[u32],
-    targets: &[u32],
+    cliques: &[u32],
     map: &mut [u32],
 ) {
     start(table, map);
     let ends = table.len() / 3 * 2;
     let mut rounds = 0;
     while rounds < ends {
-        if !join_all(words, table, roster, sources, targets, map) {
+        if !join_all(words, strong, table, roster, cliques, map) {
             return;
         }
         rounds += 1;
     }
 }
 
-// The work list holds the source cliques, then the target cliques.
+// Fills a list with the cliques of both sides.
 fn both_sides(words: Words, table: &[u32], roster: &[u8], work: &mut [u32]) {
     let half = work.len() / 2;
     side(words, table, roster, true, &mut work[..half]);
     side(words, table, roster, false, &mut work[half..]);
-}
-
-fn represent_by(words: Words, table: &[u32], roster: &[u8], work: &[u32], map: &mut [u32]) {
-    let half = work.len() / 2;
-    represent(words, table, roster, &work[..half], &work[half..], map);
 }
 
 // The triples with each subject and object replaced by its representative, each once.
@@ -197,8 +206,10 @@ fn replaced(table: &[u32], map: &[u32], list: &mut [u32]) -> Answer {
     answer
 }
 
+// The weak summary or the strong one.
 pub fn summarise(
     words: Words,
+    strong: bool,
     table: &[u32],
     roster: &[u8],
     result: &mut [u32],
@@ -212,7 +223,7 @@ pub fn summarise(
         return refuse(number);
     }
     both_sides(words, table, roster, work);
-    represent_by(words, table, roster, work, map);
+    represent(words, strong, table, roster, work, map);
     fill(work, 0);
     fill(result, 0);
     let answer = replaced(table, map, result);

@@ -1,7 +1,7 @@
 //! What the tests share.
 #![allow(dead_code)]
 
-use weak_summary::{own_roster, saturate, summarise, Refusal, Words, ABSENT};
+use weak_summary::{own_roster, saturate, summarise, summarise_strong, Refusal, Words, ABSENT};
 
 /// The words of the scope paper.
 pub const RDFS: Words = Words::RDFS;
@@ -31,17 +31,30 @@ pub fn roster_of(words: Words, table: &[u32], n: usize) -> Vec<u8> {
     roster
 }
 
-/// The plain summary with the own roster, and its map.
-pub fn summary_of(words: Words, table: &[u32], n: usize) -> (Vec<u32>, Vec<u32>) {
+/// The weak summary or the strong one.
+pub type Summarise = fn(Words, &[u32], &[u8], &mut [u32], &mut [u32], &mut [u32]) -> Result<usize, Refusal>;
+
+/// The summary with the own roster, and its map.
+pub fn summary_by(call: Summarise, words: Words, table: &[u32], n: usize) -> (Vec<u32>, Vec<u32>) {
     let roster = roster_of(words, table, n);
     let mut result = vec![9; table.len()];
     let mut map = vec![9; n];
     let mut work = vec![9; 2 * n];
-    let count = summarise(words, table, &roster, &mut result, &mut map, &mut work).unwrap();
+    let count = call(words, table, &roster, &mut result, &mut map, &mut work).unwrap();
     assert!(work.iter().all(|&x| x == 0));
     assert!(result[3 * count..].iter().all(|&x| x == 0));
     result.truncate(3 * count);
     (result, map)
+}
+
+/// The plain summary, weakly.
+pub fn summary_of(words: Words, table: &[u32], n: usize) -> (Vec<u32>, Vec<u32>) {
+    summary_by(summarise, words, table, n)
+}
+
+/// The plain summary, strongly.
+pub fn strong_summary_of(words: Words, table: &[u32], n: usize) -> (Vec<u32>, Vec<u32>) {
+    summary_by(summarise_strong, words, table, n)
 }
 
 pub fn saturation_of(words: Words, table: &[u32], n: usize, slots: usize) -> Result<Vec<u32>, Refusal> {

@@ -6,7 +6,7 @@ use Rattle.naive.proofs.summary.clique_of.Reads as reads
 use Rattle.naive.proofs.summary.clique_of.Lts as lts
 use Rattle.naive.proofs.clique_lists.end_of.Reads as end-of-reads
 use Rattle.naive.proofs.clique_lists.is_data.Reads as is-data-reads
-use Rattle.naive.proofs.flat.entry.Reads as entry-reads
+use Rattle.naive.proofs.summary.clique_at.Reads as clique-at-reads
 use Rattle.naive.proofs.flat.triple_at.Reads as triple-at-reads
 
 abbrev Inv-loop : tie.InvT-loop
@@ -27,8 +27,8 @@ end-of-requires c κs = search needs
 is-data-requires : tie.Need-is-data-requires Inv-loop μ-loop
 is-data-requires c κs = search needs
 
-entry-requires : tie.Need-entry-requires Inv-loop μ-loop
-entry-requires c κs = search needs
+clique-at-requires : tie.Need-clique-at-requires Inv-loop μ-loop
+clique-at-requires c κs = search needs
 
 returns : tie.Need-returns Inv-loop μ-loop
 returns c = search needs
@@ -55,7 +55,7 @@ clique-of-spec =
     triple-at-requires
     end-of-requires
     is-data-requires
-    entry-requires
+    clique-at-requires
     returns
     add-i
     loop-less

@@ -10,10 +10,10 @@ use Rattle.naive.proofs.summary.join.Reads as join-reads
 use Rattle.naive.proofs.summary.node_at.Reads as node-at-reads
 
 abbrev Inv-loop : tie.InvT-loop
-Inv-loop words table roster sources targets map₀ ends changed₀ e₀ map changed e = (length map ≡ length map₀)
+Inv-loop words strong table roster cliques map₀ ends changed₀ e₀ map changed e = (length map ≡ length map₀)
 
 abbrev μ-loop : tie.MeasureT-loop
-μ-loop words table roster sources targets map₀ ends changed₀ e₀ map changed e = ends - e
+μ-loop words strong table roster cliques map₀ ends changed₀ e₀ map changed e = ends - e
 
 mul-ends : tie.Need-mul-ends Inv-loop μ-loop
 mul-ends c = search needs

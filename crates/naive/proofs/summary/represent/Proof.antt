@@ -10,10 +10,10 @@ use Rattle.naive.proofs.summary.join_all.Reads as join-all-reads
 use Rattle.naive.proofs.summary.start.Reads as start-reads
 
 abbrev Inv-loop : tie.InvT-loop
-Inv-loop words table roster sources targets map₀ ends rounds₀ map rounds = (length map ≡ length map₀)
+Inv-loop words strong table roster cliques map₀ ends rounds₀ map rounds = (length map ≡ length map₀)
 
 abbrev μ-loop : tie.MeasureT-loop
-μ-loop words table roster sources targets map₀ ends rounds₀ map rounds = ends - rounds
+μ-loop words strong table roster cliques map₀ ends rounds₀ map rounds = ends - rounds
 
 start-requires : tie.Need-start-requires Inv-loop μ-loop
 start-requires c κs = search needs
