@@ -125,6 +125,14 @@ fn summary_size(summary: &Summary, site: &generate::Site) -> usize {
     triples_of(status, count)
 }
 
+/// A work list as another call may have left it: junk, or codes that could be taken for entries of this one.
+fn old_work(random: &mut Random, length: usize, n: usize) -> Vec<u32> {
+    if n == 0 || random.chance(50) {
+        return random.junk(length);
+    }
+    (0..length).map(|_| random.below(n) as u32).collect()
+}
+
 pub fn summarise(random: &mut Random, report: &mut Report, mistake: Mistake, summary: &Summary) {
     let site = site(random);
     let length = result_length(random, summary_size(summary, &site));
@@ -135,7 +143,7 @@ pub fn summarise(random: &mut Random, report: &mut Report, mistake: Mistake, sum
         roster: site.roster,
         result: random.junk(length),
         map: random.junk(lengths[0]),
-        work: random.junk(lengths[1]),
+        work: old_work(random, lengths[1], site.n),
         number: random.below(1 << 40),
     };
     compare_summarise(report, mistake, summary, before);

@@ -8,7 +8,7 @@ fn options(mistake: Mistake, shown: usize) -> Options {
 
 #[test]
 fn engines_agree_and_every_refusal_occurs() {
-    let report = run(&options(Mistake::None, 20));
+    let report = run(&Options { cases: 60_000, ..options(Mistake::None, 20) });
     assert_eq!(report.differences, 0);
     let refusals: [(Call, &[usize]); 11] = [
         (Call::OwnRoster, &[1, 3, 10]),

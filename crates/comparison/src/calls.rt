@@ -278,7 +278,7 @@ pub fn cliques(
 }
 
 fn engine_summarise(
-    strong: bool,
+    call: usize,
     words: Vocabulary,
     table: &[u32],
     roster: &[u8],
@@ -289,7 +289,7 @@ fn engine_summarise(
     junk(result);
     junk(map);
     junk(work);
-    if strong {
+    if call == STRONG {
         return of_counted(summarise_strong::summarise_strong(
             words,
             table,
@@ -303,7 +303,7 @@ fn engine_summarise(
 }
 
 fn naive_summarise(
-    strong: bool,
+    call: usize,
     words: Vocabulary,
     table: &[u32],
     roster: &[u8],
@@ -314,6 +314,7 @@ fn naive_summarise(
     junk(result);
     junk(map);
     junk(work);
+    let strong = call == STRONG;
     naive::summarise(plain_words(words), strong, table, roster, result, map, work)
 }
 
@@ -353,10 +354,9 @@ pub fn summarise(
     plain_map: &mut [u32],
     plain_work: &mut [u32],
 ) -> Answer {
-    let strong = call == STRONG;
-    let got = engine_summarise(strong, words, table, roster, result, map, work);
+    let got = engine_summarise(call, words, table, roster, result, map, work);
     let want = naive_summarise(
-        strong,
+        call,
         words,
         table,
         roster,
