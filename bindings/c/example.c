@@ -160,7 +160,7 @@ static void refused_words(void) {
     check(memcmp(roster, before, OTHER_N) == 0, "refused calls alter nothing");
 }
 
-/* A chain of three nodes: weakly they are one, strongly each is fed differently. */
+/* A chain of three nodes: weakly they are one, strongly no two have the same cliques. */
 static void both_summaries(void) {
     static const uint32_t rdfs[WS_WORDS_NUMBERS] = WS_RDFS_WORDS;
     static const uint32_t chain[6] = {10, 5, 11, 11, 5, 12}, loop[6] = {10, 5, 10};

@@ -23,8 +23,8 @@ const ONE_SOURCE: [u32; 12] = [10, 5, 20, 10, 6, 21, 11, 6, 22, 11, 7, 23];
 
 const ONE_SOURCE_SUMMARY: [u32; 9] = [10, 5, 20, 10, 6, 21, 10, 7, 23];
 
-// Nodes with one source clique, fed in three ways, one of them not at all.
-const FED: [u32; 21] = [
+// Nodes with one source clique and three target cliques, none being one of them.
+const THREE_TARGETS: [u32; 21] = [
     10,
     5,
     20,
@@ -48,7 +48,7 @@ const FED: [u32; 21] = [
     13,
 ];
 
-const FED_SUMMARY: [u32; 18] = [
+const THREE_TARGETS_SUMMARY: [u32; 18] = [
     10,
     5,
     20,
@@ -179,7 +179,7 @@ pub fn all(tally: &mut [u64; 145]) {
         &TYPES_AND_DATA,
     );
     graph(tally, b"one-source", 24, &ONE_SOURCE, &ONE_SOURCE_SUMMARY);
-    graph(tally, b"fed-in-three-ways", 32, &FED, &FED_SUMMARY);
+    graph(tally, b"three-targets", 32, &THREE_TARGETS, &THREE_TARGETS_SUMMARY);
     graph(tally, b"no-source", 15, &NO_SOURCE, &NO_SOURCE_SUMMARY);
     graph(tally, b"class", 14, &CLASS, &CLASS);
 }
