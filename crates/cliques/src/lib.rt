@@ -120,13 +120,21 @@ fn clear_nodes(roster: &[u8], list: &mut [u32])
     }
 }
 
-// The clique list of a side.
-pub fn clique_side(words: Vocabulary, table: &[u32], roster: &[u8], sources: bool, list: &mut [u32])
+// Groups the properties that share a node at a side; the entry of an unmarked code is the first property seen at that node.
+pub fn group_side(words: Vocabulary, table: &[u32], roster: &[u8], sources: bool, list: &mut [u32])
     requires { ⌜ Right words (now roster) (triples (now table)) × (length (now list) ≡ length (now roster)) ⌝ }
-    ensures { λ r. ⌜ now (list .exit) ≡ cliques words (now (roster .entry)) (sideOf sources) (triples (now (table .entry))) ⌝ }
+    ensures { λ r. ⌜ Grouped words (now (table .entry)) (now (roster .entry)) (sideOf sources) (length (now (table .entry)) / 3) (now (list .exit)) ⌝ }
 {
     empty(list);
     link_table(words, table, roster, sources, list);
+}
+
+// The clique list of a side.
+fn clique_side(words: Vocabulary, table: &[u32], roster: &[u8], sources: bool, list: &mut [u32])
+    requires { ⌜ Right words (now roster) (triples (now table)) × (length (now list) ≡ length (now roster)) ⌝ }
+    ensures { λ r. ⌜ now (list .exit) ≡ cliques words (now (roster .entry)) (sideOf sources) (triples (now (table .entry))) ⌝ }
+{
+    group_side(words, table, roster, sources, list);
     clear_nodes(roster, list);
     flatten(list);
 }

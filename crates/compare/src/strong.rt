@@ -179,7 +179,13 @@ pub fn all(tally: &mut [u64; 145]) {
         &TYPES_AND_DATA,
     );
     graph(tally, b"one-source", 24, &ONE_SOURCE, &ONE_SOURCE_SUMMARY);
-    graph(tally, b"three-targets", 32, &THREE_TARGETS, &THREE_TARGETS_SUMMARY);
+    graph(
+        tally,
+        b"three-targets",
+        32,
+        &THREE_TARGETS,
+        &THREE_TARGETS_SUMMARY,
+    );
     graph(tally, b"no-source", 15, &NO_SOURCE, &NO_SOURCE_SUMMARY);
     graph(tally, b"class", 14, &CLASS, &CLASS);
 }

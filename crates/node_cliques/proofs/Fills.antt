@@ -38,10 +38,6 @@ module _ (test : ℕ → Bool) (x : ℕ) where
     pub filled-end : length l₀ ≤ i → Filled test x l₀ l (length l₀)
     filled-end h = record { size = d .size; passed = λ c b t. d .passed c (omega arith) t; rest = d .rest }
 
--- an entry copied, by the indexes
-pub set-copied : (l : List ℕ) (from to i j : ℕ) → i ≡ from → j ≡ to → set l j (getD l i 0) ≡ set l to (getD l from 0)
-set-copied l from to i j p q = λ k. set l (q k) (getD l (p k) 0)
-
 -- ── the tests ──
 module _ (roster : List ℕ) (i : ℕ) where
   pub is-plain : getD roster i 0 ≡ 0 → unmarked roster i ≡ true
