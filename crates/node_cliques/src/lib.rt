@@ -1,4 +1,5 @@
 // The clique of each data node at a side, as one number: the smallest property of the clique, or the code of type where it has none.
+// The groups of the properties leave a property of each node in the node's entry; its root is the smallest of the clique.
 
 ghost use mathlib.Core.Bool.{Bool};
 ghost use mathlib.Core.List.{List};

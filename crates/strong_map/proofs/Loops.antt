@@ -2,19 +2,18 @@
 -- Assumes nothing.
 use Prim.Native.Nat.{ℕ, _+_, _-_, _<_, _≤_}
 use mathlib.Core.Path.{_≡_, refl, sym, subst, _∙_, ap}
-use mathlib.Core.Logic.{_⊎_, inl, inr, ⊎-elim}
-use mathlib.Core.Bool.{Bool, true, false, not, _&&_}
+use mathlib.Core.Logic.{inl, inr, ⊎-elim}
+use mathlib.Core.Bool.{true, false, not, _&&_}
 use mathlib.Core.List.{List}
 use native.Mathlib.Omega.{arith}
-use native.Mathlib.Decide.{ℕ-discrete}
 use lib.Dec.{eqb}
-use lib.ListN.{length, getD, set, length-set}
+use lib.ListN.{length, getD, set}
 use Rattle.model.specs.declared.Vocabulary.{Vocabulary}
 use Rattle.model.specs.Codes.{absent}
 use Rattle.model.specs.Roster.{unmarked}
 use Rattle.theory.proofs.Tests.{bool-cases, not-both}
 use Rattle.node_cliques.specs.Labels.{isLabel}
-use Rattle.strong_map.specs.Threads.{Least, none, some, Groups, Node, Label, LabelsApart, From, Threaded, Walked, Settled, fresh, stale}
+use Rattle.strong_map.specs.Threads.{Least, none, some, Groups, Node, Label, From, Threaded, Walked, Settled, fresh, stale}
 use Rattle.strong_map.specs.Calls.{dataNode, Threadable, NodeThreaded, Labelled, stampOf, stamped, Settleable, NodeSettled, Walkable, Settling}
 use Rattle.strong_map.proofs.Stores.{stamp-is-node, stamp-is-other}
 use Rattle.strong_map.proofs.Threads.{thread-none, thread-node, settle-old, settle-new, walk-start, walk-end, settled-skip}

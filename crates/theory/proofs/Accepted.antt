@@ -27,7 +27,7 @@ use Rattle.model.specs.Lists.{any}
 use Rattle.theory.proofs.Flat.{triples-flat, length-flat, length-triples}
 use Rattle.theory.proofs.Covered.{Below, AllBelow, Marked, Codes, Covered, Class, Property, kind-top, property-at, class-marked, property-marked, one-of, two-of, all-codes, codes-all, all-covered, covered-all}
 use Rattle.theory.proofs.Saturated.{In, saturation-exact, saturation-below}
-use Rattle.theory.proofs.Weak.{Reps, data-kind}
+use Rattle.theory.proofs.Weak.{data-kind}
 use Rattle.theory.proofs.Images.{Covers, derives-covered}
 use Rattle.theory.proofs.Mapped.{node-below, map-reps, map-node}
 use Rattle.theory.proofs.Summaries.{condensed-exact}

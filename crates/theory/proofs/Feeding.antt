@@ -1,7 +1,7 @@
 -- The plain intake: what it holds after a list of feeds, in any order and with repeats; and that a run of feeds from an accepted
 -- opening, each keeping its promise, gives the plain intake's answers and state.
 -- Assumes nothing.
-use Prim.Native.Nat.{ℕ, _≤_, _<_, _*_, _-_, _/_}
+use Prim.Native.Nat.{ℕ, _≤_, _<_, _*_, _/_}
 use mathlib.Core.Path.{_≡_, refl, sym, subst, _∙_, ap}
 use mathlib.Core.Logic.{_⊎_, inl, inr, ⊎-elim, _↔_}
 use mathlib.Core.Bool.{Bool, true, false, cond, not, _||_}
@@ -9,7 +9,7 @@ use mathlib.Core.List.{List, [], _∷_, map, List·Memᴰ as Mem, List·Memᴰ·
 use native.Mathlib.Omega.{arith}
 use native.Mathlib.Nat.{sub-zero}
 use lib.Dec.{eqb, leb, ltb}
-use lib.ListN.{length, replicate, length-replicate, getD-replicate, length-map}
+use lib.ListN.{length, replicate, length-replicate, getD-replicate}
 use lib.Seq.{ext-getD}
 use borrow.Author.Tests.{ltb-false, leb-false, lt-leb, not-false, eqb-true, eq-eqb}
 use Rattle.model.specs.declared.Triple.{Triple}
@@ -19,15 +19,14 @@ use Rattle.model.specs.Lists.{any, all, zeros, padded}
 use Rattle.model.specs.Triples.{triples, flat, slots, holds, insert, sorted, listed}
 use Rattle.model.specs.Order.{Rising}
 use Rattle.model.specs.Roster.{coversTriple, covers, wrongRoster, wrongTriple, wrongCodes}
-use Rattle.model.specs.Partition.{label}
 use Rattle.model.specs.Cliques.{Node}
 use Rattle.model.specs.Classes.{mapOf}
-use Rattle.model.specs.Summary.{moved, condensed, summary}
+use Rattle.model.specs.Summary.{condensed, summary}
 use Rattle.model.specs.Outcomes.{Outcome, refused, accepted, Check, check, decided, Passes, wrongSize, wrongWork}
 use Rattle.model.specs.Intake.{State, Feed, judged, answer, joins, answers, heldAfter, stateOf, wrongLists, openOutcome, opened, feedChecks, Valid, Run, none, then-fed}
 use Rattle.theory.proofs.Tests.{or-false, bool-cases}
 use Rattle.theory.proofs.Lists.{any-none, none-any, all-at, at-all, mem-map}
-use Rattle.theory.proofs.Order.{holds-mem, insert-self, insert-keeps, insert-mem, insert-rising, insert-same, insert-new, sorted-length, rising-length, rising-unique, sorted-rising, sorted-mem, mem-sorted}
+use Rattle.theory.proofs.Order.{holds-mem, insert-self, insert-keeps, insert-mem, insert-rising, insert-same, insert-new, rising-length, rising-unique, sorted-rising, sorted-mem, mem-sorted}
 use Rattle.theory.proofs.Covered.{AllBelow}
 use Rattle.theory.proofs.Saturated.{In}
 use Rattle.theory.proofs.Mapped.{length-map-of, map-absent}

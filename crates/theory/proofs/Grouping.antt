@@ -4,7 +4,7 @@
 use Prim.Native.Nat.{ℕ, _≤_}
 use mathlib.Core.Path.{_≡_, refl, sym, subst, _∙_, ap}
 use mathlib.Core.Logic.{⊎-elim, _↔_}
-use mathlib.Core.List.{List, map, List·Memᴰ as Mem}
+use mathlib.Core.List.{List, map}
 use native.Mathlib.Omega.{arith}
 use native.Mathlib.Nat.{le-antisymm, le-trans}
 use lib.ListN.{length, length-map, List·getD-eq-default}
@@ -12,7 +12,7 @@ use Rattle.model.specs.declared.Triple.{Triple}
 use Rattle.model.specs.declared.Vocabulary.{Vocabulary}
 use Rattle.model.specs.Codes.{absent}
 use Rattle.model.specs.Triples.{triple}
-use Rattle.model.specs.Rules.{Derives, given}
+use Rattle.model.specs.Rules.{Derives}
 use Rattle.model.specs.Saturation.{saturation}
 use Rattle.model.specs.Partition.{label}
 use Rattle.model.specs.Cliques.{Graph, source, target, Node}
@@ -22,13 +22,13 @@ use Rattle.theory.proofs.Order.{rising-unique, rising-length}
 use Rattle.theory.proofs.Lists.{mem-map}
 use Rattle.theory.proofs.Covered.{AllBelow, Marked, Plain, by-mark}
 use Rattle.theory.proofs.Saturated.{In, saturation-exact, saturation-rising}
-use Rattle.theory.proofs.Weak.{data-node-map, data-map, Weak, itself, turned, chained, weak-nodes}
+use Rattle.theory.proofs.Weak.{Weak, itself, chained, weak-nodes}
 use Rattle.theory.proofs.Images.{Covers, node-down, node-up, weak-up, image-exact}
 use Rattle.theory.proofs.Carried.{node-image, image-node, Own, plain-down, data-node-up}
 use Rattle.theory.proofs.Quotient.{weak-image, image-weak}
-use Rattle.theory.proofs.Strong.{Strong, strong-self, strong-flip, strong-through, strong-map, strong-up, strong-weak, strong-image, image-strong}
+use Rattle.theory.proofs.Strong.{Strong, strong-self, strong-through, strong-map, strong-up, strong-weak, strong-image, image-strong}
 use Rattle.theory.proofs.Mapped.{node-or, data-or, map-reps, map-absent, length-map-of, strong-reps, strong-absent, length-strong-map}
-use Rattle.theory.proofs.Summaries.{same-reps, Same, same-sym, same-trans, same-derives, same-image, same-node, image-agree, same-weak, condensed-rising, condensed-exact}
+use Rattle.theory.proofs.Summaries.{same-reps, Same, same-sym, same-trans, same-derives, same-image, same-node, same-weak, condensed-rising, condensed-exact}
 use Rattle.theory.proofs.Accepted.{Right, type-below, room, below, covered, saturation-right, condensed-right}
 
 module _ (v : Vocabulary) (roster : List ℕ) where

@@ -105,9 +105,6 @@ module _ (v : Vocabulary) (roster : List ℕ) (ts : List Triple) (below : AllBel
       any-holds (λ t. eqb p (t .property) && links v roster e t) ts (c .has .by) (c .has .held)
       (and-both (eqb p (c .has .by .property)) _ (eq-eqb p (c .has .by .property) (sym (c .has .property))) (has-links e (c .has)))
 
-  pub cliqued-or : (e : Side) (p : ℕ) → Cliqued e p ⊎ (Cliqued e p → ⊥)
-  cliqued-or e p = ⊎-elim (λ h. inl (test-clique e p h)) (λ h. inr (λ c. true≢false (sym (clique-test e p c) ∙ h))) (bool-cases (hasClique v roster e ts p))
-
   pub cliqued-below : (e : Side) (p : ℕ) → Cliqued e p → p < length roster
   cliqued-below e p c = omega (arith, (below (c .has .by) (c .has .held)) .property, c .has .property)
 

@@ -2,14 +2,12 @@
 -- Assumes nothing.
 use Prim.Native.Nat.{ℕ, zero, suc, _≤_, _<_, min, max}
 use mathlib.Core.Path.{_≡_, refl, sym, subst, _∙_, ap}
-use mathlib.Core.Logic.{_⊎_, ⊎-elim}
+use mathlib.Core.Logic.{⊎-elim}
 use mathlib.Core.Bool.{Bool, true, false, cond}
 use mathlib.Core.List.{List, [], _∷_, map, List·Memᴰ as Mem, List·Memᴰ·head as here, List·Memᴰ·tail as there, List·Memᴰ·not-nil as no-mem, List·Memᴰ·cases-cons as mem-cases}
 use native.Mathlib.Omega.{arith}
-use native.Mathlib.Nat.{le-antisymm}
 use lib.Dec.{eqb, leb}
 use lib.ListN.{length, length-map}
-use lib.Seq.{ext-getD}
 use borrow.Author.Tests.{eqb-true, eq-eqb, ne-eqb, leb-true, leb-false}
 use Rattle.model.specs.Codes.{absent}
 use Rattle.model.specs.Lists.{collect, when, tabulate}
@@ -174,16 +172,3 @@ pub length-merged : (ps : List Pair) (m : List ℕ) → length (merged ps m) ≡
 unfolding merged union
 length-merged [] m = refl
 length-merged (p ∷ ps) m = length-map (merged ps m) _ ∙ length-merged ps m
-
--- ── two lists of labels for one relation are the same list ──
--- where the related codes have one label, and it can be told which codes are active
-pub labels-unique : (Active : ℕ → Type 0) (W : ℕ → ℕ → Type 0) (m k : List ℕ) → Labels Active W m → Labels Active W k
-    → ((x y : ℕ) → W x y → label m x ≡ label m y) → ((x y : ℕ) → W x y → label k x ≡ label k y)
-    → ((x : ℕ) → Active x ⊎ (Active x → ⊥)) → length m ≡ length k → m ≡ k
-labels-unique Active W m k M K f g d l =
-    ext-getD absent m k l
-    (λ x h. ⊎-elim
-    (λ a. le-antisymm
-    (subst (λ (z : ℕ). z ≤ label k x) (sym (f x (label k x) (K .related x a))) (M .low (label k x) (K .active x a)))
-    (subst (λ (z : ℕ). z ≤ label m x) (sym (g x (label m x) (M .related x a))) (K .low (label m x) (M .active x a))))
-    (λ n. M .silent x n ∙ sym (K .silent x n)) (d x))

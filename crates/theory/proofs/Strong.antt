@@ -2,8 +2,8 @@
 -- the other has. It is the strong equivalence that 02 words through cliques, and it is finer than weak equivalence.
 -- Assumes nothing.
 use Prim.Native.Nat.{ℕ, _≤_}
-use mathlib.Core.Path.{_≡_, refl, sym, subst, _∙_, ap}
-use mathlib.Core.Logic.{_⊎_, inl, inr, ⊎-elim}
+use mathlib.Core.Path.{_≡_, refl, sym, subst, _∙_}
+use mathlib.Core.Logic.{_⊎_, inl, inr}
 use mathlib.Core.Bool.{true}
 use mathlib.Core.List.{List}
 use Rattle.model.specs.declared.Triple.{Triple}
@@ -13,12 +13,12 @@ use Rattle.model.specs.Triples.{isData}
 use Rattle.model.specs.Rules.{Derives, given, by-rule}
 use Rattle.model.specs.Cliques.{Graph, Side, source, target, end, Node, Has, Clique, shared, linked}
 use Rattle.model.specs.Classes.{DataNode, SameClique, neither, in-one, Strongly}
-use Rattle.model.specs.Summary.{moved, Image}
-use Rattle.theory.proofs.Covered.{Marked, Plain}
+use Rattle.model.specs.Summary.{Image}
+use Rattle.theory.proofs.Covered.{Plain}
 use Rattle.theory.proofs.RuleLaws.{laws}
 use Rattle.theory.proofs.Weak.{HasData, data-kind, kind-data, has-data, data-has, has-node, has-map, data-node-map, clique-sym, clique-self, clique-weak, Weak, by-none}
 use Rattle.theory.proofs.Images.{Covers, derives-covered}
-use Rattle.theory.proofs.Carried.{Own, Keeps, has-up, data-node-up, Below-has, has-down, plain-down}
+use Rattle.theory.proofs.Carried.{Own, Keeps, has-up, data-node-up, has-down, plain-down}
 
 module _ (v : Vocabulary) (roster : List ℕ) where
   -- a property of the node that is in a clique with p

@@ -1,13 +1,12 @@
 -- `strong_map::thread_nodes` meets its contract.
 -- Assumes nothing.
-use Prim.Native.Nat.{ℕ, _≤_}
+use Prim.Native.Nat.{_≤_}
 use mathlib.Core.Path.{refl}
 use native.Mathlib.Omega.{arith}
 use lib.ListN.{length}
 use Rattle.strong_map.specs.Threads.{Groups, Threaded}
 use Rattle.strong_map.specs.Calls.{Labelled}
 use Rattle.strong_map.proofs.Loops.{threads-start, thread-ready, threads-step, threads-end}
-use borrow.Author.Needs.{needs}
 use Rattle.strong_map.proofs.thread_nodes.Statement.{statement}
 use Rattle.strong_map.proofs.thread_nodes.Tie as tie
 use Rattle.strong_map.proofs.thread_nodes.Reads as reads
