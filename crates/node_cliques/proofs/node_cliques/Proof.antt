@@ -12,7 +12,7 @@ group-side-requires c κs = search needs
 label-nodes-requires : tie.Need-label-nodes-requires
 label-nodes-requires c κs =
     let s = c .before .before .before .before .before .before .before .before in
-    some-properties _ (s .args .table .now) (s .args .roster .now) (sideOf (s .args .sources)) (s .pre .0) _ (c .before .before .before .group-side .ensures)
+    some-properties _ (s .args .table .now) (s .args .roster .now) _ (s .pre .0) _ (c .before .before .before .group-side .ensures)
 
 empty-labels-requires : tie.Need-empty-labels-requires
 empty-labels-requires c κs = search needs
