@@ -8,10 +8,10 @@ use Rattle.site_form.proofs.Whole.{reads-exactly}
 use Rattle.site_form.proofs.Back.{written-is-read}
 use Rattle.site_form.proofs.Queries.{counts-patterns}
 use Rattle.site_form.proofs.Example.{sign-bytes, prints-example}
-use Rattle.demands.specs.Demands.{GraphsRight, StrongGraphsRight, ClosuresRight, Demand2, Demand3, SiteForms}
+use Rattle.demands.specs.Demands.{GraphsRight, StrongGraphsRight, ClosuresRight, Demand2, Demand3, AtRest, SiteForms}
 use Rattle.demands.proofs.NoneMeansNone.{none-means-none}
 use Rattle.demands.proofs.Feeds.{list-of-calls}
-use Rattle.demands.proofs.Routes.{accepted-calls, shortcut-of-calls, strong-shortcut-of-calls, weak-of-strong-calls, none-of-calls, ask-refuses-six}
+use Rattle.demands.proofs.Routes.{accepted-calls, shortcut-of-calls, strong-shortcut-of-calls, weak-of-strong-calls, at-rest-of-calls, strong-at-rest-of-calls, leaves-saturated, none-of-calls, ask-refuses-six}
 
 pub graphs-right : GraphsRight
 graphs-right = graphs.graphs-right
@@ -56,6 +56,18 @@ demand-3 =
       strong-none-of-calls = λ v. none-of-calls v (strongMapOf v);
       whole-list = theorems.whole-list;
       list-of-calls = list-of-calls;
+    }
+
+pub at-rest : AtRest
+at-rest =
+    record {
+      at-rest = theorems.at-rest-holds;
+      strong-at-rest = theorems.strong-at-rest-holds;
+      again-the-same = theorems.again-the-same;
+      strong-again-the-same = theorems.strong-again-the-same;
+      leaves-saturated = leaves-saturated;
+      at-rest-of-calls = at-rest-of-calls;
+      strong-at-rest-of-calls = strong-at-rest-of-calls;
     }
 
 pub site-forms : SiteForms

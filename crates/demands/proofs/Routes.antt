@@ -1,9 +1,9 @@
--- Demand 3 over the calls.
+-- Demand 3 and summaries at rest, over the calls.
 -- Assumes nothing.
-use Prim.Native.Nat.{ℕ, _*_}
-use mathlib.Core.Path.{_≡_, refl, sym, subst, _∙_, ap}
+use Prim.Native.Nat.{ℕ, _*_, _≤_}
+use mathlib.Core.Path.{_≡_, refl, sym, subst, subst₂, _∙_, ap}
 use mathlib.Core.Bool.{Bool, true, false, not, _||_}
-use mathlib.Core.List.{List, [], _∷_, _++_}
+use mathlib.Core.List.{List, [], _∷_, _++_, List·Memᴰ as Mem}
 use native.Mathlib.Omega.{arith}
 use lib.Dec.{eqb, ltb}
 use borrow.Author.Tests.{eq-eqb}
@@ -15,6 +15,7 @@ use Rattle.model.specs.Codes.{wrongWords}
 use Rattle.model.specs.Lists.{padded}
 use Rattle.model.specs.Triples.{triples, flat, listed, slots}
 use Rattle.model.specs.Partition.{label}
+use Rattle.model.specs.Cliques.{Node}
 use Rattle.model.specs.Classes.{mapOf, strongMapOf}
 use Rattle.model.specs.Summary.{condensed, summary, strongSummary}
 use Rattle.model.specs.Saturation.{saturation}
@@ -24,8 +25,8 @@ use Rattle.theory.proofs.Tests.{or-false, or-neither}
 use Rattle.theory.proofs.Checks.{passed, passed-all, first-passes, passes-first, not-accepted, no-checks}
 use Rattle.table_checks.proofs.Laws.{enough}
 use Rattle.theory.proofs.Flat.{triples-flat, length-flat}
-use Rattle.theory.specs.Theorems.{sumBy, ShortcutBy}
-use Rattle.theory.proofs.Theorems.{shortcut-holds, strong-shortcut-holds, weak-of-strong-holds, own-roster-least}
+use Rattle.theory.specs.Theorems.{sumBy, ShortcutBy, RoutesBy, Saturated, AtRestBy}
+use Rattle.theory.proofs.Theorems.{shortcut-holds, routes-accepted, strong-shortcut-holds, strong-routes-accepted, weak-of-strong-holds, at-rest-holds, strong-at-rest-holds, saturation-saturated, own-roster-least}
 use Rattle.theory.proofs.Accepted.{Right, saturation-right, summary-right, right-accepted}
 use Rattle.theory.proofs.Summaries.{condensed-length}
 use Rattle.theory.proofs.Mapped.{length-map-of}
@@ -33,7 +34,7 @@ use Rattle.demands.proofs.NoneMeansNone.{none-means-none}
 use Rattle.model.specs.Roster.{ownRoster, wrongCodes}
 use Rattle.query.specs.Ask.{askOutcome, askChecks}
 use Rattle.query.specs.Match.{Match}
-use Rattle.demands.specs.Routes.{tableIn, Lent, SummarisesBy, AcceptsSummarise, Saturates, AcceptedCalls, ShortcutOfCallsBy, ShortcutOfCalls, StrongShortcutOfCalls, WeakOfStrongCalls, NoneOfCallsBy, AskRefusesSix}
+use Rattle.demands.specs.Routes.{tableIn, Lent, LongEnough, SummarisesBy, AcceptsSummarise, Saturates, AcceptedCalls, ShortcutOfCallsBy, ShortcutOfCalls, StrongShortcutOfCalls, WeakOfStrongCalls, AtRestOfCallsBy, AtRestOfCalls, StrongAtRestOfCalls, LeavesSaturated, NoneOfCallsBy, AskRefusesSix}
 
 -- what a list that lists triples begins with
 listed-table : (n : ℕ) (ts : List Triple) (c : ℕ) → length ts ≡ c → tableIn c (listed n ts) ≡ flat ts
@@ -186,12 +187,12 @@ module _ (v : Vocabulary) where
   -- ── long enough lists ──
   accepts-summarise : (mapped : List ℕ → List Triple → List ℕ) (table roster : List ℕ) → Accepted v table roster → AcceptsSummarise v mapped table roster
   unfolding summariseOutcomeBy wrongWork
-  accepts-summarise mapped table roster h l m w few =
+  accepts-summarise mapped table roster h l long =
       let n = length (condensed (mapped roster (triples table)) (triples table)) in
       let lengths : (not (eqb (length (l .map)) (length roster)) || not (eqb (length (l .work)) (2 * length roster))) ≡ false =
-      or-neither (not (eqb (length (l .map)) (length roster))) _ (ap not (eq-eqb _ _ m)) (ap not (eq-eqb _ _ w)) in
+      or-neither (not (eqb (length (l .map)) (length roster))) _ (ap not (eq-eqb _ _ (long .map-size))) (ap not (eq-eqb _ _ (long .work-size))) in
       ap (λ (b : Bool). checked (tableChecks v b table roster ++ check 5 (ltb (slots (l .result)) n) ∷ []) n) lengths
-      ∙ enough (tableChecks v false table roster) (slots (l .result)) n h few
+      ∙ enough (tableChecks v false table roster) (slots (l .result)) n h (long .room)
 
   pub accepted-calls : AcceptedCalls v
   unfolding saturateOutcome saturated
@@ -201,3 +202,73 @@ module _ (v : Vocabulary) where
         summarises = accepts-summarise (mapOf v) table roster h;
         strongly-summarises = accepts-summarise (strongMapOf v) table roster h;
       }
+
+  -- so a saturate of an accepted table leaves its saturation, where there are slots for it
+  runs-saturate : (table roster result : List ℕ) (ts : List Triple) → saturation v (length roster) (triples table) ≡ ts → Accepted v table roster → length ts ≤ slots result
+      → Saturates v table roster result (length ts) (flat ts)
+  unfolding saturateLeaves saturated left
+  runs-saturate table roster result ts e h few =
+      let sat = saturation v (length roster) (triples table) in
+      let r : saturateOutcome v table roster result ≡ accepted (length ts) =
+      subst (λ (us : List Triple). length us ≤ slots result → saturateOutcome v table roster result ≡ accepted (length us)) e (accepted-calls table roster h .saturates result) few in
+      record {
+        returns = r;
+        triples = sym (ap (λ (o : Outcome ℕ). tableIn (length ts) (left o result (listed (length result) sat))) r
+            ∙ ap (λ (us : List Triple). tableIn (length ts) (listed (length result) us)) e
+            ∙ listed-table (length result) ts (length ts) refl);
+      }
+
+  module _ (mapped : List ℕ → List Triple → List ℕ) where
+    -- and a summarise its summary
+    runs-summarise : (table roster : List ℕ) (l : Lent) (ts : List Triple) → condensed (mapped roster (triples table)) (triples table) ≡ ts → Accepted v table roster
+        → LongEnough roster (length ts) l → SummarisesBy v mapped table roster l (length ts) (flat ts) (mapped roster (triples table))
+    unfolding summariseLeavesBy left
+    runs-summarise table roster l ts e h long =
+        let m = mapped roster (triples table) in
+        let r : summariseOutcomeBy v m table roster (l .result) (l .map) (l .work) ≡ accepted (length ts) =
+        subst (λ (us : List Triple). LongEnough roster (length us) l → summariseOutcomeBy v m table roster (l .result) (l .map) (l .work) ≡ accepted (length us)) e
+        (accepts-summarise mapped table roster h l) long in
+        record {
+          returns = r;
+          triples = sym (ap (λ (o : Outcome ℕ). tableIn (length ts) (left o (l .result) (listed (length (l .result)) (condensed m (triples table))))) r
+              ∙ ap (λ (us : List Triple). tableIn (length ts) (listed (length (l .result)) us)) e
+              ∙ listed-table (length (l .result)) ts (length ts) refl);
+          representatives = sym (ap (λ (o : Outcome ℕ). left o (l .map) m) r);
+        }
+
+    -- ── a shipped summary is at rest ──
+    at-rest-by-calls : ((table roster : List ℕ) → Accepted v table roster → RoutesBy v (mapped roster) table roster)
+        → ((table roster : List ℕ) → Accepted v table roster → Saturated v table → AtRestBy v (mapped roster) table roster) → AtRestOfCallsBy v mapped
+    at-rest-by-calls routes holds table roster l count summary map closed h =
+        let S = sum-is mapped table roster l summary map count h in
+        let R = holds table roster (S .accepts) closed in
+        let by = sumBy v (mapped roster) in
+        let ts = by (triples table) in
+        let held : triples summary ≡ ts = left-is summary ts (S .is) in
+        let sat : saturation v (length roster) (triples summary) ≡ ts = ap (saturation v (length roster)) held ∙ R .saturated in
+        let two : by (triples summary) ≡ ts = ap by held ∙ R .again .same-triples in
+        let accepts : Accepted v summary roster = subst (λ (xs : List ℕ). Accepted v xs roster) (sym (S .is)) (routes table roster (S .accepts) .summary-accepted) in
+        let m : mapped roster (triples summary) ≡ mapped roster ts = ap (mapped roster) held in
+        record {
+          saturates = λ result few.
+              subst₂ (λ (c : ℕ) (xs : List ℕ). Saturates v summary roster result c xs) (S .counts) (sym (S .is))
+              (runs-saturate summary roster result ts sat accepts (subst (λ (c : ℕ). c ≤ slots result) (sym (S .counts)) few));
+          again = mapped roster (triples summary);
+          summarises = λ k long.
+              subst₂ (λ (c : ℕ) (xs : List ℕ). SummarisesBy v mapped summary roster k c xs (mapped roster (triples summary))) (S .counts) (sym (S .is))
+              (runs-summarise summary roster k ts two accepts (subst (λ (c : ℕ). LongEnough roster c k) (sym (S .counts)) long));
+          own-nodes = λ x n.
+              ap (λ (z : List ℕ). label z x) m ∙ R .again .own-nodes x (subst (λ (us : List Triple). Node (λ t. Mem t us) x) held n);
+          carried = λ x. (λ i. label (m i) (label (S .maps i) x)) ∙ R .again .carried x ∙ ap (λ (z : List ℕ). label z x) (sym (S .maps));
+        }
+
+  pub at-rest-of-calls : AtRestOfCalls v
+  at-rest-of-calls = at-rest-by-calls (mapOf v) (routes-accepted v) (at-rest-holds v)
+
+  pub strong-at-rest-of-calls : StrongAtRestOfCalls v
+  strong-at-rest-of-calls = at-rest-by-calls (strongMapOf v) (strong-routes-accepted v) (strong-at-rest-holds v)
+
+  pub leaves-saturated : LeavesSaturated v
+  leaves-saturated table roster result count out h =
+      let S = sat-is table roster result out count h in
+      subst (Saturated v) (sym (S .is)) (saturation-saturated v table roster (S .accepts))

@@ -14,10 +14,10 @@ use Rattle.query.specs.Match.{AskExact}
 use Rattle.site_form.specs.Reading.{ReadsExactly, CountsPatterns, loaded}
 use Rattle.site_form.specs.Writing.{WrittenIsRead, lineOf}
 use Rattle.site_form.specs.Example.{SignBytes, PrintsExample}
-use Rattle.theory.specs.Theorems.{SaturationExact, ConstraintsFollow, CliquesExact, RepresentativesExact, SummaryExact, StrongRepresentativesExact, StrongSummaryExact, OwnRosterLeast, ShortcutHolds, RoutesAccepted, StrongShortcutHolds, StrongRoutesAccepted, WeakOfStrongHolds, AnyOrder, FedInAnyOrder, WholeList}
+use Rattle.theory.specs.Theorems.{SaturationExact, ConstraintsFollow, CliquesExact, RepresentativesExact, SummaryExact, StrongRepresentativesExact, StrongSummaryExact, OwnRosterLeast, ShortcutHolds, RoutesAccepted, StrongShortcutHolds, StrongRoutesAccepted, WeakOfStrongHolds, AtRestHolds, StrongAtRestHolds, AgainTheSame, StrongAgainTheSame, AnyOrder, FedInAnyOrder, WholeList}
 use Rattle.demands.specs.NoneMeansNone.{NoneMeansNone, StrongNoneMeansNone}
 use Rattle.demands.specs.Feeds.{ListOfCalls}
-use Rattle.demands.specs.Routes.{AcceptedCalls, ShortcutOfCalls, StrongShortcutOfCalls, WeakOfStrongCalls, NoneOfCalls, StrongNoneOfCalls, AskRefusesSix}
+use Rattle.demands.specs.Routes.{AcceptedCalls, ShortcutOfCalls, StrongShortcutOfCalls, WeakOfStrongCalls, AtRestOfCalls, StrongAtRestOfCalls, LeavesSaturated, NoneOfCalls, StrongNoneOfCalls, AskRefusesSix}
 
 -- the small graphs of 01, computed, with the saturation that 02 gives the six triples, and two graphs with reserved codes of their own
 abbrev pub GraphsRight : Type 0
@@ -60,6 +60,18 @@ pub record Demand3 : Type 0 where
   pub strong-none-of-calls : (v : Vocabulary) → StrongNoneOfCalls v
   pub whole-list : (v : Vocabulary) → WholeList v
   pub list-of-calls : (v : Vocabulary) → ListOfCalls v
+
+-- 02: "A shipped summary is at rest.": "the weak summary of a saturated table is saturated already, and .. summarising it again under the
+-- same roster yields the same triples and maps each of its nodes to itself. Let this cover the strong summary and every loaded word table"
+pub record AtRest : Type 0 where
+  pub at-rest : (v : Vocabulary) → AtRestHolds v
+  pub strong-at-rest : (v : Vocabulary) → StrongAtRestHolds v
+  pub again-the-same : (v : Vocabulary) → AgainTheSame v
+  pub strong-again-the-same : (v : Vocabulary) → StrongAgainTheSame v
+  -- as calls: saturate, then summarise, then both again
+  pub leaves-saturated : (v : Vocabulary) → LeavesSaturated v
+  pub at-rest-of-calls : (v : Vocabulary) → AtRestOfCalls v
+  pub strong-at-rest-of-calls : (v : Vocabulary) → StrongAtRestOfCalls v
 
 -- the site form: read exactly, read back as written, and the example printed
 pub record SiteForms : Type 0 where

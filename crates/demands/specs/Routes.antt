@@ -1,4 +1,5 @@
--- Demand 3 over the calls, each on what the call before left. A list is long enough where the call is accepted.
+-- Demand 3 and summaries at rest, over the calls, each on what the call before left. Where a statement supposes an accepted call, its lists
+-- are long enough; `AcceptedCalls` and `ReworksBy` promise that a call is accepted where they are.
 -- Assumes nothing.
 use Prim.Native.Nat.{ℕ, _*_, _≤_}
 use mathlib.Core.Path.{_≡_}
@@ -20,8 +21,10 @@ use Rattle.site_form.specs.Printing.{printerSlots}
 use Rattle.model.specs.declared.Vocabulary.{Vocabulary}
 use Rattle.model.specs.Codes.{wrongWords}
 use Rattle.model.specs.Partition.{label}
+use Rattle.model.specs.Cliques.{Node}
 use Rattle.model.specs.Outcomes.{accepted, refused, wrongSize}
 use Rattle.model.specs.Calls.{Accepted, saturateOutcome, saturateLeaves, summariseOutcomeBy, summariseLeavesBy}
+use Rattle.theory.specs.Theorems.{TriplesOf, Saturated}
 
 -- the table that a call left in its result list: the triples that it counted
 abbrev pub tableIn : ℕ → List ℕ → List ℕ
@@ -32,6 +35,12 @@ pub record Lent : Type 0 where
   pub result : List ℕ
   pub map : List ℕ
   pub work : List ℕ
+
+-- lists lent to a summarise that are long enough for so many triples
+pub record LongEnough (roster : List ℕ) (count : ℕ) (l : Lent) : Type 0 where
+  pub map-size : length (l .map) ≡ length roster
+  pub work-size : length (l .work) ≡ 2 * length roster
+  pub room : count ≤ slots (l .result)
 
 module _ (v : Vocabulary) where
   -- by any way to map the nodes of triples with a roster
@@ -49,7 +58,7 @@ module _ (v : Vocabulary) where
     -- with lists that are long enough a summarise is accepted
     abbrev pub AcceptsSummarise : List ℕ → List ℕ → Type 0
     AcceptsSummarise table roster =
-        (l : Lent) → length (l .map) ≡ length roster → length (l .work) ≡ 2 * length roster → length (condensed (mapIn table roster) (triples table)) ≤ slots (l .result)
+        (l : Lent) → LongEnough roster (length (condensed (mapIn table roster) (triples table))) l
         → summariseOutcomeBy v (mapIn table roster) table roster (l .result) (l .map) (l .work) ≡ accepted (length (condensed (mapIn table roster) (triples table)))
 
   abbrev pub Summarises : List ℕ → List ℕ → Lent → ℕ → List ℕ → List ℕ → Type 0
@@ -100,6 +109,39 @@ module _ (v : Vocabulary) where
       (table roster : List ℕ) (l k m : Lent) (a b c : ℕ) (strong sum own f g h : List ℕ)
       → StrongSummarises table roster l a strong f → Summarises strong roster k b sum g → Summarises table roster m c own h
       → (b ≡ c) × (sum ≡ own) × ((x : ℕ) → label g (label f x) ≡ label h x)
+
+  -- ── a shipped summary is at rest ──
+  -- 02: "Controllers reload and rework their summary at each boot."
+  -- A summary of so many triples, with the map that came with it, is reworked with lists that are long enough for it.
+  pub record ReworksBy (mapped : List ℕ → List Triple → List ℕ) (summary roster map : List ℕ) (count : ℕ) : Type 0 where
+    -- "saturated already": a saturate of it is accepted with its count and leaves its triples
+    pub saturates : (result : List ℕ) → count ≤ slots result → Saturates summary roster result count summary
+    -- the map that a summarise of it leaves
+    pub again : List ℕ
+    -- "summarising it again under the same roster yields the same triples"
+    pub summarises : (l : Lent) → LongEnough roster count l → SummarisesBy mapped summary roster l count summary again
+    -- "and maps each of its nodes to itself"
+    pub own-nodes : (x : ℕ) → Node (TriplesOf summary) x → label again x ≡ x
+    -- and leads on from the map that came with it to the same representatives
+    pub carried : (x : ℕ) → label again (label map x) ≡ label map x
+
+  -- 02: "the weak summary of a saturated table is saturated already, and .. summarising it again under the same roster yields the same
+  -- triples and maps each of its nodes to itself": whatever a summarise of a saturated table left
+  abbrev pub AtRestOfCallsBy : (List ℕ → List Triple → List ℕ) → Type 0
+  AtRestOfCallsBy mapped =
+      (table roster : List ℕ) (l : Lent) (count : ℕ) (summary map : List ℕ)
+      → Saturated v table → SummarisesBy mapped table roster l count summary map → ReworksBy mapped summary roster map count
+
+  abbrev pub AtRestOfCalls : Type 0
+  AtRestOfCalls = AtRestOfCallsBy (mapOf v)
+
+  -- 02: "Let this cover the strong summary"
+  abbrev pub StrongAtRestOfCalls : Type 0
+  StrongAtRestOfCalls = AtRestOfCallsBy (strongMapOf v)
+
+  -- what a saturate left is a saturated table
+  abbrev pub LeavesSaturated : Type 0
+  LeavesSaturated = (table roster result : List ℕ) (count : ℕ) (out : List ℕ) → Saturates table roster result count out → Saturated v out
 
   -- none means no match, as calls: saturate, summarise, ask
   abbrev pub NoneOfCallsBy : (List ℕ → List Triple → List ℕ) → Type 0

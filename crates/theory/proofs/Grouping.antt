@@ -4,7 +4,7 @@
 use Prim.Native.Nat.{ℕ, _≤_}
 use mathlib.Core.Path.{_≡_, refl, sym, subst, _∙_, ap}
 use mathlib.Core.Logic.{⊎-elim, _↔_}
-use mathlib.Core.List.{List, map}
+use mathlib.Core.List.{List, map, List·Memᴰ as Mem}
 use native.Mathlib.Omega.{arith}
 use native.Mathlib.Nat.{le-antisymm, le-trans}
 use lib.ListN.{length, length-map, List·getD-eq-default}
@@ -12,7 +12,7 @@ use Rattle.model.specs.declared.Triple.{Triple}
 use Rattle.model.specs.declared.Vocabulary.{Vocabulary}
 use Rattle.model.specs.Codes.{absent}
 use Rattle.model.specs.Triples.{triple}
-use Rattle.model.specs.Rules.{Derives}
+use Rattle.model.specs.Rules.{Derives, given}
 use Rattle.model.specs.Saturation.{saturation}
 use Rattle.model.specs.Partition.{label}
 use Rattle.model.specs.Cliques.{Graph, source, target, Node}
@@ -28,7 +28,7 @@ use Rattle.theory.proofs.Carried.{node-image, image-node, Own, plain-do
 use Rattle.theory.proofs.Quotient.{weak-image, image-weak}
 use Rattle.theory.proofs.Strong.{Strong, strong-self, strong-through, strong-map, strong-up, strong-weak, strong-image, image-strong}
 use Rattle.theory.proofs.Mapped.{node-or, data-or, map-reps, map-absent, length-map-of, strong-reps, strong-absent, length-strong-map}
-use Rattle.theory.proofs.Summaries.{same-reps, Same, same-sym, same-trans, same-derives, same-image, same-node, same-weak, condensed-rising, condensed-exact}
+use Rattle.theory.proofs.Summaries.{same-reps, Same, same-sym, same-trans, same-derives, same-image, same-node, image-agree, same-weak, condensed-rising, condensed-exact}
 use Rattle.theory.proofs.Accepted.{Right, type-below, room, below, covered, saturation-right, condensed-right}
 
 module _ (v : Vocabulary) (roster : List ℕ) where
@@ -220,6 +220,46 @@ module _ (v : Vocabulary) (roster : List ℕ) where
                 (λ t m. let w = (sum-sat t) .0 m in mem-map (moved f) long (w .0) ((long-is (w .0)) .1 (w .1)) (w .2)),
             length-map long (moved f),
           )
+
+      -- ── at rest ──
+      abbrev k : ℕ → ℕ
+      k = label (K .map-of (sum ts))
+
+      sum-is : Same (In (sum ts)) (Image f (In ts))
+      sum-is = condensed-exact (K .map-of ts) ts
+
+      again : RepresentsBy v roster (K .E (Image f (In ts))) (Image f (In ts)) k
+      again = same-grouped sum-is (K .reps (sum ts) (below v roster (sum ts) sum-right) (room v roster ts R))
+
+      -- the second map after the first is the first
+      pub rest-carried : (c : ℕ) → k (f c) ≡ f c
+      rest-carried c = ⊎-elim (quotient-map (In ts) f (F .of-marked) (F .of-data) falls-in f k F again c) none-at (node-or ts c)
+        where
+          none-at : (Node (In ts) c → ⊥) → k (f c) ≡ f c
+          none-at x =
+              let r = room v roster ts R in
+              let e = K .absents ts (below v roster ts R) r c x in
+              ap k e ∙ List·getD-eq-default (K .map-of (sum ts)) absent (subst (λ (z : ℕ). z ≤ absent) (sym (K .size (sum ts))) r) ∙ sym e
+
+      -- each node of the summary is its own representative: no saturation is needed for that
+      pub rest-own : (c : ℕ) → Node (In (sum ts)) c → k c ≡ c
+      rest-own c x = let n = image-node f (same-node sum-is x) in subst (λ (z : ℕ). k z ≡ z) (n .2) (rest-carried (n .0))
+
+      -- and the triples are the same
+      pub rest-again : sum (sum ts) ≡ sum ts
+      rest-again =
+          rising-unique (sum (sum ts)) (sum ts) (condensed-rising (K .map-of (sum ts)) (sum ts)) (condensed-rising (K .map-of ts) ts)
+          (same-trans (condensed-exact (K .map-of (sum ts)) (sum ts))
+          (λ t. (
+            λ w. let z = image-agree {G = In (sum ts)} k (λ c. c) rest-own t w in subst (λ (u : Triple). Mem u (sum ts)) (sym (z .2)) (z .1),
+            λ m. image-agree {G = In (sum ts)} (λ c. c) k (λ c x. sym (rest-own c x)) t (t, m, refl),
+          )))
+
+      -- the summary of a saturated table is saturated
+      pub rest-saturated : ((t : Triple) → Derives v (In ts) t → Mem t ts) → short ≡ sum ts
+      rest-saturated closed =
+          rising-unique short (sum ts) (saturation-rising v (length roster) (type-below R) (sum ts) (below v roster (sum ts) sum-right)) (condensed-rising (K .map-of ts) ts)
+          (same-trans sum-sat (same-trans (same-image f (λ t. (closed t, λ x. given x))) (same-sym sum-is)))
 
   -- ── the weak summary of the strong summary ──
   module _ (ts : List Triple) (R : Right v roster ts) where
