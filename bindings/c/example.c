@@ -1,5 +1,6 @@
-/* The papers' example through the C interface: read, own roster, saturate, summarise, ask, and an intake; then the same with
-   other words than 0 to 4, and the two summaries of a chain. Each result is checked against the papers'. */
+/* The papers' example through the C interface: read, own roster, saturate, summarise, the same two on the summary, ask, and an
+   intake; then all of it with other words than 0 to 4, and the two summaries of a chain. Each result is checked against the
+   papers'. */
 #include <stdio.h>
 #include <string.h>
 
@@ -80,6 +81,23 @@ static size_t saturate_and_summarise(uint32_t n) {
     return count;
 }
 
+/* What a controller does at each boot: it saturates its summary and summarises that, here into as many numbers as the summary
+   has. The summary of a saturated table stays as it is. The second map has its nodes only, so the first is kept. */
+static void rework(uint32_t n, size_t count) {
+    static uint32_t again[sizeof SUMMARY / sizeof *SUMMARY], second[OTHER_N];
+    size_t all = 0, same = 0;
+    uint32_t status = ws_saturate(words, WS_WORDS_NUMBERS, summary, 3 * count, roster, n, saturated, 3 * count, &all);
+    check(status == WS_OK && all == count && memcmp(saturated, summary, sizeof again) == 0, "the summary is saturated already");
+    status = ws_summarise(words, WS_WORDS_NUMBERS, saturated, 3 * all, roster, n, again, sizeof again / sizeof *again, second, n,
+                          work, 2 * n, &same);
+    check(status == WS_OK && same == count && memcmp(again, summary, sizeof again) == 0, "summarised again it is the same");
+    int right = 1;
+    for (uint32_t c = 0; c < n; c++) {
+        right = right && second[c] == (map[c] == c ? c : WS_ABSENT);
+    }
+    check(right, "each of its nodes represents itself, all other codes are absent");
+}
+
 static void ask_both(uint32_t n, size_t count) {
     static const uint32_t expected[2] = {1, 0};
     for (size_t k = 0; k < 2; k++) {
@@ -116,6 +134,7 @@ static void the_papers_words(void) {
     size_t count = saturate_and_summarise(N);
     check(count == 14 && memcmp(summary, SUMMARY, sizeof SUMMARY) == 0, "summary of 14 triples");
     check(memcmp(map, MAP, sizeof MAP) == 0, "map");
+    rework(N, count);
     ask_both(N, count);
     feed_all(N);
 }
@@ -138,6 +157,7 @@ static void other_words(void) {
         absent = absent && map[c] == WS_ABSENT;
     }
     check(absent && memcmp(map, OTHER_MAP, sizeof OTHER_MAP) == 0, "map, other words");
+    rework(OTHER_N, count);
     ask_both(OTHER_N, count);
     feed_all(OTHER_N);
     write_back();

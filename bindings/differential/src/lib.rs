@@ -7,6 +7,7 @@ mod generate;
 mod long;
 mod random;
 mod report;
+mod rest;
 mod shapes;
 mod tables;
 mod texts;
@@ -32,7 +33,7 @@ pub struct Options {
 /// Cases of each call for one chain of feeds.
 const PER_CHAIN: usize = 8;
 
-/// Random cases of each call, and a chain of feeds.
+/// Random cases of each call, both summaries reworked, and a chain of feeds.
 fn turn(random: &mut Random, report: &mut Report, mistake: Mistake) {
     for _ in 0..PER_CHAIN {
         tables::own_roster(random, report);
@@ -45,6 +46,8 @@ fn turn(random: &mut Random, report: &mut Report, mistake: Mistake) {
         texts::read(random, report);
         texts::write(random, report);
     }
+    rest::rework(random, report, mistake, &tables::WEAK);
+    rest::rework(random, report, mistake, &tables::STRONG);
     feeds::open(random, report);
     feeds::altered(random, report);
     feeds::feeds(random, report, mistake);

@@ -2,8 +2,10 @@
 
 use crate::asks;
 use crate::feeds;
+use crate::generate::Site;
 use crate::random::Random;
 use crate::report::Report;
+use crate::rest;
 use crate::shapes;
 use crate::tables::{self, Lent, STRONG, WEAK};
 use crate::words::{self, free_code, Words, RDFS};
@@ -87,6 +89,21 @@ fn saturations(random: &mut Random, report: &mut Report, mistake: Mistake) {
     }
 }
 
+/// Both summaries of long saturations, reworked.
+fn reworks(random: &mut Random, report: &mut Report, mistake: Mistake) {
+    for (n, amount, slots) in [(300, 2_000, 60_000), (2_000, 20_000, 400_000)] {
+        for words in [RDFS, words::others(random, n)] {
+            let table = large_table(random, &words, n, amount);
+            let Lent { words: list, table, roster, .. } = lent(random, &words, &table, n, 0);
+            let site = Site { n, right_words: words, words: list, table, roster };
+            for summary in [&WEAK, &STRONG] {
+                let worked = rest::compare(random, report, mistake, summary, &site, slots);
+                assert!(worked || mistake != Mistake::None, "a long rework was refused");
+            }
+        }
+    }
+}
+
 /// Lengths at the limits and just over them.
 fn limits(random: &mut Random, report: &mut Report) {
     for amount in [MAX_TRIPLES, MAX_TRIPLES + 1] {
@@ -124,5 +141,6 @@ pub fn all(random: &mut Random, report: &mut Report, mistake: Mistake) {
     // The wrong saturations take all pairs, which is too slow here.
     if !matches!(mistake, Mistake::OneRound | Mistake::WrongWay) {
         saturations(random, report, mistake);
+        reworks(random, report, mistake);
     }
 }

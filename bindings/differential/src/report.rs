@@ -10,6 +10,9 @@ pub enum Call {
     Cliques,
     Summarise,
     SummariseStrong,
+    /// A chain of four calls, counted as one.
+    Rework,
+    ReworkStrong,
     LookUp,
     Ask,
     Open,
@@ -27,6 +30,8 @@ impl Call {
             Call::Cliques => "cliques",
             Call::Summarise => "summarise",
             Call::SummariseStrong => "summarise strongly",
+            Call::Rework => "rework",
+            Call::ReworkStrong => "rework strongly",
             Call::LookUp => "look up",
             Call::Ask => "ask",
             Call::Open => "open",

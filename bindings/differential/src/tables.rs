@@ -107,14 +107,20 @@ type Plain = fn(Mistake, &[u32], &[u32], &[u8], [&mut [u32]; 3], &mut usize) -> 
 /// A summary by both engines.
 pub struct Summary {
     call: Call,
-    proved: Proved,
-    plain: Plain,
+    pub rework: Call,
+    pub proved: Proved,
+    pub plain: Plain,
 }
 
-pub const WEAK: Summary = Summary { call: Call::Summarise, proved: proved::summarise, plain: plain::summarise_with };
+pub const WEAK: Summary =
+    Summary { call: Call::Summarise, rework: Call::Rework, proved: proved::summarise, plain: plain::summarise_with };
 
-pub const STRONG: Summary =
-    Summary { call: Call::SummariseStrong, proved: proved::summarise_strong, plain: plain::summarise_strong_with };
+pub const STRONG: Summary = Summary {
+    call: Call::SummariseStrong,
+    rework: Call::ReworkStrong,
+    proved: proved::summarise_strong,
+    plain: plain::summarise_strong_with,
+};
 
 /// The number of triples of the summary.
 fn summary_size(summary: &Summary, site: &generate::Site) -> usize {

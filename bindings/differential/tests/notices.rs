@@ -10,12 +10,14 @@ fn options(mistake: Mistake, shown: usize) -> Options {
 fn engines_agree_and_every_refusal_occurs() {
     let report = run(&Options { cases: 60_000, ..options(Mistake::None, 20) });
     assert_eq!(report.differences, 0);
-    let refusals: [(Call, &[usize]); 11] = [
+    let refusals: [(Call, &[usize]); 13] = [
         (Call::OwnRoster, &[1, 3, 10]),
         (Call::Saturate, &[1, 2, 3, 4, 5, 10]),
         (Call::Cliques, &[1, 2, 3, 4, 10]),
         (Call::Summarise, &[1, 2, 3, 4, 5, 10]),
         (Call::SummariseStrong, &[1, 2, 3, 4, 5, 10]),
+        (Call::Rework, &[]),
+        (Call::ReworkStrong, &[]),
         (Call::LookUp, &[1]),
         (Call::Ask, &[1, 3, 6, 10]),
         (Call::Open, &[1, 2, 10]),
@@ -42,5 +44,14 @@ fn strong_summaries_notice_their_mistakes() {
     use Mistake::{ClassLinks, FirstSeen, FixedWords, NoneMatchesAll, NoneMatchesNothing};
     for mistake in [ClassLinks, FirstSeen, FixedWords, NoneMatchesAll, NoneMatchesNothing] {
         assert!(run(&options(mistake, 0)).differs(Call::SummariseStrong), "{}", mistake.name());
+    }
+}
+
+#[test]
+fn reworks_notice_mistakes() {
+    use Mistake::{ClassLinks, FirstSeen, OneRound, WrongWay};
+    for mistake in [ClassLinks, FirstSeen, OneRound, WrongWay] {
+        let report = run(&options(mistake, 0));
+        assert!(report.differs(Call::Rework) && report.differs(Call::ReworkStrong), "{}", mistake.name());
     }
 }

@@ -2,9 +2,9 @@
 
 mod common;
 
-use common::{map_with, roster_of, saturation_of, strong_summary_of, summary_of};
+use common::{map_with, reworked, roster_of, saturation_of, strong_summary_of, summary_of, Summarise};
 use common::{RDFS, SIX, SIX_NODES, SIX_SATURATED, SIX_SUMMARY};
-use weak_summary::{ask, cliques, own_roster, saturate, summarise};
+use weak_summary::{ask, cliques, own_roster, saturate, summarise, summarise_strong};
 use weak_summary::{Answer, End, Intake, Pattern, Query, Refusal, Words, ABSENT};
 
 /// Type at 310; codes 0 to 4 are free. N is 311.
@@ -99,6 +99,19 @@ fn strong_summaries_are_renamed() {
         let summary = names.triples(&[10, 5, 12, 10, 5, 13, 12, 6, 14]);
         let found = strong_summary_of(names.words, &table, names.n);
         assert_eq!(found, (summary, names.list(&nodes)), "{:?}", names.words);
+    }
+}
+
+#[test]
+fn summaries_rest() {
+    let own: Vec<(usize, u32)> = SIX_NODES.into_iter().filter(|&(code, to)| code == to as usize).collect();
+    for names in renamings() {
+        let roster = roster_of(names.words, &names.triples(&SIX), names.n);
+        let summary = names.triples(&SIX_SUMMARY);
+        let expected = [summary.clone(), summary.clone(), names.list(&own)];
+        for call in [summarise as Summarise, summarise_strong] {
+            assert_eq!(reworked(call, names.words, &summary, &roster), expected, "{:?}", names.words);
+        }
     }
 }
 

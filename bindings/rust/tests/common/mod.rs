@@ -65,6 +65,16 @@ pub fn saturation_of(words: Words, table: &[u32], n: usize, slots: usize) -> Res
     Ok(result)
 }
 
+/// What reworking a summary leaves, in lists just long enough for it: its saturation, the summary of that, and the second map.
+pub fn reworked(call: Summarise, words: Words, summary: &[u32], roster: &[u8]) -> [Vec<u32>; 3] {
+    let (mut saturated, mut again) = (vec![9; summary.len()], vec![9; summary.len()]);
+    let (mut map, mut work) = (vec![9; roster.len()], vec![9; 2 * roster.len()]);
+    assert_eq!(saturate(words, summary, roster, &mut saturated), Ok(summary.len() / 3));
+    assert_eq!(call(words, &saturated, roster, &mut again, &mut map, &mut work), Ok(summary.len() / 3));
+    assert!(work.iter().all(|&x| x == 0));
+    [saturated, again, map]
+}
+
 /// A map of n entries with these nodes and their representatives.
 pub fn map_with(n: usize, nodes: &[(usize, u32)]) -> Vec<u32> {
     let mut map = vec![ABSENT; n];
