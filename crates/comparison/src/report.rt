@@ -113,6 +113,13 @@ pub fn sized(call: usize, n: usize, expected: u32, got: u32) {
     print(b")\n");
 }
 
+// How many tables had their summaries worked again.
+pub fn reworked(tables: u64) {
+    print(b"(reworked tables ");
+    print_number(tables);
+    print(b")\n");
+}
+
 fn sum(tally: &[u64; 145], call: usize) -> u64 {
     let mut total = 0;
     let mut column = 0;
