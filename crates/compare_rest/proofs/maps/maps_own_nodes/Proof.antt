@@ -14,43 +14,33 @@ Inv-loop map summary n code₀ code = Unit {0}
 abbrev μ-loop : tie.MeasureT-loop
 μ-loop map summary n code₀ code = n - code
 
--- src/maps.rt:38:13
 at-most-requires : tie.Need-at-most-requires Inv-loop μ-loop
 at-most-requires c κs = search needs
 
--- src/maps.rt:38:13
 cast-n : tie.Need-cast-n Inv-loop μ-loop
 cast-n c = search needs
 
--- src/maps.rt:40:5
 loop-holds : tie.Need-loop-holds Inv-loop μ-loop
 loop-holds c = search needs
 
--- src/maps.rt:41:12
 entry-requires : tie.Need-entry-requires Inv-loop μ-loop
 entry-requires c κs = search needs
 
--- src/maps.rt:41:32
 own-entry-requires : tie.Need-own-entry-requires Inv-loop μ-loop
 own-entry-requires c κs = search needs
 
--- src/maps.rt:42:13
 returns : tie.Need-returns Inv-loop μ-loop
 returns c = search needs
 
--- src/maps.rt:44:9
 add-code : tie.Need-add-code Inv-loop μ-loop
 add-code c = search needs
 
--- src/maps.rt:40:5
 loop-less : tie.Need-loop-less Inv-loop μ-loop
 loop-less c = search needs
 
--- src/maps.rt:40:5
 loop-again : tie.Need-loop-again Inv-loop μ-loop
 loop-again c = search needs
 
--- src/maps.rt:37:1
 returns-2 : tie.Need-returns-2 Inv-loop μ-loop
 returns-2 c = search needs
 

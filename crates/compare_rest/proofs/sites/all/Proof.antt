@@ -14,35 +14,27 @@ Inv-loop tally₀ count₀ seed₀ tally count seed = Unit {0}
 abbrev μ-loop : tie.MeasureT-loop
 μ-loop tally₀ count₀ seed₀ tally count seed = 100000 - seed
 
--- src/sites.rt:82:5
 loop-holds : tie.Need-loop-holds Inv-loop μ-loop
 loop-holds c = search needs
 
--- src/sites.rt:83:51
 site-case-requires : tie.Need-site-case-requires Inv-loop μ-loop
 site-case-requires c κs = search needs
 
--- src/sites.rt:83:9
 wrapping-add-u64-requires : tie.Need-wrapping-add-u64-requires Inv-loop μ-loop
 wrapping-add-u64-requires c κs = search needs
 
--- src/sites.rt:84:9
 add-seed : tie.Need-add-seed Inv-loop μ-loop
 add-seed c = search needs
 
--- src/sites.rt:82:5
 loop-less : tie.Need-loop-less Inv-loop μ-loop
 loop-less c = search needs
 
--- src/sites.rt:82:5
 loop-again : tie.Need-loop-again Inv-loop μ-loop
 loop-again c = search needs
 
--- src/sites.rt:86:5
 reworked-requires : tie.Need-reworked-requires Inv-loop μ-loop
 reworked-requires c κs = search needs
 
--- src/sites.rt:79:1
 returns : tie.Need-returns Inv-loop μ-loop
 returns c = search needs
 
