@@ -140,11 +140,11 @@ uint32_t ws_cliques(const uint32_t *words, size_t words_length, const uint32_t *
  *   10, 2, 3, 4
  *   5  the summary has more triples than the result has slots: result, map and work are zero
  * The others alter nothing.
- * A table is saturated if it holds all that the ten rules give from it, as what ws_saturate leaves does. Its summary is at
- * rest: ws_saturate and ws_summarise of the summary's 3 * *count numbers (not the zeros behind them), with the same words and
- * roster and with lists that are long enough for it, give the same triples. The second map has the summary's nodes only, each
- * its own representative. So keep the first map: a code that another represents is absent in the second, and ws_ask answers
- * "none" to a query with it.
+ * A table is saturated if it holds all that the ten rules give from it, as the triples that ws_saturate leaves do. Its
+ * summary is at rest: ws_saturate and ws_summarise of the summary's 3 * *count numbers (not the zeros behind them), with the
+ * same words and roster and with lists that are long enough for it, give the same triples. The second map has the summary's
+ * nodes only, each its own representative. So keep the first map: a code that another represents is absent in the second, and
+ * asked by the second map a counted pattern with it has no match.
  */
 uint32_t ws_summarise(const uint32_t *words, size_t words_length, const uint32_t *table, size_t table_length,
                       const uint8_t *roster, size_t roster_length, uint32_t *result, size_t result_length,

@@ -167,6 +167,7 @@ pub fn result_length(random: &mut Random, count: usize) -> usize {
 }
 
 /// A table with its words and its roster. Some are damaged, in one place or in several.
+#[derive(Debug)]
 pub struct Site {
     pub n: usize,
     /// The words that the table was made with.

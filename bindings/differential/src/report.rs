@@ -94,7 +94,7 @@ impl Report {
     pub fn compare<L: PartialEq + Debug>(
         &mut self,
         call: Call,
-        before: &L,
+        before: &impl Debug,
         proved: Outcome<L>,
         plain: Outcome<L>,
         yes: bool,

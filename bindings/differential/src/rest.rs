@@ -8,7 +8,7 @@ use weak_summary::calls as proved;
 use weak_summary_reference::{self as plain, Mistake, ABSENT};
 
 /// A summary with its map, and what saturating it and summarising that leave.
-#[derive(Clone, PartialEq, Eq, Debug, Default)]
+#[derive(PartialEq, Eq, Debug, Default)]
 struct Reworked {
     summary: Vec<u32>,
     map: Vec<u32>,
@@ -17,18 +17,22 @@ struct Reworked {
     second: Vec<u32>,
 }
 
-/// What no call answers: the rest of a result list, or a work list, is not zero.
-const NOT_ZERO: u32 = u32::MAX;
+/// What no call answers: the rest of a result list, or a work list, is not zero, or a count is beyond the list.
+const WRONG_LIST: u32 = u32::MAX;
+
+fn zero(list: &[u32]) -> Result<(), u32> {
+    if list.iter().any(|&x| x != 0) {
+        return Err(WRONG_LIST);
+    }
+    Ok(())
+}
 
 /// The triples of a result list, if the call was accepted.
 fn cut(status: u32, mut list: Vec<u32>, count: usize) -> Result<Vec<u32>, u32> {
     if status != 0 {
         return Err(status);
     }
-    let rest = list.get(3 * count..).ok_or(NOT_ZERO)?;
-    if rest.iter().any(|&x| x != 0) {
-        return Err(NOT_ZERO);
-    }
+    zero(list.get(3 * count..).ok_or(WRONG_LIST)?)?;
     list.truncate(3 * count);
     Ok(list)
 }
@@ -46,17 +50,21 @@ fn summarise(random: &mut Random, summary: &Summary, site: &Site, table: &[u32])
     let status = (summary.proved)(&site.words, table, &site.roster, result, map, work, &mut count);
     let [result, map, work] = lists;
     let triples = cut(status, result, count)?;
-    cut(0, work, 0)?;
+    zero(&work)?;
     Ok([triples, map])
 }
 
-/// The proved engine: saturates and summarises a table, then does both again with lists just long enough.
-fn work_twice(random: &mut Random, summary: &Summary, site: &Site, slots: usize) -> Result<Reworked, u32> {
-    let table = saturate(random, site, &site.table, slots)?;
-    let [shipped, map] = summarise(random, summary, site, &table)?;
+/// The proved engine: summarises a table, then saturates and summarises the summary with lists just long enough.
+fn ship(random: &mut Random, summary: &Summary, site: &Site, table: &[u32]) -> Result<Reworked, u32> {
+    let [shipped, map] = summarise(random, summary, site, table)?;
     let saturated = saturate(random, site, &shipped, shipped.len() / 3)?;
     let [again, second] = summarise(random, summary, site, &saturated)?;
     Ok(Reworked { summary: shipped, map, saturated, again, second })
+}
+
+fn saturate_and_ship(random: &mut Random, summary: &Summary, site: &Site, slots: usize) -> Result<Reworked, u32> {
+    let table = saturate(random, site, &site.table, slots)?;
+    ship(random, summary, site, &table)
 }
 
 /// The nodes of a summary, each its own representative.
@@ -90,7 +98,7 @@ fn outcome(result: Result<Reworked, u32>) -> Outcome<Reworked> {
     }
 }
 
-/// Compares a site whose saturation has at most so many triples. One that is refused is no case; says whether it is one.
+/// Compares the reworks of a site, and says whether its saturation fits in the slots and was accepted: only then is it a case.
 pub fn compare(
     random: &mut Random,
     report: &mut Report,
@@ -100,16 +108,46 @@ pub fn compare(
     slots: usize,
 ) -> bool {
     let theirs = outcome(expected(mistake, summary, site, slots));
+    assert_ne!(theirs.status, WRONG_LIST);
     if theirs.status != 0 {
         return false;
     }
-    let ours = outcome(work_twice(random, summary, site, slots));
-    let before = Reworked { summary: site.table.clone(), ..Reworked::default() };
-    report.compare(summary.rework, &before, ours, theirs, true);
+    let ours = outcome(saturate_and_ship(random, summary, site, slots));
+    report.compare(summary.rework, site, ours, theirs, true);
     true
 }
 
+/// Slots for the saturation of a random site; one that needs more is no case.
+const SLOTS: usize = 3_000;
+
 pub fn rework(random: &mut Random, report: &mut Report, mistake: Mistake, summary: &Summary) {
     let site = generate::site(random);
-    compare(random, report, mistake, summary, &site, 3_000);
+    compare(random, report, mistake, summary, &site, SLOTS);
+}
+
+#[cfg(test)]
+mod tests {
+    use super::*;
+    use crate::tables::{STRONG, WEAK};
+    use crate::words::RDFS;
+
+    /// A site of 14 codes with this table and its own roster.
+    fn site(table: &[u32]) -> Site {
+        let mut roster = vec![0; 14];
+        plain::own_roster(&RDFS, table, &mut roster);
+        Site { n: 14, right_words: RDFS, words: RDFS.to_vec(), table: table.to_vec(), roster }
+    }
+
+    /// Without the saturation first the summary is not at rest: it has no slot for what the rules add.
+    #[test]
+    fn table_that_is_not_saturated() {
+        let site = site(&[5, 3, 8, 10, 5, 12, 11, 5, 13]);
+        for summary in [WEAK, STRONG] {
+            let random = &mut Random::new(1);
+            assert_eq!(ship(random, &summary, &site, &site.table), Err(5));
+            let worked = saturate_and_ship(random, &summary, &site, 5).unwrap();
+            assert_eq!(worked.again, [5, 3, 8, 10, 0, 8, 10, 5, 12]);
+            assert_eq!(worked, expected(Mistake::None, &summary, &site, 5).unwrap());
+        }
+    }
 }

@@ -158,8 +158,8 @@ fn ship_into(
     end
 }
 
-// Summarises a saturated table into a result list and reworks what that leaves; leaves the second map. Answers the numbers of the
-// summary's triples.
+// Summarises a saturated table into a result list and reworks what that leaves; leaves the second map. Answers how many
+// numbers the summary's triples take.
 pub fn ship(
     tally: &mut [u64; 145],
     call: usize,

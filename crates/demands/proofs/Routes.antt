@@ -253,12 +253,13 @@ module _ (v : Vocabulary) where
           saturates = λ result few.
               subst₂ (λ (c : ℕ) (xs : List ℕ). Saturates v summary roster result c xs) (S .counts) (sym (S .is))
               (runs-saturate summary roster result ts sat accepts (subst (λ (c : ℕ). c ≤ slots result) (sym (S .counts)) few));
-          again = mapped roster (triples summary);
           summarises = λ k long.
               subst₂ (λ (c : ℕ) (xs : List ℕ). SummarisesBy v mapped summary roster k c xs (mapped roster (triples summary))) (S .counts) (sym (S .is))
               (runs-summarise summary roster k ts two accepts (subst (λ (c : ℕ). LongEnough roster c k) (sym (S .counts)) long));
           own-nodes = λ x n.
               ap (λ (z : List ℕ). label z x) m ∙ R .again .own-nodes x (subst (λ (us : List Triple). Node (λ t. Mem t us) x) held n);
+          no-node = λ x n.
+              ap (λ (z : List ℕ). label z x) m ∙ R .again .no-node x (λ y. n (subst (λ (us : List Triple). Node (λ t. Mem t us) x) (sym held) y));
           carried = λ x. (λ i. label (m i) (label (S .maps i) x)) ∙ R .again .carried x ∙ ap (λ (z : List ℕ). label z x) (sym (S .maps));
         }
 

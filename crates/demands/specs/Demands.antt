@@ -61,8 +61,9 @@ pub record Demand3 : Type 0 where
   pub whole-list : (v : Vocabulary) → WholeList v
   pub list-of-calls : (v : Vocabulary) → ListOfCalls v
 
--- 02: "A shipped summary is at rest.": "the weak summary of a saturated table is saturated already, and .. summarising it again under the
--- same roster yields the same triples and maps each of its nodes to itself. Let this cover the strong summary and every loaded word table"
+-- 02: "A shipped summary is at rest. .. State that the weak summary of a saturated table is saturated already, and that summarising it again
+-- under the same roster yields the same triples and maps each of its nodes to itself. Let this cover the strong summary and every loaded word
+-- table as well."
 pub record AtRest : Type 0 where
   pub at-rest : (v : Vocabulary) → AtRestHolds v
   pub strong-at-rest : (v : Vocabulary) → StrongAtRestHolds v

@@ -19,7 +19,7 @@ use Rattle.query.specs.Match.{Match}
 use Rattle.site_form.specs.Reading.{queryOf}
 use Rattle.site_form.specs.Printing.{printerSlots}
 use Rattle.model.specs.declared.Vocabulary.{Vocabulary}
-use Rattle.model.specs.Codes.{wrongWords}
+use Rattle.model.specs.Codes.{absent, wrongWords}
 use Rattle.model.specs.Partition.{label}
 use Rattle.model.specs.Cliques.{Node}
 use Rattle.model.specs.Outcomes.{accepted, refused, wrongSize}
@@ -110,39 +110,6 @@ module _ (v : Vocabulary) where
       → StrongSummarises table roster l a strong f → Summarises strong roster k b sum g → Summarises table roster m c own h
       → (b ≡ c) × (sum ≡ own) × ((x : ℕ) → label g (label f x) ≡ label h x)
 
-  -- ── a shipped summary is at rest ──
-  -- 02: "Controllers reload and rework their summary at each boot."
-  -- A summary of so many triples, with the map that came with it, is reworked with lists that are long enough for it.
-  pub record ReworksBy (mapped : List ℕ → List Triple → List ℕ) (summary roster map : List ℕ) (count : ℕ) : Type 0 where
-    -- "saturated already": a saturate of it is accepted with its count and leaves its triples
-    pub saturates : (result : List ℕ) → count ≤ slots result → Saturates summary roster result count summary
-    -- the map that a summarise of it leaves
-    pub again : List ℕ
-    -- "summarising it again under the same roster yields the same triples"
-    pub summarises : (l : Lent) → LongEnough roster count l → SummarisesBy mapped summary roster l count summary again
-    -- "and maps each of its nodes to itself"
-    pub own-nodes : (x : ℕ) → Node (TriplesOf summary) x → label again x ≡ x
-    -- and leads on from the map that came with it to the same representatives
-    pub carried : (x : ℕ) → label again (label map x) ≡ label map x
-
-  -- 02: "the weak summary of a saturated table is saturated already, and .. summarising it again under the same roster yields the same
-  -- triples and maps each of its nodes to itself": whatever a summarise of a saturated table left
-  abbrev pub AtRestOfCallsBy : (List ℕ → List Triple → List ℕ) → Type 0
-  AtRestOfCallsBy mapped =
-      (table roster : List ℕ) (l : Lent) (count : ℕ) (summary map : List ℕ)
-      → Saturated v table → SummarisesBy mapped table roster l count summary map → ReworksBy mapped summary roster map count
-
-  abbrev pub AtRestOfCalls : Type 0
-  AtRestOfCalls = AtRestOfCallsBy (mapOf v)
-
-  -- 02: "Let this cover the strong summary"
-  abbrev pub StrongAtRestOfCalls : Type 0
-  StrongAtRestOfCalls = AtRestOfCallsBy (strongMapOf v)
-
-  -- what a saturate left is a saturated table
-  abbrev pub LeavesSaturated : Type 0
-  LeavesSaturated = (table roster result : List ℕ) (count : ℕ) (out : List ℕ) → Saturates table roster result count out → Saturated v out
-
   -- none means no match, as calls: saturate, summarise, ask
   abbrev pub NoneOfCallsBy : (List ℕ → List Triple → List ℕ) → Type 0
   NoneOfCallsBy mapped =
@@ -163,3 +130,36 @@ module _ (v : Vocabulary) where
       (n : ℕ) (ts : List Triple) (ps : List Pattern) (r : ℕ) → wrongSize n ≡ false → wrongWords v n ≡ false → wrongCodes v n ts ≡ false → length (saturation v n ts) ≤ printerSlots
       → askOutcome v (flat (summary v (ownRoster v n ts) (saturation v n ts))) (mapOf v (ownRoster v n ts) (saturation v n ts)) (queryOf ps) ≡ refused r
       → r ≡ 6
+
+  -- ── a shipped summary is at rest ──
+  -- by any way to map the nodes of triples with a roster
+  module _ (mapped : List ℕ → List Triple → List ℕ) where
+    -- 02: "Controllers reload and rework their summary at each boot."
+    -- A summary of so many triples, with the map that came with it, is reworked with lists that are long enough for it.
+    pub record ReworksBy (summary roster map : List ℕ) (count : ℕ) : Type 0 where
+      -- a saturate of it is accepted with its count and leaves its triples
+      pub saturates : (result : List ℕ) → count ≤ slots result → Saturates summary roster result count summary
+      -- so does a summarise
+      pub summarises : (l : Lent) → LongEnough roster count l → SummarisesBy mapped summary roster l count summary (mapIn mapped summary roster)
+      -- and its map gives each node of the summary itself, and absent for every other code
+      pub own-nodes : (x : ℕ) → Node (TriplesOf summary) x → label (mapIn mapped summary roster) x ≡ x
+      pub no-node : (x : ℕ) → (Node (TriplesOf summary) x → ⊥) → label (mapIn mapped summary roster) x ≡ absent
+      -- from the map that came with the summary it leads on to the same representatives
+      pub carried : (x : ℕ) → label (mapIn mapped summary roster) (label map x) ≡ label map x
+
+    -- whatever a summarise of a saturated table left
+    abbrev pub AtRestOfCallsBy : Type 0
+    AtRestOfCallsBy =
+        (table roster : List ℕ) (l : Lent) (count : ℕ) (summary map : List ℕ)
+        → Saturated v table → SummarisesBy mapped table roster l count summary map → ReworksBy summary roster map count
+
+  abbrev pub AtRestOfCalls : Type 0
+  AtRestOfCalls = AtRestOfCallsBy (mapOf v)
+
+  -- 02: "Let this cover the strong summary"
+  abbrev pub StrongAtRestOfCalls : Type 0
+  StrongAtRestOfCalls = AtRestOfCallsBy (strongMapOf v)
+
+  -- what a saturate left is a saturated table
+  abbrev pub LeavesSaturated : Type 0
+  LeavesSaturated = (table roster result : List ℕ) (count : ℕ) (out : List ℕ) → Saturates table roster result count out → Saturated v out

@@ -245,7 +245,11 @@ module _ (v : Vocabulary) (roster : List ℕ) where
       pub rest-own : (c : ℕ) → Node (In (sum ts)) c → k c ≡ c
       rest-own c x = let n = image-node f (same-node sum-is x) in subst (λ (z : ℕ). k z ≡ z) (n .2) (rest-carried (n .0))
 
-      -- and the triples are the same
+      -- and every other code is absent
+      pub rest-absent : (c : ℕ) → (Node (In (sum ts)) c → ⊥) → k c ≡ absent
+      rest-absent = K .absents (sum ts) (below v roster (sum ts) sum-right) (room v roster ts R)
+
+      -- the triples are the same
       pub rest-again : sum (sum ts) ≡ sum ts
       rest-again =
           rising-unique (sum (sum ts)) (sum ts) (condensed-rising (K .map-of (sum ts)) (sum ts)) (condensed-rising (K .map-of ts) ts)

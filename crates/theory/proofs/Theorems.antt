@@ -17,7 +17,7 @@ use Rattle.model.specs.Cliques.{Clique, linked}
 use Rattle.model.specs.Summary.{summary}
 use Rattle.model.specs.Calls.{Accepted, tableChecks}
 use Rattle.model.specs.Outcomes.{wrongLength, wrongSize}
-use Rattle.theory.specs.Theorems.{TriplesOf, Implied, Source, SaturationExact, ConstraintsFollow, CliquesExact, RepresentativesExact, SummaryExact, StrongRepresentativesExact, StrongSummaryExact, OwnRosterLeast, ShortcutBy, RoutesBy, AgainBy, AtRestBy, ShortcutHolds, RoutesAccepted, StrongShortcutHolds, StrongRoutesAccepted, WeakOfStrongHolds, Saturated, AtRestHolds, StrongAtRestHolds, AgainTheSame, StrongAgainTheSame, SaturationSaturated, AnyOrder, WholeList, FedInAnyOrder}
+use Rattle.theory.specs.Theorems.{TriplesOf, InSaturation, Source, SaturationExact, ConstraintsFollow, CliquesExact, RepresentativesExact, SummaryExact, StrongRepresentativesExact, StrongSummaryExact, OwnRosterLeast, ShortcutBy, RoutesBy, AgainBy, AtRestBy, ShortcutHolds, RoutesAccepted, StrongShortcutHolds, StrongRoutesAccepted, WeakOfStrongHolds, Saturated, AtRestHolds, StrongAtRestHolds, AgainTheSame, StrongAgainTheSame, SaturationSaturated, AnyOrder, WholeList, FedInAnyOrder}
 use Rattle.theory.proofs.Tests.{or-false}
 use Rattle.theory.proofs.Checks.{passes-first}
 use Rattle.theory.proofs.Flat.{triples-flat}
@@ -48,7 +48,7 @@ module _ (v : Vocabulary) where
     Derived s p o = Derives v (TriplesOf table) (triple s p o)
 
     abbrev Held : ℕ → ℕ → ℕ → Type 0
-    Held s p o = Implied v table roster s p o
+    Held s p o = InSaturation v table roster s p o
 
     held : (s p o : ℕ) → Derived s p o → Held s p o
     held s p o d = ((saturation-exact table roster h) .exact (triple s p o)) .1 d
@@ -212,7 +212,13 @@ module _ (v : Vocabulary) where
         }
 
     again-by : AgainBy v (K .map-of) table
-    again-by = record { same-triples = grouping.rest-again v roster K ts R; own-nodes = grouping.rest-own v roster K ts R; carried = grouping.rest-carried v roster K ts R }
+    again-by =
+        record {
+          same-triples = grouping.rest-again v roster K ts R;
+          own-nodes = grouping.rest-own v roster K ts R;
+          no-node = grouping.rest-absent v roster K ts R;
+          carried = grouping.rest-carried v roster K ts R;
+        }
 
     at-rest-by : Saturated v table → AtRestBy v (K .map-of) table roster
     at-rest-by closed = record { saturated = grouping.rest-saturated v roster K ts R closed; again = again-by }
@@ -233,25 +239,6 @@ module _ (v : Vocabulary) where
   weak-of-strong-holds table roster h =
       let R = accept.accepted-right v table roster h in
       record { triples = grouping.weak-of-strong v roster (triples table) R; maps = grouping.strong-then-weak v roster (triples table) R }
-
-  pub at-rest-holds : AtRestHolds v
-  at-rest-holds table roster h = at-rest-by table roster h (weakly v roster)
-
-  pub strong-at-rest-holds : StrongAtRestHolds v
-  strong-at-rest-holds table roster h = at-rest-by table roster h (strongly v roster)
-
-  pub again-the-same : AgainTheSame v
-  again-the-same table roster h = again-by table roster h (weakly v roster)
-
-  pub strong-again-the-same : StrongAgainTheSame v
-  strong-again-the-same table roster h = again-by table roster h (strongly v roster)
-
-  pub saturation-saturated : SaturationSaturated v
-  saturation-saturated table roster h =
-      let S = saturation-exact table roster h in
-      let ts = saturation v (length roster) (triples table) in
-      subst (λ (us : List Triple). (t : Triple) → Derives v (In us) t → In us t) (sym (triples-flat ts))
-      (λ t d. (S .exact t) .1 (saturated.derives-cut v (λ u m. (S .exact u) .0 m) d))
 
   pub any-order : AnyOrder v
   any-order table roster h space few fs work same =
@@ -282,3 +269,23 @@ module _ (v : Vocabulary) where
         held = ap (λ (x : State). x .held) e ∙ ap {B = ℕ} (λ (ts : List Triple). length ts) (c .held);
         summarised = ap (λ (x : State). x .summarised) e ∙ ap {B = ℕ} (λ (ts : List Triple). length ts) (c .summarised);
       }
+
+  -- ── a shipped summary is at rest ──
+  pub at-rest-holds : AtRestHolds v
+  at-rest-holds table roster h = at-rest-by table roster h (weakly v roster)
+
+  pub strong-at-rest-holds : StrongAtRestHolds v
+  strong-at-rest-holds table roster h = at-rest-by table roster h (strongly v roster)
+
+  pub again-the-same : AgainTheSame v
+  again-the-same table roster h = again-by table roster h (weakly v roster)
+
+  pub strong-again-the-same : StrongAgainTheSame v
+  strong-again-the-same table roster h = again-by table roster h (strongly v roster)
+
+  pub saturation-saturated : SaturationSaturated v
+  saturation-saturated table roster h =
+      let S = saturation-exact table roster h in
+      let ts = saturation v (length roster) (triples table) in
+      subst (λ (us : List Triple). (t : Triple) → Derives v (In us) t → In us t) (sym (triples-flat ts))
+      (λ t d. (S .exact t) .1 (saturated.derives-cut v (λ u m. (S .exact u) .0 m) d))

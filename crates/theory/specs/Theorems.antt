@@ -46,8 +46,8 @@ module _ (v : Vocabulary) where
   SaturationExact = (table roster : List ℕ) → Accepted v table roster → Saturation table roster
 
   -- a triple of the saturation
-  abbrev pub Implied : List ℕ → List ℕ → ℕ → ℕ → ℕ → Type 0
-  Implied table roster s p o = Mem (triple s p o) (saturationOf table roster)
+  abbrev pub InSaturation : List ℕ → List ℕ → ℕ → ℕ → ℕ → Type 0
+  InSaturation table roster s p o = Mem (triple s p o) (saturationOf table roster)
 
   -- the table's triple from which the triple a p d follows, p being domain or range: at a or at a property above it, with d or with a class
   -- below it
@@ -55,19 +55,19 @@ module _ (v : Vocabulary) where
     pub property : ℕ
     pub class : ℕ
     pub given : Mem (triple property p class) (triples table)
-    pub above : (a ≡ property) ⊎ Implied table roster a (v .subproperty) property
-    pub below : (class ≡ d) ⊎ Implied table roster class (v .subclass) d
+    pub above : (a ≡ property) ⊎ InSaturation table roster a (v .subproperty) property
+    pub below : (class ≡ d) ⊎ InSaturation table roster class (v .subclass) d
 
   pub record Constraints (table roster : List ℕ) : Type 0 where
     -- 02: "Rule 7: a subproperty b, b domain c give a domain c. Rule 8: the same for range."
-    pub rule-7 : (a b c : ℕ) → Implied table roster a (v .subproperty) b → Implied table roster b (v .domain) c → Implied table roster a (v .domain) c
-    pub rule-8 : (a b c : ℕ) → Implied table roster a (v .subproperty) b → Implied table roster b (v .range) c → Implied table roster a (v .range) c
+    pub rule-7 : (a b c : ℕ) → InSaturation table roster a (v .subproperty) b → InSaturation table roster b (v .domain) c → InSaturation table roster a (v .domain) c
+    pub rule-8 : (a b c : ℕ) → InSaturation table roster a (v .subproperty) b → InSaturation table roster b (v .range) c → InSaturation table roster a (v .range) c
     -- 02: "Rule 9: a domain c, c subclass d give a domain d. Rule 10: the same for range."
-    pub rule-9 : (a c d : ℕ) → Implied table roster a (v .domain) c → Implied table roster c (v .subclass) d → Implied table roster a (v .domain) d
-    pub rule-10 : (a c d : ℕ) → Implied table roster a (v .range) c → Implied table roster c (v .subclass) d → Implied table roster a (v .range) d
+    pub rule-9 : (a c d : ℕ) → InSaturation table roster a (v .domain) c → InSaturation table roster c (v .subclass) d → InSaturation table roster a (v .domain) d
+    pub rule-10 : (a c d : ℕ) → InSaturation table roster a (v .range) c → InSaturation table roster c (v .subclass) d → InSaturation table roster a (v .range) d
     -- and no other domain or range is in it: each has its source in the table, by the saturation's own subproperties and subclasses
-    pub domains : (a d : ℕ) → Implied table roster a (v .domain) d ↔ Source table roster (v .domain) a d
-    pub ranges : (a d : ℕ) → Implied table roster a (v .range) d ↔ Source table roster (v .range) a d
+    pub domains : (a d : ℕ) → InSaturation table roster a (v .domain) d ↔ Source table roster (v .domain) a d
+    pub ranges : (a d : ℕ) → InSaturation table roster a (v .range) d ↔ Source table roster (v .range) a d
     -- 02: "Planners read domain and range lines straight off the printout": the summary of the saturation has the same schema triples as the saturation
     pub printed : (t : Triple) → 1 ≤ kind v (t .property) → kind v (t .property) ≤ 4
         → Mem t (summary v roster (saturationOf table roster)) ↔ Mem t (saturationOf table roster)
@@ -154,20 +154,6 @@ module _ (v : Vocabulary) where
       pub shorter : length (shortBy table roster) ≤ length (saturationOf table roster)
       pub second-accepted : length (shortBy table roster) ≤ mostTriples → Accepted v (flat (shortBy table roster)) roster
 
-    -- 02: "summarising it again under the same roster yields the same triples and maps each of its nodes to itself"; `mapped` is by one roster
-    pub record AgainBy (table : List ℕ) : Type 0 where
-      pub same-triples : sumBy (sumBy (triples table)) ≡ sumBy (triples table)
-      pub own-nodes : (c : ℕ) → Node (λ t. Mem t (sumBy (triples table))) c → label (mapped (sumBy (triples table))) c ≡ c
-      -- A node of the table that another represents is none of the summary's, and absent in the second map. So the first map stays of use,
-      -- and the second leads on from it to the same representatives.
-      pub carried : (c : ℕ) → label (mapped (sumBy (triples table))) (label (mapped (triples table)) c) ≡ label (mapped (triples table)) c
-
-    -- 02: "the weak summary of a saturated table is saturated already, and .. summarising it again under the same roster yields the same
-    -- triples and maps each of its nodes to itself": nothing is added and nothing is moved
-    pub record AtRestBy (table roster : List ℕ) : Type 0 where
-      pub saturated : shortBy table roster ≡ sumBy (triples table)
-      pub again : AgainBy table
-
   abbrev pub ShortcutHolds : Type 0
   ShortcutHolds = (table roster : List ℕ) → Accepted v table roster → ShortcutBy (mapOf v roster) table roster
 
@@ -190,29 +176,6 @@ module _ (v : Vocabulary) where
 
   abbrev pub WeakOfStrongHolds : Type 0
   WeakOfStrongHolds = (table roster : List ℕ) → Accepted v table roster → WeakOfStrong table roster
-
-  -- ── a shipped summary is at rest ──
-  -- 02: "a saturated table": it holds all that the rules give from it, in whatever order and with repeats
-  abbrev pub Saturated : List ℕ → Type 0
-  Saturated table = (t : Triple) → Derives v (TriplesOf table) t → TriplesOf table t
-
-  abbrev pub AtRestHolds : Type 0
-  AtRestHolds = (table roster : List ℕ) → Accepted v table roster → Saturated table → AtRestBy (mapOf v roster) table roster
-
-  -- 02: "Let this cover the strong summary and every loaded word table as well."
-  abbrev pub StrongAtRestHolds : Type 0
-  StrongAtRestHolds = (table roster : List ℕ) → Accepted v table roster → Saturated table → AtRestBy (strongMapOf v roster) table roster
-
-  -- summarising again needs no saturated table
-  abbrev pub AgainTheSame : Type 0
-  AgainTheSame = (table roster : List ℕ) → Accepted v table roster → AgainBy (mapOf v roster) table
-
-  abbrev pub StrongAgainTheSame : Type 0
-  StrongAgainTheSame = (table roster : List ℕ) → Accepted v table roster → AgainBy (strongMapOf v roster) table
-
-  -- the saturation of a table is a saturated table
-  abbrev pub SaturationSaturated : Type 0
-  SaturationSaturated = (table roster : List ℕ) → Accepted v table roster → Saturated (flat (saturationOf table roster))
 
   -- the demand: feeding in any order, with repeats, ends in the plain summary
   pub record Collected (table roster : List ℕ) (H : List Triple) : Type 0 where
@@ -253,3 +216,48 @@ module _ (v : Vocabulary) where
       → length (sorted (triples table)) ≤ slots (s .triples)
       → ((f : Feed) → Mem f fs → f .work ≡ 2 * length roster) → ((t : Triple) → Mem t (map (λ (f : Feed). f .triple) fs) ↔ Mem t (triples table))
       → Run v roster (opened v roster s) fs os end → Filled table roster s end
+
+  -- ── a shipped summary is at rest ──
+  -- 02: "a saturated table": it holds all that the rules give from it, in whatever order; repeats are allowed
+  abbrev pub Saturated : List ℕ → Type 0
+  Saturated table = (t : Triple) → Derives v (TriplesOf table) t → TriplesOf table t
+
+  -- by any way to map the nodes of triples, with one roster
+  module _ (mapped : List Triple → List ℕ) where
+    -- the summary of a table, as it is shipped
+    abbrev pub shipped : List ℕ → List Triple
+    shipped table = sumBy mapped (triples table)
+
+    -- 02: "summarising it again under the same roster yields the same triples and maps each of its nodes to itself"
+    pub record AgainBy (table : List ℕ) : Type 0 where
+      pub same-triples : sumBy mapped (shipped table) ≡ shipped table
+      pub own-nodes : (c : ℕ) → Node (λ t. Mem t (shipped table)) c → label (mapped (shipped table)) c ≡ c
+      -- Every other code is absent in the second map, also a node of the table that another represents. So the first map stays of use, and
+      -- the second leads on from it to the same representatives.
+      pub no-node : (c : ℕ) → (Node (λ t. Mem t (shipped table)) c → ⊥) → label (mapped (shipped table)) c ≡ absent
+      pub carried : (c : ℕ) → label (mapped (shipped table)) (label (mapped (triples table)) c) ≡ label (mapped (triples table)) c
+
+    -- 02: "the weak summary of a saturated table is saturated already": nothing is added and nothing is moved
+    pub record AtRestBy (table roster : List ℕ) : Type 0 where
+      pub saturated : shortBy mapped table roster ≡ shipped table
+      -- this needs no saturated table: `AgainTheSame`
+      pub again : AgainBy table
+
+  -- of an accepted, saturated table
+  abbrev pub AtRestHolds : Type 0
+  AtRestHolds = (table roster : List ℕ) → Accepted v table roster → Saturated table → AtRestBy (mapOf v roster) table roster
+
+  -- 02: "Let this cover the strong summary and every loaded word table as well."
+  abbrev pub StrongAtRestHolds : Type 0
+  StrongAtRestHolds = (table roster : List ℕ) → Accepted v table roster → Saturated table → AtRestBy (strongMapOf v roster) table roster
+
+  -- of every accepted table, saturated or not
+  abbrev pub AgainTheSame : Type 0
+  AgainTheSame = (table roster : List ℕ) → Accepted v table roster → AgainBy (mapOf v roster) table
+
+  abbrev pub StrongAgainTheSame : Type 0
+  StrongAgainTheSame = (table roster : List ℕ) → Accepted v table roster → AgainBy (strongMapOf v roster) table
+
+  -- the saturation of a table is a saturated table
+  abbrev pub SaturationSaturated : Type 0
+  SaturationSaturated = (table roster : List ℕ) → Accepted v table roster → Saturated (flat (saturationOf table roster))
