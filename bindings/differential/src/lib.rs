@@ -1,5 +1,6 @@
 //! Compares the proved engine with the unverified one, call by call over the C interface: the answer, the numbers and every lent
-//! list after each call, on valid and damaged input, with junk in the lists before; and summaries worked again, with what they must leave.
+//! list after each call, on valid and damaged input, with junk in the lists before; and summaries worked again, with what they
+//! must leave.
 
 mod asks;
 mod feeds;
