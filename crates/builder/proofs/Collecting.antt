@@ -17,11 +17,11 @@ use Rattle.theory.proofs.Order.{sorted-rising, sorted-mem, mem-sorted, rising-l
 use Rattle.lists.specs.Flat.{at}
 use Rattle.lists.proofs.Places.{tabulate-agree}
 use Rattle.builder.specs.declared.Builder.{Builder}
-use Rattle.builder.specs.Builder.{first, Offered, State, Step, Collected}
+use Rattle.builder.specs.Builder.{first, Offered, Growing, GrownBy, CollectedFrom}
 
 -- an offer of a triple of U
-module _ (U X : List Triple) (U-rising : Rising U) (l l′ : List ℕ) (b b′ : Builder) (t : Triple) (S : State U X l b) (m : Mem t U) (O : Offered l l′ b b′ t) where
-  pub offer-step : Step U X l l′ b b′
+module _ (U X : List Triple) (U-rising : Rising U) (l l′ : List ℕ) (b b′ : Builder) (t : Triple) (S : Growing U X l b) (m : Mem t U) (O : Offered l l′ b b′ t) where
+  pub offer-step : GrownBy U X l l′ b b′
   offer-step =
       record {
         size = O .same-base .size;
@@ -40,11 +40,11 @@ module _ (U X : List Triple) (U-rising : Rising U) (l l′ : List ℕ) (b b′ :
   pub offer-held : b′ .full ≡ false → Mem t (first l′ (b′ .filled))
   offer-held f = (O .taken f .members t) .1 (inr refl)
 
-pub step-none : (U X : List Triple) (l : List ℕ) (b : Builder) → State U X l b → Step U X l l b b
+pub step-none : (U X : List Triple) (l : List ℕ) (b : Builder) → Growing U X l b → GrownBy U X l l b b
 step-none U X l b S =
     record { size = refl; goes-on = λ f. S; keeps = λ f u m. m; over = λ f. absurd (true≢false (sym f ∙ S .built .not-full)) }
 
-pub step-then : (U X : List Triple) (l m n : List ℕ) (b c d : Builder) → c .full ≡ false → Step U X l m b c → Step U X m n c d → Step U X l n b d
+pub step-then : (U X : List Triple) (l m n : List ℕ) (b c d : Builder) → c .full ≡ false → GrownBy U X l m b c → GrownBy U X m n c d → GrownBy U X l n b d
 step-then U X l m n b c d f S T =
     record {
       size = T .size ∙ S .size;
@@ -65,7 +65,7 @@ module _ (f : ℕ → Triple) (n : ℕ) where
   -- the first i triples of f are held
   pub record Collecting (l₀ l : List ℕ) (s : Builder) (i : ℕ) : Type 0 where
     pub going : s .full ≡ false
-    pub step : Step all [] l₀ l (opening 0) s
+    pub step : GrownBy all [] l₀ l (opening 0) s
     pub done : (j : ℕ) → j < i → Mem (f j) (first l (s .filled))
 
   pub collecting-start : (l : List ℕ) → Collecting l l (opening 0) 0
@@ -94,10 +94,10 @@ module _ (f : ℕ → Triple) (n : ℕ) where
     in-all : Mem t all
     in-all = mem-sorted t _ (subst (λ (z : Triple). Mem z (tabulate f 0 n)) (sym e) (mem-tabulate f 0 n i (omega arith) (omega arith)))
 
-    one : Step all [] l m s c
+    one : GrownBy all [] l m s c
     one = offer-step all [] (sorted-rising _) l m s c t (L .step .goes-on (L .going)) in-all O
 
-    on : Step all [] l₀ m (opening 0) c
+    on : GrownBy all [] l₀ m (opening 0) c
     on = step-then all [] l₀ l m (opening 0) s c (L .going) (L .step) one
 
     pub collecting-next : c .full ≡ false → Collecting l₀ m c (i + 1)
@@ -109,7 +109,7 @@ module _ (f : ℕ → Triple) (n : ℕ) where
               (subst (λ (z : Triple). Mem z (first m (c .filled))) e (offer-held all [] (sorted-rising _) l m s c t (L .step .goes-on (L .going)) in-all O g));
         }
 
-    pub collecting-full : c .full ≡ true → Collected f n l₀ m c
+    pub collecting-full : c .full ≡ true → CollectedFrom f n l₀ m c
     collecting-full g =
         record {
           size = on .size;
@@ -118,7 +118,7 @@ module _ (f : ℕ → Triple) (n : ℕ) where
           over = on .over;
         }
 
-  pub collecting-end : (l₀ l : List ℕ) (s : Builder) (i : ℕ) → Collecting l₀ l s i → n ≤ i → Collected f n l₀ l s
+  pub collecting-end : (l₀ l : List ℕ) (s : Builder) (i : ℕ) → Collecting l₀ l s i → n ≤ i → CollectedFrom f n l₀ l s
   collecting-end l₀ l s i L h =
       record {
         size = L .step .size;

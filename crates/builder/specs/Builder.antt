@@ -58,20 +58,20 @@ pub record Finished (l l′ : List ℕ) (filled r : ℕ) : Type 0 where
   pub list : l′ ≡ listed (length l) (sorted (first l filled))
 
 -- the list while it grows: its frozen part is X, and all that it holds is in U
-pub record State (U X : List Triple) (l : List ℕ) (b : Builder) : Type 0 where
+pub record Growing (U X : List Triple) (l : List ℕ) (b : Builder) : Type 0 where
   pub built : Built l b
   pub base-is : first l (b .base) ≡ X
   pub inside : (u : Triple) → Mem u (first l (b .filled)) → Mem u U
 
 -- a step: it goes on, with nothing lost, or U has more triples than there are slots
-pub record Step (U X : List Triple) (l l′ : List ℕ) (b b′ : Builder) : Type 0 where
+pub record GrownBy (U X : List Triple) (l l′ : List ℕ) (b b′ : Builder) : Type 0 where
   pub size : length l′ ≡ length l
-  pub goes-on : b′ .full ≡ false → State U X l′ b′
+  pub goes-on : b′ .full ≡ false → Growing U X l′ b′
   pub keeps : b′ .full ≡ false → (u : Triple) → Mem u (first l (b .filled)) → Mem u (first l′ (b′ .filled))
   pub over : b′ .full ≡ true → length l / 3 < length U
 
 -- the first n triples of f, or these are more than the slots
-pub record Collected (f : ℕ → Triple) (n : ℕ) (l l′ : List ℕ) (b′ : Builder) : Type 0 where
+pub record CollectedFrom (f : ℕ → Triple) (n : ℕ) (l l′ : List ℕ) (b′ : Builder) : Type 0 where
   pub size : length l′ ≡ length l
   pub built : b′ .full ≡ false → Built l′ b′
   pub members : b′ .full ≡ false → (u : Triple) → Mem u (first l′ (b′ .filled)) ↔ Mem u (tabulate f 0 n)

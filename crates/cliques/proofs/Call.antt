@@ -12,7 +12,7 @@ use Rattle.model.specs.declared.Done.the-variants.{Accepted, Refused as done-re
 use Rattle.model.specs.declared.Vocabulary.{Vocabulary}
 use Rattle.model.specs.Triples.{triples}
 use Rattle.model.specs.Cliques.{source, target, cliques}
-use Rattle.model.specs.Outcomes.{Outcome, refused, accepted, number, done, checked, left}
+use Rattle.model.specs.Outcomes.{Outcome, refused, accepted, refusalNumber, done, checked, left}
 use Rattle.model.specs.Calls.{tableChecks, cliquesOutcome, cliquesLeave}
 use Rattle.theory.proofs.Tests.{or-false}
 use Rattle.theory.proofs.Accepted.{Right}
@@ -36,7 +36,7 @@ module _ (v : Vocabulary) where
 
       -- ── refused ──
       module _ (r : Refusal) (q : w ≡ Refused r) where
-        refused-outcome : cliquesOutcome v table roster sources targets ≡ refused (number r)
+        refused-outcome : cliquesOutcome v table roster sources targets ≡ refused (refusalNumber r)
         unfolding cliquesOutcome verdict
         refused-outcome = sym (is (Refused r) q)
 

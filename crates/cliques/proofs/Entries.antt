@@ -14,7 +14,7 @@ use Rattle.theory.proofs.Tests.{not-both}
 use Rattle.union_find.specs.Roots.{Forest, root}
 use Rattle.union_find.proofs.Laws.{by-parents, root-top, root-up, set-at}
 use Rattle.union_find.specs.Calls.{ActivePair, United}
-use Rattle.cliques.specs.Grouping.{opened, Linkable, NodeLinked, NodesCleared}
+use Rattle.cliques.specs.Grouping.{groupOpened, Linkable, NodeLinked, NodesCleared}
 
 -- ── a list with the same entries on a forest ──
 module _ (A : ℕ → Bool) (l l′ : List ℕ) (f : Forest A l) (same : (y : ℕ) → A y ≡ true → getD l′ y 0 ≡ getD l y 0) where
@@ -32,12 +32,12 @@ module _ (A : ℕ → Bool) (l l′ : List ℕ) (f : Forest A l) (same : (y : �
       (λ y h k a. root-up l′ y (omega (arith, same y a)) ∙ ap (root l′) (same y a) ∙ k (f .links y a) ∙ sym (root-up l y h))
 
 -- ── a property seen for the first time ──
-pub opened-new : (l : List ℕ) (p i v : ℕ) → i ≡ p → v ≡ p → getD l i 0 ≡ absent → set l i v ≡ opened l p
-unfolding opened
+pub opened-new : (l : List ℕ) (p i v : ℕ) → i ≡ p → v ≡ p → getD l i 0 ≡ absent → set l i v ≡ groupOpened l p
+unfolding groupOpened
 opened-new l p i v e q h = rw (eq-eqb (getD l p 0) absent (ap (λ (j : ℕ). getD l j 0) (sym e) ∙ h)) (λ k. set l (e k) (q k))
 
-pub opened-old : (l : List ℕ) (p i : ℕ) → i ≡ p → (getD l i 0 ≡ absent → ⊥) → l ≡ opened l p
-unfolding opened
+pub opened-old : (l : List ℕ) (p i : ℕ) → i ≡ p → (getD l i 0 ≡ absent → ⊥) → l ≡ groupOpened l p
+unfolding groupOpened
 opened-old l p i e h = rw (ne-eqb (getD l p 0) absent (λ q. h (ap (λ (j : ℕ). getD l j 0) e ∙ q)))
 
 -- ── a property linked at a node ──

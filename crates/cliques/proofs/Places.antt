@@ -21,7 +21,7 @@ use Rattle.theory.proofs.Weak.{clique-self}
 use Rattle.theory.proofs.Accepted.{Right, room, below, has-marked}
 use Rattle.lists.specs.Flat.{Emptied, at}
 use Rattle.roster.proofs.Tables.{at-in, below-at}
-use Rattle.cliques.specs.Grouping.{Grouping, Before, Grouped, opened, Linkable, NodeLinked}
+use Rattle.cliques.specs.Grouping.{Grouping, Before, Grouped, groupOpened, Linkable, NodeLinked}
 use Rattle.cliques.proofs.Sides.{end-below}
 use Rattle.cliques.proofs.Steps.{Grown, widen, skip, open-state, linkable, link-state}
 
@@ -85,7 +85,7 @@ module _ (v : Vocabulary) where
           pub property-inside : t .property < length l
           property-inside = omega (arith, place-below .property, g .state .size)
 
-          module _ (l₁ : List ℕ) (o : l₁ ≡ opened l (t .property)) where
+          module _ (l₁ : List ℕ) (o : l₁ ≡ groupOpened l (t .property)) where
             between : (B : ℕ → Bool) × Grouping v roster e B (Before table (i + 1)) (Before table i) l₁ × (B (t .property) ≡ true)
             between =
                 rw o

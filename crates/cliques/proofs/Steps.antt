@@ -22,7 +22,7 @@ use Rattle.union_find.specs.Roots.{Kept, root, merge}
 use Rattle.union_find.specs.Calls.{ActivePair, United}
 use Rattle.union_find.proofs.Classes.{Added, forest-add, root-add, roots-add}
 use Rattle.union_find.proofs.Unions.{united-one, united-same, united-in}
-use Rattle.cliques.specs.Grouping.{Grouping, opened, Linkable, NodeLinked}
+use Rattle.cliques.specs.Grouping.{Grouping, groupOpened, Linkable, NodeLinked}
 use Rattle.cliques.proofs.Entries.{forest-same, roots-same}
 
 module _ (v : Vocabulary) where
@@ -126,8 +126,8 @@ module _ (v : Vocabulary) where
         open-old : (getD l q 0 ≡ absent → ⊥) → A q ≡ true
         open-old n = ⊎-elim (λ t. t) (λ f. absurd (n (b .none q w m f))) (bool-cases (A q))
 
-        pub open-state : CliqueIn G′ q q → Opened (opened l q)
-        unfolding opened
+        pub open-state : CliqueIn G′ q q → Opened (groupOpened l q)
+        unfolding groupOpened
         open-state own =
             cond-cases Opened (eqb (getD l q 0) absent)
             (λ t. let z = eqb-true (getD l q 0) absent t in (more z own, open-new z own, added z own .after))

@@ -23,8 +23,8 @@ abbrev pub Before : List ℕ → ℕ → Graph
 Before table i = In (tabulate (at table) 0 i)
 
 -- a property that is seen for the first time is a group of its own
-unfoldable pub opened : List ℕ → ℕ → List ℕ
-opened l p = cond (eqb (getD l p 0) absent) (set l p p) l
+unfoldable pub groupOpened : List ℕ → ℕ → List ℕ
+groupOpened l p = cond (eqb (getD l p 0) absent) (set l p p) l
 
 -- the property p can be linked at the node n
 pub record Linkable (l : List ℕ) (n p : ℕ) : Type 0 where

@@ -11,7 +11,7 @@ ghost use Rattle.model.specs.Triples.{triples};
 ghost use Rattle.model.specs.Cliques.{end, links, cliques};
 ghost use Rattle.theory.proofs.Accepted.{Right};
 ghost use Rattle.theory.proofs.Covered.{Below};
-ghost use Rattle.cliques.specs.Grouping.{Grouped, opened, Linkable, NodeLinked, NodesCleared};
+ghost use Rattle.cliques.specs.Grouping.{Grouped, groupOpened, Linkable, NodeLinked, NodesCleared};
 ghost use Rattle.cliques.specs.Calls.{sideOf, CliquesCall};
 use lists::Code;
 use lists::empty;
@@ -50,7 +50,7 @@ pub fn links_at(words: Vocabulary, roster: &[u8], sources: bool, t: Triple) -> b
 // A property that is seen for the first time becomes a group of its own.
 fn open_property(list: &mut [u32], property: u32)
     requires { ⌜ property < length (now list) ⌝ }
-    ensures { λ r. ⌜ now (list .exit) ≡ opened (now (list .entry)) property ⌝ }
+    ensures { λ r. ⌜ now (list .exit) ≡ groupOpened (now (list .entry)) property ⌝ }
 {
     let p = wide(property);
     if !Code(list[p]).is_absent() {

@@ -9,13 +9,10 @@ use super::cases::three;
 use comparison::calls::plain_words;
 use comparison::random::at_most;
 use comparison::random::set_mark;
+use comparison::sites::SIX;
+use comparison::sites::SIX_ROSTER;
 use comparison::words::table_of;
 use model::Vocabulary;
-
-// The six triples of the paper's example, with N 14, and its roster.
-const SIX: [u32; 18] = [5, 2, 7, 6, 2, 7, 7, 3, 8, 8, 1, 9, 10, 5, 12, 11, 6, 13];
-
-const SIX_ROSTER: [u8; 14] = [0, 0, 0, 0, 0, 2, 2, 2, 1, 1, 0, 0, 0, 0];
 
 // The six with words 4, 3, 2, 1, 0.
 const TURNED: [u32; 18] = [5, 2, 7, 6, 2, 7, 7, 1, 8, 8, 3, 9, 10, 5, 12, 11, 6, 13];

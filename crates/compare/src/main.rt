@@ -1,6 +1,6 @@
 // Compares the engine with the naive one in own roster, saturate, cliques, both summaries, look up and ask: every refusal and small
-// graph of the papers, then many random sites. After every call both answers and the contents of every lent list are compared. Prints the small cases, each
-// difference, and the counts.
+// graph of the papers, then many random sites. After every call both answers and the contents of every lent list are compared.
+// Prints the small cases, each difference, and the counts.
 mod cases;
 mod loaded;
 mod queries;

@@ -4,12 +4,9 @@ use super::cases;
 use comparison::calls;
 use comparison::report::LOOK_UP;
 use comparison::report::small;
+use comparison::sites::SIX;
+use comparison::sites::SIX_ROSTER;
 use lists::rdfs_words;
-
-// The six triples of the paper's example, with N 14.
-const SIX: [u32; 18] = [5, 2, 7, 6, 2, 7, 7, 3, 8, 8, 1, 9, 10, 5, 12, 11, 6, 13];
-
-const SIX_ROSTER: [u8; 14] = [0, 0, 0, 0, 0, 2, 2, 2, 1, 1, 0, 0, 0, 0];
 
 fn own_roster(tally: &mut [u64; 145], name: &[u8], expected: u32, table: &[u32]) {
     cases::own_roster(tally, name, expected, rdfs_words(), table, 14);

@@ -12,6 +12,7 @@ use comparison::report::check;
 use comparison::report::record;
 use comparison::sites;
 use comparison::words;
+use intake::Counts;
 use intake::FedCounts;
 use model::Found;
 use model::Vocabulary;
@@ -129,19 +130,11 @@ fn engine_feed(
     o: u32,
 ) -> FedCounts {
     calls::junk(work);
-    intake::feed_lists(
-        state.held,
-        state.summarised,
-        words,
-        roster,
-        triples,
-        summary,
-        map,
-        work,
-        s,
-        p,
-        o,
-    )
+    let counts = Counts {
+        held: state.held,
+        summarised: state.summarised,
+    };
+    intake_by_value::feed_by_value(counts, words, roster, triples, summary, map, work, s, p, o)
 }
 
 fn clear_if(list: &mut [u32], yes: bool) {
@@ -206,13 +199,13 @@ fn feed_both(
     let plain = naive_feed(state, words, roster, triples.len() / 3, h, left, s, p, o);
     let answer = fed.answer;
     let got = calls::of_found(answer);
-    check_fed(tally, seed, got, fed.held, plain);
+    check_fed(tally, seed, got, fed.counts.held, plain);
     calls::check_list(tally, FEED, seed, b"work", work, left);
     let kept = state.words;
     State {
         words: kept,
-        held: fed.held,
-        summarised: fed.summarised,
+        held: fed.counts.held,
+        summarised: fed.counts.summarised,
         plain: plain.held,
         answer: got.refused,
     }
@@ -481,7 +474,22 @@ fn feed_junk(
     work: &mut [u32],
 ) -> FedCounts {
     junk_four(triples, summary, map, work);
-    intake::feed_lists(1, 1, words, roster, triples, summary, map, work, 10, 5, 12)
+    let counts = Counts {
+        held: 1,
+        summarised: 1,
+    };
+    intake_by_value::feed_by_value(
+        counts,
+        words,
+        roster,
+        triples,
+        summary,
+        map,
+        work,
+        10,
+        5,
+        12,
+    )
 }
 
 fn check_refused(
@@ -552,7 +560,13 @@ pub fn feed_refused(
         left_work,
     );
     let answer = fed.answer;
-    check_refused(tally, expected, answer, fed.held, fed.summarised)
+    check_refused(
+        tally,
+        expected,
+        answer,
+        fed.counts.held,
+        fed.counts.summarised,
+    )
 }
 
 // The length of an intake's list: few slots, or enough.

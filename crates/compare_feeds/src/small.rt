@@ -7,11 +7,10 @@ use comparison::random::get;
 use comparison::report::FEED;
 use comparison::report::OPEN;
 use comparison::report::small;
+use comparison::sites::SIX_ROSTER;
 use comparison::words::table_of;
 use lists::rdfs_words;
 use model::Vocabulary;
-
-const SIX_ROSTER: [u8; 14] = [0, 0, 0, 0, 0, 2, 2, 2, 1, 1, 0, 0, 0, 0];
 
 // Opens with lists of those lengths.
 fn open(

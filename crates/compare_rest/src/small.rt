@@ -9,10 +9,8 @@ use comparison::random::triples_end;
 use comparison::report::STRONG;
 use comparison::report::SUMMARISE;
 use comparison::report::small;
+use comparison::sites::SIX;
 use lists::rdfs_words;
-
-// The six triples of the paper's example, with N 14.
-const SIX: [u32; 18] = [5, 2, 7, 6, 2, 7, 7, 3, 8, 8, 1, 9, 10, 5, 12, 11, 6, 13];
 
 // The summary of their saturation, weak and strong.
 const SIX_SUMMARY: [u32; 42] = [

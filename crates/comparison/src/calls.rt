@@ -11,6 +11,7 @@ use super::report::STRONG;
 use super::report::SUMMARISE;
 use super::report::check;
 use super::report::record;
+use intake::Counts;
 use intake::OpenedCounts;
 use model::Counted;
 use model::Done;
@@ -451,7 +452,11 @@ fn engine_open(
     junk(triples);
     junk(summary);
     junk(map);
-    intake::open_counts(70, 71, words, roster, triples, summary, map)
+    let counts = Counts {
+        held: 70,
+        summarised: 71,
+    };
+    intake_by_value::open_by_value(counts, words, roster, triples, summary, map)
 }
 
 fn naive_open(
@@ -501,7 +506,14 @@ pub fn open(
     let want = naive_open(words, roster, plain_triples, plain_summary, plain_map);
     let done = opened.answer;
     let got = of_done(done);
-    check_opened(tally, seed, got, want, opened.held, opened.summarised);
+    check_opened(
+        tally,
+        seed,
+        got,
+        want,
+        opened.counts.held,
+        opened.counts.summarised,
+    );
     check_three(
         tally,
         OPEN,

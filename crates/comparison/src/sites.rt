@@ -18,6 +18,11 @@ use super::words::free_code;
 use lists::word_of;
 use model::Vocabulary;
 
+// The six triples of the paper's example, with N 14, and their own roster.
+pub const SIX: [u32; 18] = [5, 2, 7, 6, 2, 7, 7, 3, 8, 8, 1, 9, 10, 5, 12, 11, 6, 13];
+
+pub const SIX_ROSTER: [u8; 14] = [0, 0, 0, 0, 0, 2, 2, 2, 1, 1, 0, 0, 0, 0];
+
 // N: mostly 8 to 24, now and then less.
 pub fn size(seed: u64) -> usize
     ensures { λ r. ⌜ r ≤ 24 ⌝ }

@@ -2,16 +2,17 @@
 -- Assumes nothing.
 use Prim.Native.Nat.{ℕ, _*_, _≤_}
 use mathlib.Core.Path.{_≡_, refl, sym, subst, subst₂, _∙_, ap}
-use mathlib.Core.Bool.{Bool, true, false, not, _||_}
+use mathlib.Core.Logic.{⊎-elim}
+use mathlib.Core.Bool.{Bool, true, false, cond, not, _||_}
 use mathlib.Core.List.{List, [], _∷_, _++_, List·Memᴰ as Mem}
 use native.Mathlib.Omega.{arith}
 use lib.Dec.{eqb, ltb}
-use borrow.Author.Tests.{eq-eqb}
+use borrow.Author.Tests.{eq-eqb, le-ltb}
 use lib.ListN.{length, take}
 use lib.Seq.{take-append-seam}
 use Rattle.model.specs.declared.Triple.{Triple}
 use Rattle.model.specs.declared.Vocabulary.{Vocabulary}
-use Rattle.model.specs.Codes.{wrongWords}
+use Rattle.model.specs.Codes.{mostTriples, wrongWords}
 use Rattle.model.specs.Lists.{padded}
 use Rattle.model.specs.Triples.{triples, flat, listed, slots}
 use Rattle.model.specs.Partition.{label}
@@ -20,21 +21,23 @@ use Rattle.model.specs.Classes.{mapOf, strongMapOf}
 use Rattle.model.specs.Summary.{condensed, summary, strongSummary}
 use Rattle.model.specs.Saturation.{saturation}
 use Rattle.model.specs.Outcomes.{Outcome, accepted, refused, check, checked, decided, left, wrongSize, wrongLength, wrongWork}
-use Rattle.model.specs.Calls.{tableChecks, Accepted, saturated, saturateOutcome, saturateLeaves, summariseOutcomeBy, summariseLeavesBy}
-use Rattle.theory.proofs.Tests.{or-false, or-neither}
-use Rattle.theory.proofs.Checks.{passed, passed-all, first-passes, passes-first, not-accepted, no-checks}
+use Rattle.model.specs.Calls.{tableChecks, Accepted, ownRosterOutcome, saturated, saturateOutcome, saturateLeaves, cliquesOutcome, summariseOutcomeBy, summariseLeavesBy}
+use Rattle.model.specs.Intake.{State, wrongLists, openOutcome}
+use Rattle.theory.proofs.Tests.{or-false, or-neither, bool-cases}
+use Rattle.theory.proofs.Checks.{decided-passes, passed, passed-all, first-passes, passes-first, not-accepted, no-checks}
 use Rattle.table_checks.proofs.Laws.{enough}
 use Rattle.theory.proofs.Flat.{triples-flat, length-flat}
 use Rattle.theory.specs.Theorems.{sumBy, ShortcutBy, RoutesBy, Saturated, AtRestBy}
 use Rattle.theory.proofs.Theorems.{shortcut-holds, routes-accepted, strong-shortcut-holds, strong-routes-accepted, weak-of-strong-holds, at-rest-holds, strong-at-rest-holds, saturation-saturated, own-roster-least}
-use Rattle.theory.proofs.Accepted.{Right, saturation-right, summary-right, right-accepted}
+use Rattle.theory.proofs.Accepted.{Right, accepted-right, saturation-right, summary-right, right-accepted}
 use Rattle.theory.proofs.Summaries.{condensed-length}
-use Rattle.theory.proofs.Mapped.{length-map-of}
+use Rattle.theory.proofs.Mapped.{length-map-of, length-strong-map}
 use Rattle.demands.proofs.NoneMeansNone.{none-means-none}
 use Rattle.model.specs.Roster.{ownRoster, wrongCodes}
-use Rattle.query.specs.Ask.{askOutcome, askChecks}
+use Rattle.query.specs.declared.Query.{Query}
+use Rattle.query.specs.Ask.{unbound, search, wrongQuery, askOutcome, askChecks}
 use Rattle.query.specs.Match.{Match}
-use Rattle.demands.specs.Routes.{tableIn, Lent, LongEnough, SummarisesBy, AcceptsSummarise, Saturates, AcceptedCalls, ShortcutOfCallsBy, ShortcutOfCalls, StrongShortcutOfCalls, WeakOfStrongCalls, AtRestOfCallsBy, AtRestOfCalls, StrongAtRestOfCalls, LeavesSaturated, NoneOfCallsBy, AskRefusesSix}
+use Rattle.demands.specs.Routes.{tableIn, Lent, LongEnough, SummarisesBy, AcceptsSummarise, Saturates, Asks, AcceptedCalls, RoutesOfCallsBy, RoutesOfCalls, StrongRoutesOfCalls, ShortcutOfCallsBy, ShortcutOfCalls, StrongShortcutOfCalls, WeakOfStrongCalls, AtRestOfCallsBy, AtRestOfCalls, StrongAtRestOfCalls, LeavesSaturated, NoneOfCallsBy, AskRefusesSix}
 
 -- what a list that lists triples begins with
 listed-table : (n : ℕ) (ts : List Triple) (c : ℕ) → length ts ≡ c → tableIn c (listed n ts) ≡ flat ts
@@ -47,10 +50,10 @@ listed-table n ts c e =
 left-is : (out : List ℕ) (ts : List Triple) → out ≡ flat ts → triples out ≡ ts
 left-is out ts e = ap triples e ∙ triples-flat ts
 
-six-only : (b k c d : Bool) (y : Bool) (r : ℕ) → b ≡ false → k ≡ false → c ≡ false → checked (check 1 b ∷ check 10 k ∷ check 3 c ∷ check 6 d ∷ []) y ≡ refused r → r ≡ 6
+-- where the first three checks of an ask pass, the fourth decides
+fourth-decides : (b k c d y : Bool) → b ≡ false → k ≡ false → c ≡ false → checked (check 1 b ∷ check 10 k ∷ check 3 c ∷ check 6 d ∷ []) y ≡ cond d (refused 6) (accepted y)
 unfolding decided
-six-only b k c true y r p x q e = let z : decided (check 1 b ∷ check 10 k ∷ check 3 c ∷ check 6 true ∷ []) (accepted y) ≡ refused 6 = rw (p, x, q) in cc
-six-only b k c false y r p x q e = let z : decided (check 1 b ∷ check 10 k ∷ check 3 c ∷ check 6 false ∷ []) (accepted y) ≡ accepted y = rw (p, x, q) in absurd (not-accepted (sym e ∙ z))
+fourth-decides b k c d y p x q = rw (p, x, q)
 
 module _ (v : Vocabulary) where
   -- an accepted saturate
@@ -160,8 +163,30 @@ module _ (v : Vocabulary) where
   unfolding tableChecks
   table-length table roster h = (or-false (wrongLength (length table)) _ ((or-false (wrongSize (length roster)) _ ((passes-first _ _ h) .0)) .1)) .0
 
-  pub ask-refuses-six : AskRefusesSix v
+  -- an ask of a table that is accepted with a roster, by a map of the roster's length
+  asks-of : (table map roster : List ℕ) → Accepted v table roster → length map ≡ length roster → Asks v table map
   unfolding askOutcome askChecks
+  asks-of table map roster h e =
+      let R = accepted-right v table roster h in
+      let lengths = or-neither (wrongSize (length map)) _ (subst (λ (z : ℕ). wrongSize z ≡ false) (sym e) (R .size)) (table-length table roster h) in
+      let words = subst (λ (z : ℕ). wrongWords v z ≡ false) (sym e) (R .words) in
+      let codes = subst (λ (z : ℕ). wrongCodes v z (triples table) ≡ false) (sym e) (R .codes) in
+      let decides : (q : Query) (d : Bool) → wrongQuery (length map) q ≡ d → askOutcome v table map q ≡ cond d (refused 6) (accepted (search (triples table) map (q .patterns) (q .count) 0 unbound)) =
+      λ q d f. fourth-decides _ _ _ _ _ lengths words codes ∙ ap (λ (b : Bool). cond b (refused 6) (accepted (search (triples table) map (q .patterns) (q .count) 0 unbound))) f in
+      record {
+        answers = λ q f. (_, decides q false f);
+        refuses = λ q f. decides q true f;
+      }
+
+  -- so an ask is refused with 6 alone
+  six-only : (table map : List ℕ) → Asks v table map → (q : Query) (r : ℕ) → askOutcome v table map q ≡ refused r → r ≡ 6
+  six-only table map a q r e =
+      ⊎-elim
+      (λ f. let z = sym e ∙ a .refuses q f in cc)
+      (λ f. absurd (not-accepted (sym e ∙ a .answers q f .1)))
+      (bool-cases (wrongQuery (length map) q))
+
+  pub ask-refuses-six : AskRefusesSix v
   ask-refuses-six n ts ps r w k h few e =
       let own = ownRoster v n ts in
       let O = own-roster-least v n ts h in
@@ -176,13 +201,7 @@ module _ (v : Vocabulary) where
       let S : Right v own (saturation v n ts) = subst (λ (z : ℕ). Right v own (saturation v z ts)) (O .size) (saturation-right v own ts R) in
       let T = summary-right v own (saturation v n ts) S in
       let A = right-accepted v own (summary v own (saturation v n ts)) T (omega (arith, few, condensed-length (mapOf v own (saturation v n ts)) (saturation v n ts))) in
-      let len : length (mapOf v own (saturation v n ts)) ≡ length own = length-map-of v own (saturation v n ts) in
-      six-only _ _ _ _ _ r
-      (or-neither (wrongSize (length (mapOf v own (saturation v n ts)))) _ (subst (λ (z : ℕ). wrongSize z ≡ false) (sym len) (R .size)) (table-length (flat (summary v own (saturation v n ts))) own A))
-      (subst (λ (z : ℕ). wrongWords v z ≡ false) (sym len) (R .words))
-      (subst (λ (z : ℕ). wrongCodes v z (triples (flat (summary v own (saturation v n ts)))) ≡ false) (sym len)
-      (subst (λ (us : List Triple). wrongCodes v (length own) us ≡ false) (sym (triples-flat _)) (T .codes)))
-      e
+      six-only _ _ (asks-of _ _ own A (length-map-of v own (saturation v n ts))) _ r e
 
   -- ── long enough lists ──
   accepts-summarise : (mapped : List ℕ → List Triple → List ℕ) (table roster : List ℕ) → Accepted v table roster → AcceptsSummarise v mapped table roster
@@ -194,13 +213,48 @@ module _ (v : Vocabulary) where
       ap (λ (b : Bool). checked (tableChecks v b table roster ++ check 5 (ltb (slots (l .result)) n) ∷ []) n) lengths
       ∙ enough (tableChecks v false table roster) (slots (l .result)) n h (long .room)
 
-  pub accepted-calls : AcceptedCalls v
+  accepts-saturate : (table roster result : List ℕ) → Accepted v table roster → length (saturation v (length roster) (triples table)) ≤ slots result
+      → saturateOutcome v table roster result ≡ accepted (length (saturation v (length roster) (triples table)))
   unfolding saturateOutcome saturated
+  accepts-saturate table roster result h few = enough (tableChecks v false table roster) (slots result) _ h few
+
+  accepts-own-roster : (table roster list : List ℕ) → Accepted v table roster → length list ≡ length roster → ownRosterOutcome v table list ≡ accepted tt
+  unfolding ownRosterOutcome
+  accepts-own-roster table roster list h e =
+      let R = accepted-right v table roster h in
+      decided-passes _ (accepted tt)
+      (first-passes _ _ (or-neither (wrongSize (length list)) _ (subst (λ (z : ℕ). wrongSize z ≡ false) (sym e) (R .size)) (table-length table roster h))
+      (first-passes _ _ (subst (λ (z : ℕ). wrongWords v z ≡ false) (sym e) (R .words))
+      (first-passes _ _ (subst (λ (z : ℕ). wrongCodes v z (triples table) ≡ false) (sym e) (R .codes)) no-checks)))
+
+  accepts-cliques : (table roster sources targets : List ℕ) → Accepted v table roster → length sources ≡ length roster → length targets ≡ length roster → cliquesOutcome v table roster sources targets ≡ accepted tt
+  unfolding cliquesOutcome
+  accepts-cliques table roster sources targets h a b =
+      ap (λ (x : Bool). checked (tableChecks v x table roster) tt) (or-neither (not (eqb (length sources) (length roster))) _ (ap not (eq-eqb _ _ a)) (ap not (eq-eqb _ _ b)))
+      ∙ decided-passes (tableChecks v false table roster) (accepted tt) h
+
+  accepts-open : (table roster : List ℕ) (s : State) → Accepted v table roster → length (s .map) ≡ length roster → slots (s .triples) ≡ slots (s .summary) → slots (s .triples) ≤ mostTriples → openOutcome v roster s ≡ accepted tt
+  unfolding openOutcome wrongLists
+  accepts-open table roster s h a b c =
+      let R = accepted-right v table roster h in
+      decided-passes _ (accepted tt)
+      (first-passes _ _
+      (or-neither (wrongSize (length roster)) _ (R .size)
+      (or-neither (not (eqb (length (s .map)) (length roster))) _ (ap not (eq-eqb _ _ a))
+      (or-neither (not (eqb (slots (s .triples)) (slots (s .summary)))) _ (ap not (eq-eqb _ _ b)) (le-ltb _ _ c))))
+      (first-passes _ _ (R .words) (first-passes _ _ (R .marks) no-checks)))
+
+  pub accepted-calls : AcceptedCalls v
   accepted-calls table roster h =
       record {
-        saturates = λ result few. enough (tableChecks v false table roster) (slots result) _ h few;
+        own-roster = λ list e. accepts-own-roster table roster list h e;
+        saturates = λ result few. accepts-saturate table roster result h few;
         summarises = accepts-summarise (mapOf v) table roster h;
         strongly-summarises = accepts-summarise (strongMapOf v) table roster h;
+        cliques = λ sources targets a b. accepts-cliques table roster sources targets h a b;
+        opens = λ s a b c. accepts-open table roster s h a b c;
+        asks = asks-of _ _ roster (routes-accepted v table roster h .summary-accepted) (length-map-of v roster (triples table));
+        asks-strong = asks-of _ _ roster (strong-routes-accepted v table roster h .summary-accepted) (length-strong-map v roster (triples table));
       }
 
   -- so a saturate of an accepted table leaves its saturation, where there are slots for it
@@ -210,7 +264,7 @@ module _ (v : Vocabulary) where
   runs-saturate table roster result ts e h few =
       let sat = saturation v (length roster) (triples table) in
       let r : saturateOutcome v table roster result ≡ accepted (length ts) =
-      subst (λ (us : List Triple). length us ≤ slots result → saturateOutcome v table roster result ≡ accepted (length us)) e (accepted-calls table roster h .saturates result) few in
+      subst (λ (us : List Triple). length us ≤ slots result → saturateOutcome v table roster result ≡ accepted (length us)) e (accepts-saturate table roster result h) few in
       record {
         returns = r;
         triples = sym (ap (λ (o : Outcome ℕ). tableIn (length ts) (left o result (listed (length result) sat))) r
@@ -234,6 +288,46 @@ module _ (v : Vocabulary) where
               ∙ ap (λ (us : List Triple). tableIn (length ts) (listed (length (l .result)) us)) e
               ∙ listed-table (length (l .result)) ts (length ts) refl);
           representatives = sym (ap (λ (o : Outcome ℕ). left o (l .map) m) r);
+        }
+
+    -- ── both routes in one piece ──
+    routes-by-calls : ((roster : List ℕ) (ts : List Triple) → length (mapped roster ts) ≡ length roster)
+        → ((table roster : List ℕ) → Accepted v table roster → RoutesBy v (mapped roster) table roster)
+        → ((table roster : List ℕ) → Accepted v table roster → ShortcutBy v (mapped roster) table roster) → RoutesOfCallsBy v mapped
+    routes-by-calls sizes routes holds table roster big small l k m h few hb hl hk hs hm =
+        let sat = saturation v (length roster) in
+        let by = sumBy v (mapped roster) in
+        let ts = triples table in
+        let R = routes table roster h in
+        let S = runs-saturate table roster big (sat ts) refl h hb in
+        let again : by (triples (flat (sat (by ts)))) ≡ by (sat ts) = ap by (triples-flat (sat (by ts))) ∙ sym (holds table roster h .triples) in
+        let G = runs-summarise (flat (sat ts)) roster l (by (sat ts)) (ap by (triples-flat (sat ts))) (R .saturation-accepted few) hl in
+        let F = runs-summarise table roster k (by ts) refl h hk in
+        let T = runs-saturate (flat (by ts)) roster small (sat (by ts)) (ap sat (triples-flat (by ts))) (R .summary-accepted) hs in
+        let H = runs-summarise (flat (sat (by ts))) roster m (by (sat ts)) again (R .second-accepted (omega (arith, few, R .shorter))) hm in
+        let sum-accepted : Accepted v (flat (by (sat ts))) roster =
+        subst (λ (us : List Triple). Accepted v (flat (by us)) roster) (triples-flat (sat ts)) (routes (flat (sat ts)) roster (R .saturation-accepted few) .summary-accepted) in
+        record {
+          sat = _;
+          sum = _;
+          short = _;
+          shortSat = _;
+          shortSum = _;
+          f = _;
+          g = _;
+          h = _;
+          a = _;
+          b = _;
+          c = _;
+          d = _;
+          e = _;
+          saturates = S;
+          summarises = G;
+          short-summarises = F;
+          short-saturates = T;
+          short-summarises-again = H;
+          agree = shortcut-by-calls mapped holds table roster big small l k m _ _ _ _ _ _ _ _ _ _ _ _ _ S G F T H;
+          asks = asks-of _ _ roster sum-accepted (sizes roster (triples (flat (sat ts))));
         }
 
     -- ── a shipped summary is at rest ──
@@ -262,6 +356,12 @@ module _ (v : Vocabulary) where
               ap (λ (z : List ℕ). label z x) m ∙ R .again .no-node x (λ y. n (subst (λ (us : List Triple). Node (λ t. Mem t us) x) (sym held) y));
           carried = λ x. (λ i. label (m i) (label (S .maps i) x)) ∙ R .again .carried x ∙ ap (λ (z : List ℕ). label z x) (sym (S .maps));
         }
+
+  pub routes-of-calls : RoutesOfCalls v
+  routes-of-calls = routes-by-calls (mapOf v) (length-map-of v) (routes-accepted v) (shortcut-holds v)
+
+  pub strong-routes-of-calls : StrongRoutesOfCalls v
+  strong-routes-of-calls = routes-by-calls (strongMapOf v) (length-strong-map v) (strong-routes-accepted v) (strong-shortcut-holds v)
 
   pub at-rest-of-calls : AtRestOfCalls v
   at-rest-of-calls = at-rest-by-calls (mapOf v) (routes-accepted v) (at-rest-holds v)

@@ -1,4 +1,5 @@
--- The demands in one place: for every word table.
+-- The demands in one place: for every word table. Demand 1, what every lent list and record holds after every call, is no statement over the
+-- definitions: it is each call's contract, and README's section "Demand 1, call by call" says which contract that is.
 -- Assumes nothing.
 use Prim.Native.Nat.{ℕ, min}
 use lib.Dec.{T, ltb}
@@ -17,7 +18,7 @@ use Rattle.site_form.specs.Example.{SignBytes, PrintsExample}
 use Rattle.theory.specs.Theorems.{SaturationExact, ConstraintsFollow, CliquesExact, RepresentativesExact, SummaryExact, StrongRepresentativesExact, StrongSummaryExact, OwnRosterLeast, ShortcutHolds, RoutesAccepted, StrongShortcutHolds, StrongRoutesAccepted, WeakOfStrongHolds, AtRestHolds, StrongAtRestHolds, AgainTheSame, StrongAgainTheSame, AnyOrder, FedInAnyOrder, WholeList}
 use Rattle.demands.specs.NoneMeansNone.{NoneMeansNone, StrongNoneMeansNone}
 use Rattle.demands.specs.Feeds.{ListOfCalls}
-use Rattle.demands.specs.Routes.{AcceptedCalls, ShortcutOfCalls, StrongShortcutOfCalls, WeakOfStrongCalls, AtRestOfCalls, StrongAtRestOfCalls, LeavesSaturated, NoneOfCalls, StrongNoneOfCalls, AskRefusesSix}
+use Rattle.demands.specs.Routes.{AcceptedCalls, RoutesOfCalls, StrongRoutesOfCalls, ShortcutOfCalls, StrongShortcutOfCalls, WeakOfStrongCalls, AtRestOfCalls, StrongAtRestOfCalls, LeavesSaturated, NoneOfCalls, StrongNoneOfCalls, AskRefusesSix}
 
 -- the small graphs of 01, computed, with the saturation that 02 gives the six triples, and two graphs with reserved codes of their own
 abbrev pub GraphsRight : Type 0
@@ -46,9 +47,11 @@ pub record Demand3 : Type 0 where
   pub shortcut : (v : Vocabulary) → ShortcutHolds v
   pub routes : (v : Vocabulary) → RoutesAccepted v
   pub accepted-calls : (v : Vocabulary) → AcceptedCalls v
+  pub routes-of-calls : (v : Vocabulary) → RoutesOfCalls v
   pub shortcut-of-calls : (v : Vocabulary) → ShortcutOfCalls v
   pub strong-shortcut : (v : Vocabulary) → StrongShortcutHolds v
   pub strong-routes : (v : Vocabulary) → StrongRoutesAccepted v
+  pub strong-routes-of-calls : (v : Vocabulary) → StrongRoutesOfCalls v
   pub strong-shortcut-of-calls : (v : Vocabulary) → StrongShortcutOfCalls v
   pub weak-of-strong : (v : Vocabulary) → WeakOfStrongHolds v
   pub weak-of-strong-calls : (v : Vocabulary) → WeakOfStrongCalls v

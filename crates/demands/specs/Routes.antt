@@ -1,9 +1,9 @@
 -- Demand 3 and summaries at rest, over the calls, each on what the call before left. Where a statement supposes an accepted call, its lists
--- are long enough; `AcceptedCalls` and `ReworksBy` promise that a call is accepted where they are.
+-- are long enough; `AcceptedCalls`, `RoutesOfCallsBy` and `ReworksBy` promise that a call is accepted where they are.
 -- Assumes nothing.
 use Prim.Native.Nat.{ℕ, _*_, _≤_}
 use mathlib.Core.Path.{_≡_}
-use mathlib.Core.Bool.{false}
+use mathlib.Core.Bool.{Bool, true, false}
 use mathlib.Core.List.{List}
 use lib.ListN.{length, take}
 use Rattle.model.specs.declared.Triple.{Triple}
@@ -11,20 +11,21 @@ use Rattle.model.specs.Triples.{triples, flat, slots}
 use Rattle.model.specs.Roster.{ownRoster, wrongCodes}
 use Rattle.model.specs.Saturation.{saturation}
 use Rattle.model.specs.Classes.{mapOf, strongMapOf}
-use Rattle.model.specs.Summary.{condensed, summary}
+use Rattle.model.specs.Summary.{condensed, summary, strongSummary}
 use Rattle.query.specs.declared.Query.{Query}
 use Rattle.query.specs.declared.Pattern.{Pattern}
-use Rattle.query.specs.Ask.{askOutcome}
+use Rattle.query.specs.Ask.{wrongQuery, askOutcome}
 use Rattle.query.specs.Match.{Match}
 use Rattle.site_form.specs.Reading.{queryOf}
 use Rattle.site_form.specs.Printing.{printerSlots}
 use Rattle.model.specs.declared.Vocabulary.{Vocabulary}
-use Rattle.model.specs.Codes.{absent, wrongWords}
+use Rattle.model.specs.Codes.{absent, mostTriples, wrongWords}
 use Rattle.model.specs.Partition.{label}
 use Rattle.model.specs.Cliques.{Node}
 use Rattle.model.specs.Outcomes.{accepted, refused, wrongSize}
-use Rattle.model.specs.Calls.{Accepted, saturateOutcome, saturateLeaves, summariseOutcomeBy, summariseLeavesBy}
-use Rattle.theory.specs.Theorems.{TriplesOf, Saturated}
+use Rattle.model.specs.Calls.{Accepted, ownRosterOutcome, saturateOutcome, saturateLeaves, cliquesOutcome, summariseOutcomeBy, summariseLeavesBy}
+use Rattle.model.specs.Intake.{State, openOutcome}
+use Rattle.theory.specs.Theorems.{TriplesOf, saturationOf, sumBy, shortBy, Saturated}
 
 -- the table that a call left in its result list: the triples that it counted
 abbrev pub tableIn : ℕ → List ℕ → List ℕ
@@ -72,15 +73,27 @@ module _ (v : Vocabulary) where
     pub returns : saturateOutcome v table roster result ≡ accepted count
     pub triples : out ≡ tableIn count (saturateLeaves v table roster result)
 
+  -- An ask of this table by this map is refused with 6 alone, never with 1, 10 or 3: where the query is right it is answered.
+  pub record Asks (table map : List ℕ) : Type 0 where
+    pub answers : (q : Query) → wrongQuery (length map) q ≡ false → (maybe : Bool) × (askOutcome v table map q ≡ accepted maybe)
+    pub refuses : (q : Query) → wrongQuery (length map) q ≡ true → askOutcome v table map q ≡ refused 6
+
   -- 01: "A table is accepted with a roster if no check before 5 below refuses it; a list is long enough if its length causes no 1, 5 or 7."
-  -- On an accepted table, with lists that are long enough, the calls are accepted. `RoutesAccepted` and `StrongRoutesAccepted` say that the
-  -- tables on either route are accepted, so each call of a route is.
+  -- On an accepted table, with lists that are long enough, these calls are accepted.
   pub record CallsAccept (table roster : List ℕ) : Type 0 where
+    -- own roster into a list of the roster's length
+    pub own-roster : (list : List ℕ) → length list ≡ length roster → ownRosterOutcome v table list ≡ accepted tt
     pub saturates : (result : List ℕ) → length (saturation v (length roster) (triples table)) ≤ slots result
         → saturateOutcome v table roster result ≡ accepted (length (saturation v (length roster) (triples table)))
     pub summarises : AcceptsSummarise (mapOf v) table roster
     -- 02: "Representatives, lists and checks are those of the weak one."
     pub strongly-summarises : AcceptsSummarise (strongMapOf v) table roster
+    pub cliques : (sources targets : List ℕ) → length sources ≡ length roster → length targets ≡ length roster → cliquesOutcome v table roster sources targets ≡ accepted tt
+    -- an opening with the table's roster
+    pub opens : (s : State) → length (s .map) ≡ length roster → slots (s .triples) ≡ slots (s .summary) → slots (s .triples) ≤ mostTriples → openOutcome v roster s ≡ accepted tt
+    -- an ask on the table's summary
+    pub asks : Asks (flat (summary v roster (triples table))) (mapOf v roster (triples table))
+    pub asks-strong : Asks (flat (strongSummary v roster (triples table))) (strongMapOf v roster (triples table))
 
   abbrev pub AcceptedCalls : Type 0
   AcceptedCalls = (table roster : List ℕ) → Accepted v table roster → CallsAccept table roster
@@ -93,6 +106,51 @@ module _ (v : Vocabulary) where
       → Saturates table roster big a sat → SummarisesBy mapped sat roster l b sum g
       → SummarisesBy mapped table roster k c short f → Saturates short roster small d shortSat → SummarisesBy mapped shortSat roster m e shortSum h
       → (b ≡ e) × (sum ≡ shortSum) × ((x : ℕ) → label h (label f x) ≡ label g x)
+
+  -- The same in one piece, with no call supposed to be accepted. `sat` and `sum` are what the long route leaves, `short`, `shortSat` and
+  -- `shortSum` what the short route leaves; `g` is the long route's map, `f` and `h` are the short route's; `a` to `e` are the counts, in the
+  -- order of the five calls.
+  pub record RoutesRunBy (mapped : List ℕ → List Triple → List ℕ) (table roster big small : List ℕ) (l k m : Lent) : Type 0 where
+    pub sat : List ℕ
+    pub sum : List ℕ
+    pub short : List ℕ
+    pub shortSat : List ℕ
+    pub shortSum : List ℕ
+    pub f : List ℕ
+    pub g : List ℕ
+    pub h : List ℕ
+    pub a : ℕ
+    pub b : ℕ
+    pub c : ℕ
+    pub d : ℕ
+    pub e : ℕ
+    pub saturates : Saturates table roster big a sat
+    pub summarises : SummarisesBy mapped sat roster l b sum g
+    pub short-summarises : SummarisesBy mapped table roster k c short f
+    pub short-saturates : Saturates short roster small d shortSat
+    pub short-summarises-again : SummarisesBy mapped shortSat roster m e shortSum h
+    pub agree : (b ≡ e) × (sum ≡ shortSum) × ((x : ℕ) → label h (label f x) ≡ label g x)
+    pub asks : Asks sum g
+
+  -- 01: "A table is accepted .." and "a list is long enough ..": from an accepted table whose saturation is no longer than a table may be, and
+  -- lists that are long enough, every call of both routes is accepted, the routes agree, and an ask on the summary is refused with 6 alone. The
+  -- last list needs slots for the long route's summary, because the routes end with one table.
+  abbrev pub RoutesOfCallsBy : (List ℕ → List Triple → List ℕ) → Type 0
+  RoutesOfCallsBy mapped =
+      (table roster big small : List ℕ) (l k m : Lent) → Accepted v table roster
+      → length (saturationOf v table roster) ≤ mostTriples
+      → length (saturationOf v table roster) ≤ slots big
+      → LongEnough roster (length (sumBy v (mapped roster) (saturationOf v table roster))) l
+      → LongEnough roster (length (sumBy v (mapped roster) (triples table))) k
+      → length (shortBy v (mapped roster) table roster) ≤ slots small
+      → LongEnough roster (length (sumBy v (mapped roster) (saturationOf v table roster))) m
+      → RoutesRunBy mapped table roster big small l k m
+
+  abbrev pub RoutesOfCalls : Type 0
+  RoutesOfCalls = RoutesOfCallsBy (mapOf v)
+
+  abbrev pub StrongRoutesOfCalls : Type 0
+  StrongRoutesOfCalls = RoutesOfCallsBy (strongMapOf v)
 
   abbrev pub ShortcutOfCalls : Type 0
   ShortcutOfCalls = ShortcutOfCallsBy (mapOf v)

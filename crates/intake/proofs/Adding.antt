@@ -6,7 +6,7 @@ use mathlib.Core.Logic.{_⊎_, inl, inr, ⊎-elim}
 use mathlib.Core.Bool.{Bool, true, false, not, true≢false}
 use mathlib.Core.List.{List, [], List·Memᴰ as Mem}
 use native.Mathlib.Omega.{arith}
-use lib.ListN.{length, length-replicate}
+use lib.ListN.{length}
 use borrow.Author.Tests.{not-false}
 use Rattle.model.specs.declared.Triple.{Triple}
 use Rattle.model.specs.declared.Refusal.{Refusal}
@@ -16,7 +16,7 @@ use Rattle.model.specs.declared.Counted.{Counted}
 use Rattle.model.specs.declared.Counted.the-variants.{Count, Refused as counted-refused}
 use Rattle.model.specs.declared.Vocabulary.{Vocabulary}
 use Rattle.model.specs.Codes.{absent}
-use Rattle.model.specs.Lists.{any, zeros}
+use Rattle.model.specs.Lists.{any}
 use Rattle.model.specs.Triples.{slots, holds, insert, listed}
 use Rattle.model.specs.Order.{Rising}
 use Rattle.model.specs.Roster.{coversTriple, covers, wrongTriple, wrongCodes}
@@ -24,7 +24,7 @@ use Rattle.model.specs.Partition.{label}
 use Rattle.model.specs.Cliques.{Node}
 use Rattle.model.specs.Classes.{mapOf}
 use Rattle.model.specs.Summary.{moved, summary}
-use Rattle.model.specs.Outcomes.{Outcome, accepted, number, found, counted}
+use Rattle.model.specs.Outcomes.{Outcome, accepted, refusalNumber, zeroed, found, counted}
 use Rattle.model.specs.Intake.{State, stateOf, Valid}
 use Rattle.theory.proofs.Tests.{or-false, or-neither}
 use Rattle.theory.proofs.Checks.{no-checks, not-accepted}
@@ -45,10 +45,11 @@ use Rattle.summarise.specs.Condensed.{condensedOutcome, Condensed}
 use Rattle.intake.specs.Insertion.{Inserted}
 use Rattle.intake.specs.Opening.{stateWith}
 use Rattle.intake.specs.declared.FedCounts.{FedCounts}
-use Rattle.intake.specs.Feeding.{Known, bad, Ready, AddCall, refusal}
+use Rattle.intake.specs.Feeding.{Known, bad, FeedReady, AddCall, refusal, newHeld}
 use Rattle.intake.proofs.Insertion.{new-mem, inserted-first}
 use Rattle.intake.proofs.Held.{listed-first, inserted-listed}
 use Rattle.intake.proofs.Quick.{quick-map, quick-summary}
+use Rattle.intake.proofs.AnyState.{alters-nothing, alters-all}
 
 module _ (v : Vocabulary) where
   -- a triple is wrong neither way
@@ -104,7 +105,7 @@ module _ (v : Vocabulary) where
           subst (λ (ts : List Triple). any (bad v roster) ts ≡ false) (sym first-is)
           (none-any (bad v roster) H (λ u m. parts-good roster u (any-none (wrongTriple v (length roster)) H (W .codes) u m) (all-at (coversTriple v roster) H (W .covered) u m)))
 
-    module _ (i : ℕ) (R : Ready v roster triples sums map₀ work t) (low : i ≤ held) (free : held < length triples / 3) where
+    module _ (i : ℕ) (R : FeedReady v roster triples sums map₀ work t) (low : i ≤ held) (free : held < length triples / 3) where
       abbrev Adds : Outcome Bool → State → List ℕ → Type 0
       Adds = AddCall v roster s work t i
 
@@ -116,16 +117,16 @@ module _ (v : Vocabulary) where
 
       -- ── held triples that are wrong ──
       pub added-wrong : any (bad v roster) (first triples held) ≡ true → Adds (found (Refused Full)) s work
-      unfolding found number
+      unfolding found refusalNumber zeroed
       added-wrong h =
           record {
             passes = inl refl;
+            in-any-state = alters-nothing s work 7 refl;
             steps = λ H W B f. absurd (true≢false (sym h ∙ none-bad H W));
-            kept = record { in-triples = refl; in-summary = refl; in-map = refl; in-work = refl };
           }
 
-      pub refused-wrong : any (bad v roster) (first triples held) ≡ true → (y : FedCounts) → y ≡ refusal Full held summarised → Adds (found (y .answer)) (stateWith triples sums map₀ (y .held) (y .summarised)) work
-      refused-wrong h y e = subst (λ (y : FedCounts). Adds (found (y .answer)) (stateWith triples sums map₀ (y .held) (y .summarised)) work) (sym e) (added-wrong h)
+      pub refused-wrong : any (bad v roster) (first triples held) ≡ true → (y : FedCounts) → y ≡ refusal Full held summarised → Adds (found (y .answer)) (stateWith triples sums map₀ (y .counts .held) (y .counts .summarised)) work
+      refused-wrong h y e = subst (λ (y : FedCounts). Adds (found (y .answer)) (stateWith triples sums map₀ (y .counts .held) (y .counts .summarised)) work) (sym e) (added-wrong h)
 
       module _ (m : List ℕ) (I : Inserted triples m held i t) where
         front-is : (H : List Triple) → Valid v roster s H → Bound (at triples) 0 held t i → holds t H ≡ false → first m (held + 1) ≡ insert t H
@@ -142,14 +143,20 @@ module _ (v : Vocabulary) where
         count-is : (H : List Triple) → Valid v roster s H → holds t H ≡ false → held + 1 ≡ length (insert t H)
         count-is H W f = omega (arith, held-is H W, insert-new t H f)
 
+        -- a new triple, as `added` answers it
+        pub as-added : (y : FedCounts) (n k : ℕ) → y ≡ newHeld n k → (sums′ map′ w : List ℕ) → Adds (found Yes) (stateWith m sums′ map′ n k) w
+            → Adds (found (y .answer)) (stateWith m sums′ map′ (y .counts .held) (y .counts .summarised)) w
+        as-added y n k e sums′ map′ w A = subst (λ (y : FedCounts). Adds (found (y .answer)) (stateWith m sums′ map′ (y .counts .held) (y .counts .summarised)) w) (sym e) A
+
         -- ── the summary stays ──
         pub added-quick : Known sums summarised map₀ t → (w : List ℕ) → Cleared work w 0 (length work) → Adds (found Yes) (stateWith m sums map₀ (held + 1) summarised) w
-        unfolding found stateOf
+        unfolding found stateOf slots
         added-quick K w C =
             record {
               passes = inr (true, refl);
-              steps = λ H W B f. (refl, state-is H W B f, cleared-all work w (length work) C (omega arith));
-              kept = record { in-triples = I .size; in-summary = refl; in-map = refl; in-work = C .size };
+              in-any-state = alters-all s work (stateWith m sums map₀ (held + 1) summarised) w (cleared-all work w (length work) C (omega arith))
+                  (refl, omega (arith, free), omega (arith, K .fits)) (I .size, refl, refl);
+              steps = λ H W B f. (refl, state-is H W B f);
             }
           where
             state-is : (H : List Triple) → Valid v roster s H → Bound (at triples) 0 held t i → holds t H ≡ false
@@ -216,17 +223,13 @@ module _ (v : Vocabulary) where
             k-is = let q = answer-is in cc
 
             pub added-slow : Adds (found Yes) (stateWith m sums′ map′ (held + 1) k) work′
-            unfolding found stateOf zeros
+            unfolding found stateOf slots
             added-slow =
                 record {
                   passes = inr (true, refl);
-                  steps = λ H W B f. (refl, state-is H W B f, w-is);
-                  kept = record {
-                    in-triples = I .size;
-                    in-summary = ap {B = ℕ} (λ (x : List ℕ). length x) s-is ∙ length-listed (length sums) (summary v roster ts) few-enough;
-                    in-map = ap {B = ℕ} (λ (x : List ℕ). length x) m-is ∙ length-map-of v roster ts ∙ sym (R .map-size);
-                    in-work = ap {B = ℕ} (λ (x : List ℕ). length x) w-is ∙ zeros-length (length work);
-                  };
+                  in-any-state = alters-all s work (stateWith m sums′ map′ (held + 1) k) work′ (C .in-work ∙ left-after _ _ _ _ ok)
+                      (refl, omega (arith, free), omega (arith, k-is, few-enough)) (I .size, summary-size, map-size);
+                  steps = λ H W B f. (refl, state-is H W B f);
                 }
               where
                 s-is : sums′ ≡ listed (length sums) (summary v roster ts)
@@ -235,11 +238,11 @@ module _ (v : Vocabulary) where
                 m-is : map′ ≡ mapOf v roster ts
                 m-is = C .in-map ∙ left-after _ _ _ _ ok
 
-                w-is : work′ ≡ zeros (length work)
-                w-is = C .in-work ∙ left-after _ _ _ _ ok
+                summary-size : length sums′ ≡ length sums
+                summary-size = ap {B = ℕ} (λ (x : List ℕ). length x) s-is ∙ length-listed (length sums) (summary v roster ts) few-enough
 
-                zeros-length : (n : ℕ) → length (zeros n) ≡ n
-                zeros-length n = length-replicate {A = ℕ} n 0
+                map-size : length map′ ≡ length map₀
+                map-size = ap {B = ℕ} (λ (x : List ℕ). length x) m-is ∙ length-map-of v roster ts ∙ sym (R .map-size)
 
                 state-is : (H : List Triple) → Valid v roster s H → Bound (at triples) 0 held t i → holds t H ≡ false
                     → stateWith m sums′ map′ (held + 1) k ≡ stateOf v roster (length triples) (length sums) (insert t H)

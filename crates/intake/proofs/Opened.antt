@@ -1,6 +1,6 @@
 -- Opening, answer by answer.
 -- Assumes nothing.
-use Prim.Native.Nat.{ℕ, _/_, _≤_}
+use Prim.Native.Nat.{ℕ, _/_}
 use mathlib.Core.Path.{_≡_, refl, sym, subst, _∙_, ap}
 use mathlib.Core.Bool.{Bool, true, false, cond, not, _||_}
 use mathlib.Core.List.{List}
@@ -17,7 +17,7 @@ use Rattle.model.specs.declared.Vocabulary.{Vocabulary}
 use Rattle.model.specs.Codes.{wrongWords, absent}
 use Rattle.model.specs.Triples.{slots}
 use Rattle.model.specs.Roster.{wrongRoster}
-use Rattle.model.specs.Outcomes.{Outcome, refused, accepted, number, done, decided, wrongSize}
+use Rattle.model.specs.Outcomes.{Outcome, refused, accepted, refusalNumber, done, decided, wrongSize}
 use Rattle.model.specs.Intake.{State, wrongLists, openOutcome, opened, openLeaves}
 use Rattle.theory.proofs.Tests.{or-left, or-right}
 use Rattle.lists.specs.Flat.{Cleared}
@@ -63,7 +63,7 @@ module _ (v : Vocabulary) where
     outcome-is a w b p x q held summarised = λ i. first-of (p i) (x i) (q i)
 
     pub opened-length : wrong ≡ true → OpenCall v roster triples summary map (Refused Length) triples summary map
-    unfolding done number openLeaves
+    unfolding done refusalNumber openLeaves
     opened-length p =
         record {
           answer = λ h s. sym (outcome-is true (wrongWords v (length roster)) (wrongRoster v roster) p refl refl h s);
@@ -73,7 +73,7 @@ module _ (v : Vocabulary) where
         }
 
     pub opened-words : wrong ≡ false → wrongWords v (length roster) ≡ true → OpenCall v roster triples summary map (Refused Words) triples summary map
-    unfolding done number openLeaves
+    unfolding done refusalNumber openLeaves
     opened-words p q =
         record {
           answer = λ h s. sym (outcome-is false true (wrongRoster v roster) p q refl h s);
@@ -83,7 +83,7 @@ module _ (v : Vocabulary) where
         }
 
     pub opened-roster : wrong ≡ false → wrongWords v (length roster) ≡ false → wrongRoster v roster ≡ true → OpenCall v roster triples summary map (Refused Roster) triples summary map
-    unfolding done number openLeaves
+    unfolding done refusalNumber openLeaves
     opened-roster p k q =
         record {
           answer = λ h s. sym (outcome-is false false true p k q h s);

@@ -15,22 +15,22 @@ use Rattle.model.specs.declared.Refusal.the-variants.{Length, Words, Roster, Co
 use Rattle.model.specs.declared.Found.the-variants.{No, Refused as found-refused}
 use Rattle.model.specs.declared.Vocabulary.{Vocabulary}
 use Rattle.model.specs.Codes.{wrongWords}
-use Rattle.model.specs.Lists.{zeros}
 use Rattle.model.specs.Triples.{slots, holds, insert}
 use Rattle.model.specs.Roster.{coversTriple, wrongRoster, wrongTriple}
-use Rattle.model.specs.Outcomes.{Outcome, refused, accepted, number, found, Check, decided, checked, Passes, zeroed, left, wrongSize, wrongWork}
-use Rattle.model.specs.Intake.{State, judged, joins, stateOf, wrongLists, feedChecks, Valid, Fed}
+use Rattle.model.specs.Outcomes.{Outcome, refused, accepted, refusalNumber, found, Check, decided, checked, Passes, zeroed, wrongSize, wrongWork}
+use Rattle.model.specs.Intake.{State, judged, joins, stateOf, wrongLists, feedChecks, Valid, InAnyState, Fed}
 use Rattle.theory.proofs.Tests.{or-left, or-right, or-false, or-neither}
 use Rattle.theory.proofs.Checks.{passes-first, decided-passes, not-accepted}
 use Rattle.table_checks.specs.declared.Verdict.{Verdict}
 use Rattle.table_checks.specs.declared.Verdict.the-variants.{Passed, Refused}
 use Rattle.table_checks.specs.Verdicts.{verdict}
-use Rattle.table_checks.proofs.Laws.{firstOf, refused-any, accepted-passes, kept-by, left-kept}
+use Rattle.table_checks.proofs.Laws.{firstOf, refused-any, accepted-passes, kept-by}
 use Rattle.lists.specs.Flat.{at, Cleared, Place}
 use Rattle.lists.proofs.Search.{cleared-all}
 use Rattle.intake.specs.declared.FedCounts.{FedCounts}
 use Rattle.intake.specs.Opening.{wrongLengths, stateWith}
-use Rattle.intake.specs.Feeding.{StandsAt, FeedVerdict, Ready, Kept, AddCall, Taken, refusal}
+use Rattle.intake.specs.Feeding.{StandsAt, FeedVerdict, FeedReady, AddCall, Taken, refusal}
+use Rattle.intake.proofs.AnyState.{alters-nothing, alters-work}
 use Rattle.intake.proofs.Adding.{held-is, first-is, rising}
 
 module _ (v : Vocabulary) where
@@ -51,7 +51,7 @@ module _ (v : Vocabulary) where
     outcome-is p w q r s held summarised = λ i. firstOf (p i) (w i) (q i) (r i) (s i)
 
     by-length : (lengths || wrongWork (length roster) (length work)) ≡ true → Is (Refused Length)
-    unfolding verdict number
+    unfolding verdict refusalNumber
     by-length p held summarised = sym (outcome-is p refl refl refl refl held summarised)
 
     pub by-lengths : lengths ≡ true → Is (Refused Length)
@@ -65,19 +65,19 @@ module _ (v : Vocabulary) where
       sizes = or-neither lengths _ l k
 
       pub by-words : wrongWords v (length roster) ≡ true → Is (Refused Words)
-      unfolding verdict number
+      unfolding verdict refusalNumber
       by-words w held summarised = sym (outcome-is sizes w refl refl refl held summarised)
 
       pub by-roster : wrongWords v (length roster) ≡ false → wrongRoster v roster ≡ true → Is (Refused Roster)
-      unfolding verdict number
+      unfolding verdict refusalNumber
       by-roster w a held summarised = sym (outcome-is sizes w a refl refl held summarised)
 
       pub by-codes : wrongWords v (length roster) ≡ false → wrongRoster v roster ≡ false → wrongTriple v (length roster) t ≡ true → Is (Refused Code)
-      unfolding verdict number
+      unfolding verdict refusalNumber
       by-codes w a b held summarised = sym (outcome-is sizes w a b refl held summarised)
 
       pub by-cover : wrongWords v (length roster) ≡ false → wrongRoster v roster ≡ false → wrongTriple v (length roster) t ≡ false → coversTriple v roster t ≡ false → Is (Refused Cover)
-      unfolding verdict number
+      unfolding verdict refusalNumber
       by-cover w a b d held summarised = sym (outcome-is sizes w a b (ap not d) held summarised)
 
       pub by-none : wrongWords v (length roster) ≡ false → wrongRoster v roster ≡ false → wrongTriple v (length roster) t ≡ false → coversTriple v roster t ≡ true → Is Passed
@@ -91,8 +91,9 @@ module _ (v : Vocabulary) where
     abbrev Takes : Outcome Bool → State → List ℕ → Type 0
     Takes = Taken v roster s work t
 
-    same-lengths : Kept v roster s work t s work
-    same-lengths = record { in-triples = refl; in-summary = refl; in-map = refl; in-work = refl }
+    full : InAnyState s work (refused 7) s work
+    unfolding zeroed
+    full = alters-nothing s work 7 refl
 
     judged-is : (a b : Bool) (H : List Triple) → holds t H ≡ a → leb (slots triples) (length H) ≡ b → judged v roster (slots triples) H t ≡ cond a (accepted false) (cond b (refused 7) (accepted true))
     unfolding judged
@@ -102,22 +103,18 @@ module _ (v : Vocabulary) where
     unfolding joins
     joins-new H = refl
 
-    left-new : zeros (length work) ≡ left {A = Bool} (accepted true) work (zeros (length work))
-    unfolding left
-    left-new = refl
-
     -- an answer with the counts as they were is what `refuse` and `not_new` give
-    pub taken-is : (y z : FedCounts) → y ≡ z → (w : List ℕ) → Takes (found (z .answer)) (stateWith triples sums map₀ (z .held) (z .summarised)) w → Takes (found (y .answer)) (stateWith triples sums map₀ (y .held) (y .summarised)) w
-    taken-is y z e w T = subst (λ (x : FedCounts). Takes (found (x .answer)) (stateWith triples sums map₀ (x .held) (x .summarised)) w) (sym e) T
+    pub taken-is : (y z : FedCounts) → y ≡ z → (w : List ℕ) → Takes (found (z .answer)) (stateWith triples sums map₀ (z .counts .held) (z .counts .summarised)) w → Takes (found (y .answer)) (stateWith triples sums map₀ (y .counts .held) (y .counts .summarised)) w
+    taken-is y z e w T = subst (λ (x : FedCounts). Takes (found (x .answer)) (stateWith triples sums map₀ (x .counts .held) (x .counts .summarised)) w) (sym e) T
 
     -- more triples than slots: an intake altered by hand
     pub taken-over : length triples / 3 < held → Takes (found (found-refused Full)) s work
-    unfolding found number slots
+    unfolding found refusalNumber slots
     taken-over h =
         record {
           passes = inl refl;
+          in-any-state = full;
           steps = λ H W. absurd (omega (arith, W .fits, held-is v roster triples sums map₀ work held summarised t H W));
-          kept = same-lengths;
         }
 
     module _ (i : ℕ) (P : Place (at triples) 0 held t i) (r : Bool) (S : StandsAt triples held i t r) where
@@ -128,41 +125,39 @@ module _ (v : Vocabulary) where
 
       -- the triple is held
       pub taken-same : r ≡ true → (w : List ℕ) → Cleared work w 0 (length work) → Takes (found No) s w
-      unfolding found joins left
+      unfolding found joins
       taken-same e w C =
           record {
             passes = inr (false, refl);
-            steps = λ H W. (sym (judged-is true (leb (slots triples) (length H)) H (holds-is true e H W) refl), W .is-state, cleared-all work w (length work) C (omega arith));
-            kept = record { in-triples = refl; in-summary = refl; in-map = refl; in-work = C .size };
+            in-any-state = alters-work s work w (cleared-all work w (length work) C (omega arith));
+            steps = λ H W. (sym (judged-is true (leb (slots triples) (length H)) H (holds-is true e H W) refl), W .is-state);
           }
 
       -- the intake is full
       pub taken-full : r ≡ false → length triples / 3 ≤ held → Takes (found (found-refused Full)) s work
-      unfolding found number joins left zeroed slots
+      unfolding found refusalNumber joins slots
       taken-full e h =
           record {
             passes = inl refl;
+            in-any-state = full;
             steps = λ H W. (
               sym (judged-is false true H (holds-is false e H W) (le-leb (length triples / 3) (length H) (omega (arith, held-is v roster triples sums map₀ work held summarised t H W)))),
               W .is-state,
-              refl,
             );
-            kept = same-lengths;
           }
 
       -- the triple is new
       pub taken-new : r ≡ false → held < length triples / 3 → (o : Outcome Bool) (after : State) (w : List ℕ) → AddCall v roster s work t i o after w → Takes o after w
       unfolding slots
-      taken-new e h o after w A = record { passes = A .passes; steps = steps; kept = A .kept }
+      taken-new e h o after w A = record { passes = A .passes; in-any-state = A .in-any-state; steps = steps }
         where
           steps : (H : List Triple) → Valid v roster s H
-              → (o ≡ judged v roster (slots triples) H t) × (after ≡ stateOf v roster (length triples) (length sums) (joins v roster o t H)) × (w ≡ left o work (zeros (length work)))
+              → (o ≡ judged v roster (slots triples) H t) × (after ≡ stateOf v roster (length triples) (length sums) (joins v roster o t H))
           steps H W =
               let q = holds-is false e H W in
               let z = A .steps H W (P .bound (rising v roster triples sums map₀ work held summarised t H W)) q in (
                 z .0 ∙ sym (judged-is false false H q (lt-leb (length triples / 3) (length H) (omega (arith, held-is v roster triples sums map₀ work held summarised t H W)))),
                 z .1 ∙ ap (stateOf v roster (length triples) (length sums)) (joins-new H ∙ ap (λ (x : Outcome Bool). joins v roster x t H) (sym (z .0))),
-                z .2 ∙ left-new ∙ ap (λ (x : Outcome Bool). left x work (zeros (length work))) (sym (z .0)),
               )
 
     -- ── the whole feed ──
@@ -172,34 +167,34 @@ module _ (v : Vocabulary) where
     module _ (x : Verdict) (J : FeedVerdict v roster triples sums map₀ work t x) where
       -- a check refuses
       module _ (r : Refusal) (e : x ≡ Refused r) where
-        decides : checked cs (tt {0}) ≡ refused (number r)
+        decides : checked cs (tt {0}) ≡ refused (refusalNumber r)
         unfolding verdict
         decides = sym (J held summarised) ∙ ap verdict e
 
-        refuses-any : (rest : Outcome Bool) → decided cs rest ≡ refused (number r)
+        refuses-any : (rest : Outcome Bool) → decided cs rest ≡ refused (refusalNumber r)
         unfolding feedChecks
-        refuses-any rest = refused-any cs [] tt (number r) rest decides
+        refuses-any rest = refused-any cs [] tt (refusalNumber r) rest decides
 
         not-passed : Passes cs → ⊥
         not-passed k = not-accepted (sym decides ∙ decided-passes cs (accepted tt) k)
 
-        keeps : zeroed (number r) ≡ false
+        keeps : zeroed (refusalNumber r) ≡ false
         keeps =
-            kept-by (lengths roster triples sums map₀ work t || wrongWork (length roster) (length work)) (wrongWords v (length roster)) (wrongRoster v roster) (wrongTriple v (length roster) t) (not (coversTriple v roster t)) (number r)
+            kept-by (lengths roster triples sums map₀ work t || wrongWork (length roster) (length work)) (wrongWords v (length roster)) (wrongRoster v roster) (wrongTriple v (length roster) t) (not (coversTriple v roster t)) (refusalNumber r)
             (sym decides ∙ outcome-is roster triples sums map₀ work t refl refl refl refl refl held summarised)
 
         refused-feed : Fed v roster s work t (found (found-refused r)) s work
         unfolding found joins
         refused-feed =
             record {
-              refuses = λ k. (sym (refuses-any (accepted false)), refl, refl);
+              refuses = λ k. sym (refuses-any (accepted false));
               passes = λ k. absurd (not-passed k);
-              steps = λ H W. (sym (refuses-any (judged v roster (slots triples) H t)), W .is-state, sym (left-kept (number r) _ work (zeros (length work)) keeps refl));
-              kept = (refl, refl, refl, refl);
+              in-any-state = alters-nothing s work (refusalNumber r) keeps;
+              steps = λ H W. (sym (refuses-any (judged v roster (slots triples) H t)), W .is-state);
             }
 
-        pub by-refusal : (y : FedCounts) → y ≡ refusal r held summarised → Fed v roster s work t (found (y .answer)) (stateWith triples sums map₀ (y .held) (y .summarised)) work
-        by-refusal y q = subst (λ (y : FedCounts). Fed v roster s work t (found (y .answer)) (stateWith triples sums map₀ (y .held) (y .summarised)) work) (sym q) refused-feed
+        pub by-refusal : (y : FedCounts) → y ≡ refusal r held summarised → Fed v roster s work t (found (y .answer)) (stateWith triples sums map₀ (y .counts .held) (y .counts .summarised)) work
+        by-refusal y q = subst (λ (y : FedCounts). Fed v roster s work t (found (y .answer)) (stateWith triples sums map₀ (y .counts .held) (y .counts .summarised)) work) (sym q) refused-feed
 
       -- no check fails
       module _ (e : x ≡ Passed) where
@@ -207,7 +202,7 @@ module _ (v : Vocabulary) where
         unfolding verdict
         passes = accepted-passes cs tt tt (sym (J held summarised) ∙ ap verdict e)
 
-        pub ready : Ready v roster triples sums map₀ work t
+        pub ready : FeedReady v roster triples sums map₀ work t
         unfolding feedChecks wrongLists wrongWork slots
         ready =
             let p = passes-first _ _ passes in
@@ -234,6 +229,6 @@ module _ (v : Vocabulary) where
             record {
               refuses = λ k. absurd (true≢false (sym k ∙ passes));
               passes = λ k. T .passes;
-              steps = λ H W. let z = T .steps H W in (z .0 ∙ sym (decided-passes cs (judged v roster (slots triples) H t) passes), z .1, z .2);
-              kept = (T .kept .in-triples, T .kept .in-summary, T .kept .in-map, T .kept .in-work);
+              in-any-state = T .in-any-state;
+              steps = λ H W. let z = T .steps H W in (z .0 ∙ sym (decided-passes cs (judged v roster (slots triples) H t) passes), z .1);
             }

@@ -8,16 +8,15 @@ use mathlib.Core.List.{List, List·Memᴰ as Mem}
 use lib.ListN.{length}
 use Rattle.model.specs.declared.Triple.{Triple}
 use Rattle.model.specs.declared.Refusal.{Refusal}
-use Rattle.model.specs.declared.Found.the-variants.{No, Refused}
+use Rattle.model.specs.declared.Found.the-variants.{Yes, No, Refused}
 use Rattle.model.specs.declared.Vocabulary.{Vocabulary}
 use Rattle.model.specs.Codes.{wrongWords, absent}
-use Rattle.model.specs.Lists.{zeros}
 use Rattle.model.specs.Triples.{slots, holds, insert}
 use Rattle.model.specs.Roster.{coversTriple, wrongRoster, wrongTriple}
 use Rattle.model.specs.Partition.{label}
 use Rattle.model.specs.Summary.{moved}
-use Rattle.model.specs.Outcomes.{Outcome, refused, accepted, checked, left, wrongSize}
-use Rattle.model.specs.Intake.{State, judged, joins, stateOf, feedChecks, Valid}
+use Rattle.model.specs.Outcomes.{Outcome, refused, accepted, checked, wrongSize}
+use Rattle.model.specs.Intake.{State, judged, joins, stateOf, feedChecks, Valid, InAnyState}
 use Rattle.lists.specs.Flat.{at, RisingPart, Bound}
 use Rattle.table_checks.specs.declared.Verdict.{Verdict}
 use Rattle.table_checks.specs.Verdicts.{verdict}
@@ -38,11 +37,15 @@ pub record Known (summary : List ℕ) (n : ℕ) (map : List ℕ) (t : Triple) : 
 
 -- a refusal with the counts as they were
 abbrev pub refusal : Refusal → ℕ → ℕ → FedCounts
-refusal r held summarised = record { answer = Refused r; held = held; summarised = summarised }
+refusal r held summarised = record { answer = Refused r; counts = record { held = held; summarised = summarised } }
 
 -- a triple that is held, with the counts as they were
 abbrev pub notNew : ℕ → ℕ → FedCounts
-notNew held summarised = record { answer = No; held = held; summarised = summarised }
+notNew held summarised = record { answer = No; counts = record { held = held; summarised = summarised } }
+
+-- a new triple, with the counts as they are now
+abbrev pub newHeld : ℕ → ℕ → FedCounts
+newHeld held summarised = record { answer = Yes; counts = record { held = held; summarised = summarised } }
 
 module _ (v : Vocabulary) where
   -- a wrong code, or a role that is not marked
@@ -55,7 +58,7 @@ module _ (v : Vocabulary) where
       (held summarised : ℕ) → verdict r ≡ checked (feedChecks v roster (stateWith triples summary map held summarised) (record { triple = t; work = length work })) tt
 
   -- the checks 1, 10 and 2 to 4 of a feed pass
-  pub record Ready (roster triples summary map work : List ℕ) (t : Triple) : Type 0 where
+  pub record FeedReady (roster triples summary map work : List ℕ) (t : Triple) : Type 0 where
     pub size : wrongSize (length roster) ≡ false
     pub words : wrongWords v (length roster) ≡ false
     pub marks : wrongRoster v roster ≡ false
@@ -66,28 +69,19 @@ module _ (v : Vocabulary) where
     pub work-size : length work ≡ 2 * length roster
 
   module _ (roster : List ℕ) (s : State) (work : List ℕ) (t : Triple) where
-    -- every list keeps its length
-    pub record Kept (after : State) (work′ : List ℕ) : Type 0 where
-      pub in-triples : length (after .triples) ≡ length (s .triples)
-      pub in-summary : length (after .summary) ≡ length (s .summary)
-      pub in-map : length (after .map) ≡ length (s .map)
-      pub in-work : length work′ ≡ length work
-
     abbrev pub SevenOrTaken : Outcome Bool → Type 0
     SevenOrTaken outcome = (outcome ≡ refused 7) ⊎ ((new : Bool) × (outcome ≡ accepted new))
 
     -- a new triple with its place
-    pub record AddCall (i : ℕ) (outcome : Outcome Bool) (after : State) (work′ : List ℕ) : Type 0 where
+    pub record AddCall (i : ℕ) (outcome : Outcome Bool) (after : State) (work-after : List ℕ) : Type 0 where
       pub passes : SevenOrTaken outcome
+      pub in-any-state : InAnyState s work outcome after work-after
       pub steps : (H : List Triple) → Valid v roster s H → Bound (at (s .triples)) 0 (s .held) t i → holds t H ≡ false
-          → (outcome ≡ accepted true) × (after ≡ stateOf v roster (length (s .triples)) (length (s .summary)) (insert t H)) × (work′ ≡ zeros (length work))
-      pub kept : Kept after work′
+          → (outcome ≡ accepted true) × (after ≡ stateOf v roster (length (s .triples)) (length (s .summary)) (insert t H))
 
     -- a feed that no check refuses
-    pub record Taken (outcome : Outcome Bool) (after : State) (work′ : List ℕ) : Type 0 where
+    pub record Taken (outcome : Outcome Bool) (after : State) (work-after : List ℕ) : Type 0 where
       pub passes : SevenOrTaken outcome
+      pub in-any-state : InAnyState s work outcome after work-after
       pub steps : (H : List Triple) → Valid v roster s H
-          → (outcome ≡ judged v roster (slots (s .triples)) H t)
-          × (after ≡ stateOf v roster (length (s .triples)) (length (s .summary)) (joins v roster outcome t H))
-          × (work′ ≡ left outcome work (zeros (length work)))
-      pub kept : Kept after work′
+          → (outcome ≡ judged v roster (slots (s .triples)) H t) × (after ≡ stateOf v roster (length (s .triples)) (length (s .summary)) (joins v roster outcome t H))

@@ -1,8 +1,7 @@
 // The intake: opening, and taking in one triple after the other.
 
-ghost use mathlib.Core.Bool.{true, false};
+ghost use mathlib.Core.Bool.{true};
 ghost use mathlib.Core.Path.{_≡_};
-ghost use mathlib.Core.List.{List·Memᴰ as Mem};
 ghost use Prim.Native.Nat.{_+_, _*_, _/_, _<_, _≤_};
 ghost use lib.ListN.{length};
 ghost use Rattle.model.specs.Lists.{any};
@@ -13,7 +12,7 @@ ghost use Rattle.theory.proofs.Covered.{Below};
 ghost use Rattle.builder.specs.Builder.{first};
 ghost use Rattle.intake.specs.Insertion.{Inserted};
 ghost use Rattle.intake.specs.Opening.{wrongLengths, stateWith, OpenCall, Opens};
-ghost use Rattle.intake.specs.Feeding.{StandsAt, Known, bad, FeedVerdict, Ready, AddCall, Taken, refusal, notNew};
+ghost use Rattle.intake.specs.Feeding.{StandsAt, Known, bad, FeedVerdict, FeedReady, AddCall, Taken, refusal, notNew, newHeld};
 use checks::size_wrong;
 use checks::triple_wrong;
 use checks::words_wrong;
@@ -101,18 +100,16 @@ pub struct Counts {
     pub summarised: usize,
 }
 
-// What a feed leaves: the answer and the two counts.
+// What a feed leaves: the answer and the record.
 pub struct FedCounts {
     pub answer: Found,
-    pub held: usize,
-    pub summarised: usize,
+    pub counts: Counts,
 }
 
-// What opening leaves: the answer and the two counts.
+// What opening leaves: the answer and the record.
 pub struct OpenedCounts {
     pub answer: Done,
-    pub held: usize,
-    pub summarised: usize,
+    pub counts: Counts,
 }
 
 // Whether t stands at place i, below `count`.
@@ -177,8 +174,7 @@ fn refuse(r: Refusal, held: usize, summarised: usize) -> FedCounts
 {
     FedCounts {
         answer: Found::Refused(r),
-        held: held,
-        summarised: summarised,
+        counts: Counts { held, summarised },
     }
 }
 
@@ -188,8 +184,17 @@ fn not_new(held: usize, summarised: usize) -> FedCounts
 {
     FedCounts {
         answer: Found::No,
-        held: held,
-        summarised: summarised,
+        counts: Counts { held, summarised },
+    }
+}
+
+// The answer for a new triple, with the counts as they are now.
+fn added(held: usize, summarised: usize) -> FedCounts
+    ensures { λ x. ⌜ x ≡ newHeld held summarised ⌝ }
+{
+    FedCounts {
+        answer: Found::Yes,
+        counts: Counts { held, summarised },
     }
 }
 
@@ -206,17 +211,15 @@ fn add(
     t: Triple,
     i: usize,
 ) -> FedCounts
-    requires { ⌜ Ready words (now roster) (now triples) (now summary) (now map) (now work) t × (i ≤ held) × (held < length (now triples) / 3) ⌝ }
-    ensures { λ r. ⌜ AddCall words (now (roster .entry)) (stateWith (now (triples .entry)) (now (summary .entry)) (now (map .entry)) held summarised) (now (work .entry)) t i (found (r .answer)) (stateWith (now (triples .exit)) (now (summary .exit)) (now (map .exit)) (r .held) (r .summarised)) (now (work .exit)) ⌝ }
+    requires { ⌜ FeedReady words (now roster) (now triples) (now summary) (now map) (now work) t × (i ≤ held) × (held < length (now triples) / 3) ⌝ }
+    ensures { λ r. ⌜ AddCall words (now (roster .entry))
+        (stateWith (now (triples .entry)) (now (summary .entry)) (now (map .entry)) held summarised) (now (work .entry)) t i (found (r .answer))
+        (stateWith (now (triples .exit)) (now (summary .exit)) (now (map .exit)) (r .counts .held) (r .counts .summarised)) (now (work .exit)) ⌝ }
 {
     if image_known(summary, summarised, map, t) {
         insert_at(triples, held, i, t);
         clear(work, 0, work.len()); // as after a summary
-        return FedCounts {
-            answer: Found::Yes,
-            held: held + 1,
-            summarised: summarised,
-        };
+        return added(held + 1, summarised);
     }
     if held_wrong(words, triples, held, roster) {
         return refuse(Refusal::Full, held, summarised);
@@ -224,12 +227,8 @@ fn add(
     insert_at(triples, held, i, t);
     let count = held + 1;
     match condense(words, triples, count, roster, summary, map, work) {
-        Counted::Refused(r) => refuse(r, held, summarised),
-        Counted::Count(k) => FedCounts {
-            answer: Found::Yes,
-            held: count,
-            summarised: k,
-        },
+        Counted::Refused(r) => refuse(r, held, summarised), // cannot be: the summary has no more triples than are held
+        Counted::Count(k) => added(count, k),
     }
 }
 
@@ -245,12 +244,14 @@ fn take_in(
     work: &mut [u32],
     t: Triple,
 ) -> FedCounts
-    requires { ⌜ Ready words (now roster) (now triples) (now summary) (now map) (now work) t ⌝ }
-    ensures { λ r. ⌜ Taken words (now (roster .entry)) (stateWith (now (triples .entry)) (now (summary .entry)) (now (map .entry)) held summarised) (now (work .entry)) t (found (r .answer)) (stateWith (now (triples .exit)) (now (summary .exit)) (now (map .exit)) (r .held) (r .summarised)) (now (work .exit)) ⌝ }
+    requires { ⌜ FeedReady words (now roster) (now triples) (now summary) (now map) (now work) t ⌝ }
+    ensures { λ r. ⌜ Taken words (now (roster .entry))
+        (stateWith (now (triples .entry)) (now (summary .entry)) (now (map .entry)) held summarised) (now (work .entry)) t (found (r .answer))
+        (stateWith (now (triples .exit)) (now (summary .exit)) (now (map .exit)) (r .counts .held) (r .counts .summarised)) (now (work .exit)) ⌝ }
 {
     let slots = triples.len() / 3;
     if slots < held {
-        return refuse(Refusal::Full, held, summarised);
+        return refuse(Refusal::Full, held, summarised); // only where the record was altered by hand
     }
     let i = lower_bound(triples, 0, held, t);
     if stands_at(triples, held, i, t) {
@@ -322,7 +323,9 @@ pub fn feed_lists(
     p: u32,
     o: u32,
 ) -> FedCounts
-    ensures { λ r. ⌜ Fed words (now (roster .entry)) (stateWith (now (triples .entry)) (now (summary .entry)) (now (map .entry)) held summarised) (now (work .entry)) (triple s p o) (found (r .answer)) (stateWith (now (triples .exit)) (now (summary .exit)) (now (map .exit)) (r .held) (r .summarised)) (now (work .exit)) ⌝ }
+    ensures { λ r. ⌜ Fed words (now (roster .entry))
+        (stateWith (now (triples .entry)) (now (summary .entry)) (now (map .entry)) held summarised) (now (work .entry)) (triple s p o) (found (r .answer))
+        (stateWith (now (triples .exit)) (now (summary .exit)) (now (map .exit)) (r .counts .held) (r .counts .summarised)) (now (work .exit)) ⌝ }
 {
     let t = Triple {
         subject: s,
@@ -355,18 +358,21 @@ pub fn open_counts(
     summary: &mut [u32],
     map: &mut [u32],
 ) -> OpenedCounts
-    ensures { λ r. ⌜ Opens words (now (roster .entry)) (stateWith (now (triples .entry)) (now (summary .entry)) (now (map .entry)) held summarised) (done (r .answer)) (stateWith (now (triples .exit)) (now (summary .exit)) (now (map .exit)) (r .held) (r .summarised)) ⌝ }
+    ensures { λ r. ⌜ Opens words (now (roster .entry))
+        (stateWith (now (triples .entry)) (now (summary .entry)) (now (map .entry)) held summarised) (done (r .answer))
+        (stateWith (now (triples .exit)) (now (summary .exit)) (now (map .exit)) (r .counts .held) (r .counts .summarised)) ⌝ }
 {
     match open_lists(words, roster, triples, summary, map) {
         Done::Refused(r) => OpenedCounts {
             answer: Done::Refused(r),
-            held: held,
-            summarised: summarised,
+            counts: Counts { held, summarised },
         },
         Done::Accepted => OpenedCounts {
             answer: Done::Accepted,
-            held: 0,
-            summarised: 0,
+            counts: Counts {
+                held: 0,
+                summarised: 0,
+            },
         },
     }
 }
@@ -380,7 +386,9 @@ pub fn open(
     summary: &mut [u32],
     map: &mut [u32],
 ) -> Done
-    ensures { λ r. ⌜ Opens words (now (roster .entry)) (stateWith (now (triples .entry)) (now (summary .entry)) (now (map .entry)) (now (counts .entry) .held) (now (counts .entry) .summarised)) (done r) (stateWith (now (triples .exit)) (now (summary .exit)) (now (map .exit)) (now (counts .exit) .held) (now (counts .exit) .summarised)) ⌝ }
+    ensures { λ r. ⌜ Opens words (now (roster .entry))
+        (stateWith (now (triples .entry)) (now (summary .entry)) (now (map .entry)) (now (counts .entry) .held) (now (counts .entry) .summarised)) (done r)
+        (stateWith (now (triples .exit)) (now (summary .exit)) (now (map .exit)) (now (counts .exit) .held) (now (counts .exit) .summarised)) ⌝ }
 {
     let opened = open_counts(
         counts.held,
@@ -391,8 +399,8 @@ pub fn open(
         summary,
         map,
     );
-    counts.held = opened.held;
-    counts.summarised = opened.summarised;
+    counts.held = opened.counts.held;
+    counts.summarised = opened.counts.summarised;
     opened.answer
 }
 
@@ -409,7 +417,9 @@ pub fn feed(
     p: u32,
     o: u32,
 ) -> Found
-    ensures { λ r. ⌜ Fed words (now (roster .entry)) (stateWith (now (triples .entry)) (now (summary .entry)) (now (map .entry)) (now (counts .entry) .held) (now (counts .entry) .summarised)) (now (work .entry)) (triple s p o) (found r) (stateWith (now (triples .exit)) (now (summary .exit)) (now (map .exit)) (now (counts .exit) .held) (now (counts .exit) .summarised)) (now (work .exit)) ⌝ }
+    ensures { λ r. ⌜ Fed words (now (roster .entry))
+        (stateWith (now (triples .entry)) (now (summary .entry)) (now (map .entry)) (now (counts .entry) .held) (now (counts .entry) .summarised)) (now (work .entry)) (triple s p o) (found r)
+        (stateWith (now (triples .exit)) (now (summary .exit)) (now (map .exit)) (now (counts .exit) .held) (now (counts .exit) .summarised)) (now (work .exit)) ⌝ }
 {
     let fed = feed_lists(
         counts.held,
@@ -424,7 +434,7 @@ pub fn feed(
         p,
         o,
     );
-    counts.held = fed.held;
-    counts.summarised = fed.summarised;
+    counts.held = fed.counts.held;
+    counts.summarised = fed.counts.summarised;
     fed.answer
 }

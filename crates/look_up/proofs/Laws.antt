@@ -10,7 +10,7 @@ use Rattle.model.specs.declared.Found.the-variants.{Yes, No, Refused}
 use Rattle.model.specs.declared.Refusal.the-variants.{Length}
 use Rattle.model.specs.Lists.{any}
 use Rattle.model.specs.Triples.{triples, same, holds}
-use Rattle.model.specs.Outcomes.{refused, accepted, number, found, decided, wrongLength}
+use Rattle.model.specs.Outcomes.{refused, accepted, refusalNumber, found, decided, wrongLength}
 use Rattle.model.specs.Calls.{lookUpOutcome}
 use Rattle.lists.specs.Flat.{at}
 use Rattle.lists.proofs.Places.{triples-table, any-at, any-nowhere}
@@ -32,7 +32,7 @@ module _ (l : List ℕ) (t : Triple) where
   outcome-is p = λ i. cond (p i) (refused 1) (accepted (holds t (triples l)))
 
   pub by-length : wrongLength (length l) ≡ true → found (Refused Length) ≡ lookUpOutcome l t
-  unfolding found number
+  unfolding found refusalNumber
   by-length p = sym (outcome-is p)
 
   pub by-yes : wrongLength (length l) ≡ false → holds t (triples l) ≡ true → found Yes ≡ lookUpOutcome l t

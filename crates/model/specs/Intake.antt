@@ -1,6 +1,6 @@
 -- The intake: the plain intake that 01 sets it against, and what opening and feeding return and leave.
 -- Assumes nothing.
-use Prim.Native.Nat.{ℕ, _≤_}
+use Prim.Native.Nat.{ℕ, _+_, _≤_}
 use mathlib.Core.Path.{_≡_}
 use mathlib.Core.Bool.{Bool, true, false, cond, not, _||_}
 use mathlib.Core.Logic.{_⊎_}
@@ -30,6 +30,17 @@ pub record State : Type 0 where
 pub record Feed : Type 0 where
   pub triple : Triple
   pub work : ℕ
+
+-- What holds of a feed's outcome, the state after it and the work list after it whatever the state was, altered by hand or not.
+pub record InAnyState (s : State) (work : List ℕ) (outcome : Outcome Bool) (after : State) (work-after : List ℕ) : Type 0 where
+  -- only a new triple alters the state
+  pub unaltered : (outcome ≡ accepted true → ⊥) → after ≡ s
+  -- the work list is zero after "new" and "not new", and as it was after a refusal (a feed gives neither 5 nor 8)
+  pub work-is : work-after ≡ left outcome work (zeros (length work))
+  -- with a new triple one more is held, and both counts are at most the slots
+  pub counts-fit : outcome ≡ accepted true → (after .held ≡ s .held + 1) × (after .held ≤ slots (s .triples)) × (after .summarised ≤ slots (s .summary))
+  -- every list keeps its length
+  pub kept : (length (after .triples) ≡ length (s .triples)) × (length (after .summary) ≡ length (s .summary)) × (length (after .map) ≡ length (s .map))
 
 module _ (v : Vocabulary) (roster : List ℕ) where
   -- ── the plain intake ──
@@ -122,21 +133,21 @@ module _ (v : Vocabulary) (roster : List ℕ) where
     pub covered : covers v roster H ≡ true
     pub is-state : s ≡ stateOf (length (s .triples)) (length (s .summary)) H
 
-  -- What a feed promises: of its outcome, the state after it and the work list after it.
+  -- What a feed promises.
   pub record Fed (s : State) (work : List ℕ) (t : Triple) (outcome : Outcome Bool) (after : State) (work-after : List ℕ) : Type 0 where
-    -- the refusals 1, 10, 2, 3, 4, for every state
+    -- the refusals 1, 10, 2, 3, 4, for every state; by `in-any-state` they alter nothing
     pub refuses : any (λ (c : Check). c .fails) (feedChecks s (record { triple = t; work = length work })) ≡ true
-        → (outcome ≡ decided (feedChecks s (record { triple = t; work = length work })) (accepted false)) × (after ≡ s) × (work-after ≡ work)
+        → outcome ≡ decided (feedChecks s (record { triple = t; work = length work })) (accepted false)
     -- where no check fails, for every state: no refusal but 7
     pub passes : any (λ (c : Check). c .fails) (feedChecks s (record { triple = t; work = length work })) ≡ false
         → (outcome ≡ refused 7) ⊎ ((new : Bool) × (outcome ≡ accepted new))
-    -- everything else for a state that holds H
+    -- Open for an altered state that passes the checks: which of "new", "not new" and 7 is answered; and after "new" the contents of the two
+    -- lists and the map, and the count of the summary. What holds of every state, altered or not:
+    pub in-any-state : InAnyState s work outcome after work-after
+    -- what holds besides of a state that holds H
     pub steps : (H : List Triple) → Valid s H
         → (outcome ≡ decided (feedChecks s (record { triple = t; work = length work })) (judged (slots (s .triples)) H t))
         × (after ≡ stateOf (length (s .triples)) (length (s .summary)) (joins outcome t H))
-        × (work-after ≡ left outcome work (zeros (length work)))
-    -- every list keeps its length. Open for an altered state that passes the checks: which of these answers it gives, and all contents
-    pub kept : (length (after .triples) ≡ length (s .triples)) × (length (after .summary) ≡ length (s .summary)) × (length (after .map) ≡ length (s .map)) × (length work-after ≡ length work)
 
   -- ── a list of feeds, each lent what the call before left ──
   pub data Run : State → List Feed → List (Outcome Bool) → State → Type 0 where

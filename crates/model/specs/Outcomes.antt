@@ -23,31 +23,31 @@ pub data Outcome (A : Type 0) : Type 0 where
   accepted : A → Outcome A
 
 -- the papers' number of each refusal that the code can give
-unfoldable pub number : Refusal → ℕ
-number Length = 1
-number Roster = 2
-number Code = 3
-number Cover = 4
-number Slots = 5
-number Query = 6
-number Full = 7
-number Form = 8
-number Words = 10
+unfoldable pub refusalNumber : Refusal → ℕ
+refusalNumber Length = 1
+refusalNumber Roster = 2
+refusalNumber Code = 3
+refusalNumber Cover = 4
+refusalNumber Slots = 5
+refusalNumber Query = 6
+refusalNumber Full = 7
+refusalNumber Form = 8
+refusalNumber Words = 10
 
 -- the outcome that each case of an answer stands for
 unfoldable pub done : Done → Outcome (Unit {0})
 done Accepted = accepted tt
-done (done-refused r) = refused (number r)
+done (done-refused r) = refused (refusalNumber r)
 
 unfoldable pub counted : Counted → Outcome ℕ
 counted (Count n) = accepted n
-counted (counted-refused r) = refused (number r)
+counted (counted-refused r) = refused (refusalNumber r)
 
 -- for look up whether the triple is in the list, for a feed whether it was new
 unfoldable pub found : Found → Outcome Bool
 found Yes = accepted true
 found No = accepted false
-found (found-refused r) = refused (number r)
+found (found-refused r) = refused (refusalNumber r)
 
 -- 01: "Each check runs over all its input before the next"
 pub record Check : Type 0 where

@@ -2,7 +2,7 @@
 // What they mean is defined in specs/.
 
 ghost use mathlib.Core.Path.{_≡_};
-ghost use Rattle.model.specs.Outcomes.{number};
+ghost use Rattle.model.specs.Outcomes.{refusalNumber};
 ghost use Rattle.model.specs.Rules.{rules};
 
 // The reserved codes of a site, one for each of type, subclass, subproperty, domain and range: 02's "word table".
@@ -147,7 +147,7 @@ pub fn rule_table() -> [Rule; 10]
     RULES
 }
 
-// The refusals; `number` in specs/Outcomes.antt gives the number of each.
+// The refusals; `refusalNumber` in specs/Outcomes.antt gives the number of each.
 pub enum Refusal {
     Length,
     Roster,
@@ -162,7 +162,7 @@ pub enum Refusal {
 
 // A refusal's number.
 pub fn refusal_number(refusal: Refusal) -> u32
-    ensures { λ r. ⌜ r ≡ number refusal ⌝ }
+    ensures { λ r. ⌜ r ≡ refusalNumber refusal ⌝ }
 {
     match refusal {
         Refusal::Length => 1,

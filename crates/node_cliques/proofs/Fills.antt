@@ -14,28 +14,28 @@ use Rattle.model.specs.Roster.{unmarked}
 use Rattle.theory.proofs.Tests.{not-both, neither-left}
 use Rattle.union_find.proofs.Laws.{set-at}
 use Rattle.node_cliques.specs.Labels.{isLabel}
-use Rattle.node_cliques.specs.Labelling.{Filled}
+use Rattle.node_cliques.specs.Labelling.{EntriesFilled}
 
 module _ (test : ℕ → Bool) (x : ℕ) where
-  pub filled-start : (l : List ℕ) → Filled test x l l 0
+  pub filled-start : (l : List ℕ) → EntriesFilled test x l l 0
   filled-start l = record { size = refl; passed = λ c h t. absurd (omega arith); rest = λ c t. refl }
 
-  module _ (l₀ l : List ℕ) (i : ℕ) (d : Filled test x l₀ l i) where
-    pub filled-set : i < length l → test i ≡ true → (l′ : List ℕ) → l′ ≡ set l i x → Filled test x l₀ l′ (i + 1)
+  module _ (l₀ l : List ℕ) (i : ℕ) (d : EntriesFilled test x l₀ l i) where
+    pub filled-set : i < length l → test i ≡ true → (l′ : List ℕ) → l′ ≡ set l i x → EntriesFilled test x l₀ l′ (i + 1)
     filled-set h u l′ e = rw e (record {
       size = length-set l i x ∙ d .size;
       passed = λ c. set-at l i x h (λ c z. c < i + 1 → test c ≡ true → z ≡ x) c (λ b t. refl) (λ n b t. d .passed c (omega arith) t);
       rest = λ c t. getD-set-other l i c x 0 (λ q. not-both u (ap test (sym q) ∙ t)) ∙ d .rest c t;
     })
 
-    pub filled-skip : test i ≡ false → (l′ : List ℕ) → l′ ≡ l → Filled test x l₀ l′ (i + 1)
+    pub filled-skip : test i ≡ false → (l′ : List ℕ) → l′ ≡ l → EntriesFilled test x l₀ l′ (i + 1)
     filled-skip u l′ e = rw e (record {
       size = d .size;
       passed = λ c b t. let n : c ≡ i → ⊥ = λ q. not-both t (ap test q ∙ u) in d .passed c (omega arith) t;
       rest = d .rest;
     })
 
-    pub filled-end : length l₀ ≤ i → Filled test x l₀ l (length l₀)
+    pub filled-end : length l₀ ≤ i → EntriesFilled test x l₀ l (length l₀)
     filled-end h = record { size = d .size; passed = λ c b t. d .passed c (omega arith) t; rest = d .rest }
 
 -- ── the tests ──

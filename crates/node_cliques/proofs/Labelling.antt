@@ -23,13 +23,13 @@ use Rattle.theory.proofs.Saturated.{In}
 use Rattle.theory.proofs.Mapped.{has-label, has-named, none-label}
 use Rattle.theory.proofs.Accepted.{Right, room, below}
 use Rattle.union_find.specs.Roots.{Forest, root}
-use Rattle.union_find.specs.Calls.{Active, Found}
+use Rattle.union_find.specs.Calls.{Active, RootFound}
 use Rattle.union_find.proofs.Laws.{root-le}
 use Rattle.cliques.specs.Grouping.{Grouping, Grouped}
 use Rattle.cliques.proofs.Entries.{forest-same, roots-same}
 use Rattle.cliques.proofs.Ends.{root-label, all-triples}
 use Rattle.node_cliques.specs.Labels.{orNone, isLabel, nodeCliques}
-use Rattle.node_cliques.specs.Labelling.{Filled, FirstProperties, labelOf, NodesLabelled, Labelling, SomeProperties}
+use Rattle.node_cliques.specs.Labelling.{EntriesFilled, FirstProperties, labelOf, NodesLabelled, Labelling, SomeProperties}
 use Rattle.node_cliques.proofs.Fills.{other-plain}
 
 -- ── one code ──
@@ -113,7 +113,7 @@ module _ (A : ℕ → Bool) (roster : List ℕ) (none : ℕ) (l₀ l : List ℕ)
       pub find-ready : Active l p
       find-ready = record { A = A; forest = S .forest; active = property }
 
-      module _ (l₁ : List ℕ) (r : ℕ) (F : Found l l₁ p r) where
+      module _ (l₁ : List ℕ) (r : ℕ) (F : RootFound l l₁ p r) where
         pub root-small : r < absent
         root-small = omega (arith, F .result, root-le l p, S .forest .inside p property, S .forest .size)
 
@@ -180,7 +180,7 @@ module _ (v : Vocabulary) (table roster : List ℕ) (e : Side) (R : Right v rost
             ∙ sym (has-label v roster ts (below v roster ts R) (room v roster ts R) e x) ∙ sym (at-some (cliqueOf v roster e C c ts) k)
 
     -- the list with the labels' entries absent
-    module _ (l′ : List ℕ) (f : Filled (isLabel v roster) absent l₁ l′ (length l₁)) where
+    module _ (l′ : List ℕ) (f : EntriesFilled (isLabel v roster) absent l₁ l′ (length l₁)) where
       abbrev value : ℕ → ℕ
       value c = cond (isLabel v roster c) absent (orNone v roster (cliqueOf v roster e C c ts))
 

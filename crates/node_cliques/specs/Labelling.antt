@@ -12,7 +12,7 @@ use Rattle.model.specs.Roster.{unmarked}
 use Rattle.union_find.specs.Roots.{Forest, root}
 
 -- the entries below i that pass the test are x, and those that do not are as they were
-pub record Filled (test : ℕ → Bool) (x : ℕ) (l l′ : List ℕ) (i : ℕ) : Type 0 where
+pub record EntriesFilled (test : ℕ → Bool) (x : ℕ) (l l′ : List ℕ) (i : ℕ) : Type 0 where
   pub size : length l′ ≡ length l
   pub passed : (c : ℕ) → c < i → test c ≡ true → getD l′ c 0 ≡ x
   pub rest : (c : ℕ) → test c ≡ false → getD l′ c 0 ≡ getD l c 0

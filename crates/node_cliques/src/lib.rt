@@ -11,7 +11,7 @@ ghost use Rattle.model.specs.Triples.{triples};
 ghost use Rattle.theory.proofs.Accepted.{Right};
 ghost use Rattle.cliques.specs.Calls.{sideOf};
 ghost use Rattle.node_cliques.specs.Labels.{isLabel, nodeCliques};
-ghost use Rattle.node_cliques.specs.Labelling.{Filled, FirstProperties, NodesLabelled, Labelling, SomeLabelling, SomeProperties};
+ghost use Rattle.node_cliques.specs.Labelling.{EntriesFilled, FirstProperties, NodesLabelled, Labelling, SomeLabelling, SomeProperties};
 use cliques::group_side;
 use lists::Code;
 use lists::narrow;
@@ -62,7 +62,7 @@ pub fn is_label(words: Vocabulary, roster: &[u8], i: usize) -> bool
 // Makes the entries of the labels absent.
 fn empty_labels(words: Vocabulary, roster: &[u8], list: &mut [u32])
     requires { ⌜ length (now list) ≡ length (now roster) ⌝ }
-    ensures { λ r. ⌜ Filled (isLabel words (now (roster .entry))) absent (now (list .entry)) (now (list .exit)) (length (now (list .entry))) ⌝ }
+    ensures { λ r. ⌜ EntriesFilled (isLabel words (now (roster .entry))) absent (now (list .entry)) (now (list .exit)) (length (now (list .entry))) ⌝ }
 {
     let mut i = 0;
     while i < roster.len() {

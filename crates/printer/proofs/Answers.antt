@@ -21,7 +21,7 @@ use Rattle.query.specs.declared.Pattern.{Pattern}
 use Rattle.query.specs.declared.Query.{Query}
 use Rattle.query.specs.Ask.{asked, askOutcome}
 use Rattle.site_form.specs.Reading.{queryOf, queriesOf}
-use Rattle.site_form.specs.Printing.{isRefused, asked as askedForms}
+use Rattle.site_form.specs.Printing.{isRefused, queryAnswers}
 use Rattle.printer.specs.Lines.{answerAt, answersIn}
 use Rattle.printer.specs.Outcomes.{noQuery, askedOf}
 
@@ -116,6 +116,6 @@ module _ (v : Vocabulary) where
     unfolding answersIn askedOf
     asks-end answers i n h k = same-table (answerAt answers) outcomeAt 0 n (λ j l. h .same j (omega arith))
 
-  pub asked-are : (ts : List Triple) (m : List ℕ) (qs : List (List Pattern)) → askedForms v ts m qs ≡ askedOf v (flat ts) m (queriesOf qs) (length qs)
-  unfolding askedForms askedOf queriesOf
+  pub asked-are : (ts : List Triple) (m : List ℕ) (qs : List (List Pattern)) → queryAnswers v ts m qs ≡ askedOf v (flat ts) m (queriesOf qs) (length qs)
+  unfolding queryAnswers askedOf queriesOf
   asked-are ts m qs = tabulated (askOutcome v (flat ts) m) noQuery qs _

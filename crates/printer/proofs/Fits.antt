@@ -29,12 +29,11 @@ use Rattle.theory.proofs.Mapped.{node-or, node-below, map-absent, map-node, len
 use Rattle.theory.proofs.Theorems.{own-roster-least}
 use Rattle.query.specs.declared.Query.{Query}
 use Rattle.query.specs.Ask.{askOutcome}
-use Rattle.site_form.specs.Text.{bytes, numeral, tripleLine}
+use Rattle.site_form.specs.Text.{bytes, numeral, tripleLine, mostAsks}
 use Rattle.site_form.specs.Reading.{Forms, loaded, readForms, queriesOf}
-use Rattle.site_form.specs.Printing.{mostBytes, largestPrinted, printerSlots, isRefused, summaryLine, nodeLine, nodeLines, answerLine, report, shown, printChecked, printForms, printRead, printOutcome, printed}
+use Rattle.site_form.specs.Printing.{mostBytes, largestPrinted, printerSlots, isRefused, refusedLine, summaryLine, pairLine, nodeLine, nodeLines, answerLine, report, shown, printChecked, printForms, printRead, printOutcome, printed}
 use Rattle.site_form.proofs.Whole.{read-says}
 use Rattle.site_writer.proofs.Numerals.{three-digits, five-digits}
-use Rattle.printer.specs.Lines.{refusedLine, pairLine}
 use Rattle.printer.specs.Outcomes.{noQuery, askedOf, asksOutcome, summaryOutcome, saturationOutcome, siteOutcome}
 use Rattle.printer.proofs.Lines.{node-absent, node-pair}
 use Rattle.printer.proofs.Answers.{asked-are}
@@ -82,7 +81,7 @@ some-nodes m i zero h = omega arith
 some-nodes m i (suc n) h =
     omega (arith, length-append (nodeLine m i) (collect (nodeLine m) (tabulate (λ c. c) (suc i) n)), h i (omega arith), some-nodes m (suc i) n (λ c k. h c (omega arith)))
 
-nodes-short : (m : List ℕ) → length m ≤ 512 → ((c : ℕ) → Entry m c) → length (nodeLines m) ≤ 14 * length m
+nodes-short : (m : List ℕ) → length m ≤ largestPrinted → ((c : ℕ) → Entry m c) → length (nodeLines m) ≤ 14 * length m
 unfolding nodeLines
 nodes-short m k h = some-nodes m 0 (length m) (λ c l. node-short m c (omega arith) (h c))
 
@@ -98,7 +97,7 @@ answers-short [] = omega arith
 answers-short (a ∷ answers) = omega (arith, length-append (answerLine a) (collect answerLine answers), answer-short a, answers-short answers)
 
 -- ── a report ──
-report-fits : (ts : List Triple) (m : List ℕ) (answers : List (Outcome Bool)) → length ts ≤ 2048 → AllBelow 512 ts → length m ≤ 512 → ((c : ℕ) → Entry m c) → length answers ≤ 16 → length (report ts m answers) ≤ 49152
+report-fits : (ts : List Triple) (m : List ℕ) (answers : List (Outcome Bool)) → length ts ≤ printerSlots → AllBelow largestPrinted ts → length m ≤ largestPrinted → ((c : ℕ) → Entry m c) → length answers ≤ mostAsks → length (report ts m answers) ≤ 49152
 unfolding report
 report-fits ts m answers h b k e l =
     omega (
@@ -107,7 +106,7 @@ report-fits ts m answers h b k e l =
       length-append (collect tripleLine ts) (nodeLines m ++ collect answerLine answers),
       length-append (nodeLines m) (collect answerLine answers),
       count-short (length ts) (omega arith),
-      lines-short 512 (omega arith) ts b,
+      lines-short largestPrinted (omega arith) ts b,
       nodes-short m k e,
       answers-short answers,
     )
@@ -120,7 +119,7 @@ refused-fits : (n : ℕ) → n < 100000 → Fits (refused n)
 refused-fits n h = let z : length (shown (refused n)) ≡ length (refusedLine n) = ap length (shown-refused n) in omega (arith, refused-short n h)
 
 module _ (v : Vocabulary) where
-  module _ (roster : List ℕ) (ts : List Triple) (r : Right v roster ts) (size : length roster ≤ 512) where
+  module _ (roster : List ℕ) (ts : List Triple) (r : Right v roster ts) (size : length roster ≤ largestPrinted) where
     entries : (c : ℕ) → Entry (mapOf v roster ts) c
     unfolding Entry
     entries c =
@@ -130,7 +129,7 @@ module _ (v : Vocabulary) where
         (node-or ts c)
 
     -- the report of a summary with codes below 512
-    pub summary-fits : (answers : List (Outcome Bool)) → length ts ≤ 2048 → length answers ≤ 16 → length (report (summary v roster ts) (mapOf v roster ts) answers) ≤ 49152
+    pub summary-fits : (answers : List (Outcome Bool)) → length ts ≤ printerSlots → length answers ≤ mostAsks → length (report (summary v roster ts) (mapOf v roster ts) answers) ≤ 49152
     summary-fits answers h l =
         let s = summary-right v roster ts r in
         let b = below v roster (summary v roster ts) s in
@@ -158,12 +157,12 @@ module _ (v : Vocabulary) where
       let own = ownRoster v n ts in
       subst (λ (z : ℕ). Right v own (saturation v z ts)) (own-size n ts h) (saturation-right v own ts (own-right n ts w k h))
 
-  module _ (queries : List Query) (k : ℕ) (few : k ≤ 16) where
-    pub asked-few : (table m : List ℕ) → length (askedOf v table m queries k) ≤ 16
+  module _ (queries : List Query) (k : ℕ) (few : k ≤ mostAsks) where
+    pub asked-few : (table m : List ℕ) → length (askedOf v table m queries k) ≤ mostAsks
     unfolding askedOf
     asked-few table m = omega (arith, length-tabulate (λ i. askOutcome v table m (getD queries i noQuery)) 0 k)
 
-    summary-outcome-fits : (roster : List ℕ) (ts : List Triple) → Right v roster ts → length roster ≤ 512 → length ts ≤ 2048 → Fits (summaryOutcome v roster ts queries k)
+    summary-outcome-fits : (roster : List ℕ) (ts : List Triple) → Right v roster ts → length roster ≤ largestPrinted → length ts ≤ printerSlots → Fits (summaryOutcome v roster ts queries k)
     unfolding summaryOutcome asksOutcome decided shown
     summary-outcome-fits roster ts r s h =
         cond-cases Fits (any isRefused _) (λ e. refused-fits 6 (omega arith))
@@ -180,7 +179,7 @@ module _ (v : Vocabulary) where
         summary-outcome-fits (ownRoster v n ts) (saturation v n ts) (sat-right n ts (w .0) y f)
         (omega (arith, own-size n ts f, ltb-false largestPrinted n (w .1))) (ltb-false printerSlots (length (saturation v n ts)) g)))))
 
--- what is printed of forms, with the queries answers they were read
+-- what is printed of forms, with the answers to the queries as they were read
 pub forms-are : (f : Forms) → printForms f ≡ siteOutcome (loaded (f .words)) (f .size) (f .triples) (queriesOf (f .asks)) (length (f .asks))
 unfolding printForms printChecked siteOutcome saturationOutcome summaryOutcome asksOutcome decided
 forms-are f =

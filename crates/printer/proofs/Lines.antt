@@ -17,10 +17,10 @@ use Rattle.query.specs.declared.Asked.{Asked}
 use Rattle.query.specs.declared.Asked.the-variants.{Maybe, None, Refused}
 use Rattle.query.specs.Ask.{asked}
 use Rattle.site_form.specs.Text.{bytes, numeral}
-use Rattle.site_form.specs.Printing.{summaryLine, nodeLine, nodeLines, answerLine}
+use Rattle.site_form.specs.Printing.{refusedLine, summaryLine, pairLine, nodeLine, nodeLines, answerLine}
 use Rattle.site_writer.specs.Calls.{Room, Put}
 use Rattle.site_writer.proofs.Stores.{sets-append, put-length, put-then-two, room-first-two, room-next-two}
-use Rattle.printer.specs.Lines.{refusedLine, pairLine, answerAt, answersIn}
+use Rattle.printer.specs.Lines.{answerAt, answersIn}
 
 -- nothing stored
 pub put-none : (l : List ℕ) (from : ℕ) (xs : List ℕ) → xs ≡ [] → Put l from xs l from
@@ -85,11 +85,11 @@ module _ (l : List ℕ) (from c rep : ℕ) (h : Room from (pairLine c rep)) wher
 
 pub node-absent : (m : List ℕ) (c : ℕ) → eqb (label m c) absent ≡ true → nodeLine m c ≡ []
 unfolding nodeLine
-node-absent m c e = ap (λ (b : Bool). cond b [] (bytes "(rep " ++ (numeral c ++ (bytes " " ++ (numeral (label m c) ++ bytes ")\n"))))) e
+node-absent m c e = ap (λ (b : Bool). cond b [] (pairLine c (label m c))) e
 
 pub node-pair : (m : List ℕ) (c : ℕ) → eqb (label m c) absent ≡ false → nodeLine m c ≡ pairLine c (label m c)
-unfolding nodeLine pairLine
-node-pair m c e = ap (λ (b : Bool). cond b [] (bytes "(rep " ++ (numeral c ++ (bytes " " ++ (numeral (label m c) ++ bytes ")\n"))))) e
+unfolding nodeLine
+node-pair m c e = ap (λ (b : Bool). cond b [] (pairLine c (label m c))) e
 
 module _ (l : List ℕ) (from : ℕ) (m : List ℕ) (c : ℕ) (h : c < length m) (k : ℕ) (ek : k ≡ c) where
   entry : getD m c 0 ≡ label m c

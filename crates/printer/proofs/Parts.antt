@@ -24,7 +24,7 @@ use Rattle.model.specs.Roster.{ownRoster, wrongCodes}
 use Rattle.model.specs.Saturation.{saturation}
 use Rattle.model.specs.Classes.{mapOf}
 use Rattle.model.specs.Summary.{summary}
-use Rattle.model.specs.Outcomes.{Outcome, refused, accepted, number, counted, decided, Passes, wrongSize, wrongLength, wrongWork}
+use Rattle.model.specs.Outcomes.{Outcome, refused, accepted, refusalNumber, counted, decided, Passes, wrongSize, wrongLength, wrongWork}
 use Rattle.model.specs.Calls.{tableChecks, Accepted, Summarised, saturated, ownRosterOutcome, ownRosterLeaves, saturateOutcome, saturateLeaves, summariseOutcome, summariseOutcomeBy, summariseLeavesBy}
 use Rattle.theory.proofs.Tests.{or-left, or-right, or-neither, bool-cases}
 use Rattle.theory.proofs.Checks.{first-passes, no-checks, decided-passes, not-accepted, passed-all}
@@ -36,9 +36,10 @@ use Rattle.table_checks.proofs.Laws.{too-few, enough, left-after}
 use Rattle.roster.specs.Calls.{OwnRosterCall}
 use Rattle.summarise.specs.Condensed.{SummariseCall}
 use Rattle.query.specs.declared.Query.{Query}
+use Rattle.site_form.specs.Text.{mostLines, mostAsks}
 use Rattle.site_form.specs.Printing.{largestPrinted, printerSlots, report, shown}
 use Rattle.site_writer.specs.Calls.{Room, Put}
-use Rattle.printer.specs.Outcomes.{askedOf, asksOutcome, summaryOutcome, saturationOutcome, siteOutcome, Whole, Valid}
+use Rattle.printer.specs.Outcomes.{askedOf, asksOutcome, summaryOutcome, saturationOutcome, siteOutcome, Whole, CheckedTable}
 use Rattle.printer.proofs.Lines.{room-as}
 use Rattle.printer.proofs.Reports.{shows}
 use Rattle.printer.proofs.Fits.{summary-fits, own-right, own-size, sat-right, asked-few}
@@ -58,12 +59,12 @@ unfolding decided
 same-value x y e = passed-all x y e
 
 module _ (words : Vocabulary) where
-  flat-accepted : (table roster : List ℕ) → Right words roster (triples table) → length table % 3 ≡ 0 → length table ≤ 6144 → Accepted words table roster
+  flat-accepted : (table roster : List ℕ) → Right words roster (triples table) → length table % 3 ≡ 0 → length table ≤ 3 * printerSlots → Accepted words table roster
   flat-accepted table roster R m l =
       subst (λ (t : List ℕ). Accepted words t roster) (flat-triples table m) (right-accepted words roster (triples table) R (omega (arith, length-triples table)))
 
   -- ── summarise ──
-  module _ (table roster result map work : List ℕ) (W : Whole words table roster) (hr : length result ≡ 6144) (hm : length map ≡ length roster) (hw : length work ≡ 2 * length roster) where
+  module _ (table roster result map work : List ℕ) (W : Whole words table roster) (hr : length result ≡ 3 * printerSlots) (hm : length map ≡ length roster) (hw : length work ≡ 2 * length roster) where
     abbrev sum : List Triple
     sum = summary words roster (triples table)
 
@@ -77,7 +78,7 @@ module _ (words : Vocabulary) where
     passes : Passes (tableChecks words lengths table roster)
     passes = subst (λ (b : Bool). Passes (tableChecks words b table roster)) (sym lengths-right) (flat-accepted table roster (W .right) (W .flat) (W .slots))
 
-    few : length (triples table) ≤ 2048
+    few : length (triples table) ≤ printerSlots
     few = omega (arith, length-triples table, W .slots)
 
     outcome : summariseOutcome words table roster result map work ≡ accepted (length sum)
@@ -104,7 +105,7 @@ module _ (words : Vocabulary) where
         unfolding counted
         count-is = same-value _ _ (sym outcome ∙ sym (S .answer) ∙ ap counted e)
 
-        pub sum-few : 3 * k ≤ 6144
+        pub sum-few : 3 * k ≤ 3 * printerSlots
         sum-few = let f = few in omega (arith, count-is, condensed-length (mapOf words roster (triples table)) (triples table))
 
         pub sum-end : 3 * k ≤ length result′
@@ -116,16 +117,16 @@ module _ (words : Vocabulary) where
         part-is : take (3 * k - 0) result′ ≡ flat sum
         part-is = ap (take (3 * k - 0)) result-is ∙ front (length result) sum k count-is
 
-        pub sum-table : length (take (3 * k - 0) result′) ≤ 6144
+        pub sum-table : length (take (3 * k - 0) result′) ≤ 3 * printerSlots
         sum-table = let l : length (take (3 * k - 0) result′) ≡ length (flat sum) = ap length part-is in omega (arith, length-flat sum, count-is, sum-few)
 
-        pub sum-map : length map′ ≤ 512
+        pub sum-map : length map′ ≤ largestPrinted
         sum-map = let l : length map′ ≡ length (mapOf words roster (triples table)) = ap length map-is in omega (arith, length-map-of words roster (triples table), W .size)
 
         triples-are : triples (take (3 * k - 0) result′) ≡ sum
         triples-are = ap triples part-is ∙ triples-flat sum
 
-        module _ (queries : List Query) (count : ℕ) (few-asks : count ≤ 16) where
+        module _ (queries : List Query) (count : ℕ) (few-asks : count ≤ mostAsks) where
           pub sum-room : Room 0 (report (triples (take (3 * k - 0) result′)) map′ (askedOf words (take (3 * k - 0) result′) map′ queries count))
           sum-room =
               let b = summary-fits words roster (triples table) (W .right) (W .size) (askedOf words (flat sum) (mapOf words roster (triples table)) queries count) few (asked-few words queries count few-asks _ _) in
@@ -136,7 +137,7 @@ module _ (words : Vocabulary) where
           sum-put l out x p = shows l _ _ (λ i. asksOutcome (sym triples-are i) (sym map-is i) (askedOf words (sym part-is i) (sym map-is i) queries count)) out x p
 
   -- ── saturate ──
-  module _ (table roster list : List ℕ) (given : Valid words table (length roster)) (hl : length list ≡ 6144) (d : Done) (own : List ℕ) (O : OwnRosterCall words table roster d own) where
+  module _ (table roster list : List ℕ) (given : CheckedTable words table (length roster)) (hl : length list ≡ 3 * printerSlots) (d : Done) (own : List ℕ) (O : OwnRosterCall words table roster d own) where
     abbrev ts : List Triple
     ts = triples table
 
@@ -168,11 +169,11 @@ module _ (words : Vocabulary) where
     sat-count : length (saturated words table own) ≡ length sat
     sat-count = ap {B = ℕ} (λ (x : List Triple). length x) sat-as
 
-    over : 2048 < length sat → saturateOutcome words table own list ≡ refused 5
+    over : printerSlots < length sat → saturateOutcome words table own list ≡ refused 5
     unfolding saturateOutcome slots
     over h = let c = sat-count in too-few (tableChecks words false table own) (length list / 3) _ own-passes (omega arith)
 
-    within : length sat ≤ 2048 → saturateOutcome words table own list ≡ accepted (length (saturated words table own))
+    within : length sat ≤ printerSlots → saturateOutcome words table own list ≡ accepted (length (saturated words table own))
     unfolding saturateOutcome slots
     within h = let c = sat-count in enough (tableChecks words false table own) (length list / 3) _ own-passes (omega arith)
 
@@ -181,8 +182,8 @@ module _ (words : Vocabulary) where
     outcome-is queries count b e = ap (λ (x : Bool). cond x (refused 5) (summaryOutcome words (ownRoster words (length roster) ts) sat queries count)) e
 
     module _ (r : Counted) (list′ : List ℕ) (S : (counted r ≡ saturateOutcome words table own list) × (list′ ≡ saturateLeaves words table own list)) where
-      pub sat-refused : (x : Refusal) → r ≡ counted-refused x → (queries : List Query) (count : ℕ) → saturationOutcome words (length roster) ts queries count ≡ refused (number Slots)
-      unfolding counted number
+      pub sat-refused : (x : Refusal) → r ≡ counted-refused x → (queries : List Query) (count : ℕ) → saturationOutcome words (length roster) ts queries count ≡ refused (refusalNumber Slots)
+      unfolding counted refusalNumber
       sat-refused x e queries count =
           ⊎-elim
           (λ t. outcome-is queries count true t)
@@ -198,7 +199,7 @@ module _ (words : Vocabulary) where
             (λ f. f)
             (bool-cases (ltb printerSlots (length sat)))
 
-        few-sat : length sat ≤ 2048
+        few-sat : length sat ≤ printerSlots
         few-sat = ltb-false printerSlots (length sat) fits
 
         count-sat : length sat ≡ k
@@ -209,7 +210,7 @@ module _ (words : Vocabulary) where
         unfolding saturateLeaves
         list-is = S .1 ∙ left-after _ _ _ _ (within few-sat) ∙ ap (listed (length list)) sat-as
 
-        pub sat-few : 3 * k ≤ 6144
+        pub sat-few : 3 * k ≤ 3 * printerSlots
         sat-few = omega (arith, count-sat, few-sat)
 
         pub sat-end : 3 * k ≤ length list′
@@ -242,8 +243,8 @@ module _ (words : Vocabulary) where
         sat-put queries count l out x p =
             shows l _ _ (outcome-is queries count false fits ∙ (λ i. summaryOutcome words (sym own-is i) (sym sat-triples i) queries count)) out x p
 
-  pub valid-as : (table : List ℕ) (n k : ℕ) → k ≡ n → Valid words table n → Valid words table k
-  valid-as table n k e g = subst (Valid words table) (sym e) g
+  pub checked-as : (table : List ℕ) (n k : ℕ) → k ≡ n → CheckedTable words table n → CheckedTable words table k
+  checked-as table n k e g = subst (CheckedTable words table) (sym e) g
 
   pub sat-as-put : (n k : ℕ) → k ≡ n → (ts : List Triple) (queries : List Query) (count : ℕ) (l out : List ℕ) (x : ℕ) → Put l 0 (shown (saturationOutcome words k ts queries count)) out x → Put l 0 (shown (saturationOutcome words n ts queries count)) out x
   sat-as-put n k e ts queries count l out x p = shows l _ _ (ap (λ (z : ℕ). saturationOutcome words z ts queries count) (sym e)) out x p
@@ -254,28 +255,28 @@ module _ (words : Vocabulary) where
     unfolding siteOutcome decided
     site-is a k b p y q = ap (λ (z : ℕ). siteOutcome words z (triples table) queries count) (sym e) ∙ (λ i. cond (p i) (refused 1) (cond (y i) (refused 10) (cond (q i) (refused 3) (saturationOutcome words n (triples table) queries count))))
 
-    pub site-small : wrongSize n ≡ true → siteOutcome words size (triples table) queries count ≡ refused (number Length)
-    unfolding number
+    pub site-small : wrongSize n ≡ true → siteOutcome words size (triples table) queries count ≡ refused (refusalNumber Length)
+    unfolding refusalNumber
     site-small p = site-is true _ _ (or-left (wrongSize n) _ p) refl refl
 
-    pub site-large : 512 < n → siteOutcome words size (triples table) queries count ≡ refused (number Length)
-    unfolding number
+    pub site-large : largestPrinted < n → siteOutcome words size (triples table) queries count ≡ refused (refusalNumber Length)
+    unfolding refusalNumber
     site-large p = site-is true _ _ (or-right (wrongSize n) _ (lt-ltb largestPrinted n p)) refl refl
 
-    module _ (s : wrongSize n ≡ false) (l : n ≤ 512) where
+    module _ (s : wrongSize n ≡ false) (l : n ≤ largestPrinted) where
       right-size : (wrongSize n || ltb largestPrinted n) ≡ false
       right-size = or-neither (wrongSize n) _ s (le-ltb largestPrinted n l)
 
-      pub site-words : wrongWords words n ≡ true → siteOutcome words size (triples table) queries count ≡ refused (number Words)
-      unfolding number
+      pub site-words : wrongWords words n ≡ true → siteOutcome words size (triples table) queries count ≡ refused (refusalNumber Words)
+      unfolding refusalNumber
       site-words y = site-is false true _ right-size y refl
 
-      pub site-codes : wrongWords words n ≡ false → wrongCodes words n (triples table) ≡ true → siteOutcome words size (triples table) queries count ≡ refused (number Code)
-      unfolding number
+      pub site-codes : wrongWords words n ≡ false → wrongCodes words n (triples table) ≡ true → siteOutcome words size (triples table) queries count ≡ refused (refusalNumber Code)
+      unfolding refusalNumber
       site-codes y q = site-is false false true right-size y q
 
-      pub site-valid : wrongWords words n ≡ false → wrongCodes words n (triples table) ≡ false → siteOutcome words size (triples table) queries count ≡ saturationOutcome words n (triples table) queries count
-      site-valid y q = site-is false false false right-size y q
+      pub site-checked : wrongWords words n ≡ false → wrongCodes words n (triples table) ≡ false → siteOutcome words size (triples table) queries count ≡ saturationOutcome words n (triples table) queries count
+      site-checked y q = site-is false false false right-size y q
 
-      pub is-valid : wrongWords words n ≡ false → wrongCodes words n (triples table) ≡ false → length table % 3 ≡ 0 → length table ≤ 3000 → Valid words table n
-      is-valid y q m f = record { size = s; printed = l; words = y; codes = q; flat = m; few = f }
+      pub is-checked : wrongWords words n ≡ false → wrongCodes words n (triples table) ≡ false → length table % 3 ≡ 0 → length table ≤ 3 * mostLines → CheckedTable words table n
+      is-checked y q m f = record { size = s; printed = l; words = y; codes = q; flat = m; few = f }

@@ -11,22 +11,21 @@ use Rattle.model.specs.declared.Refusal.the-variants.{Length, Roster, Code, Cov
 use Rattle.model.specs.declared.Triple.{Triple}
 use Rattle.model.specs.Lists.{any, collect}
 use Rattle.model.specs.Triples.{triples}
-use Rattle.model.specs.Outcomes.{Outcome, refused, accepted, number, decided}
+use Rattle.model.specs.Outcomes.{Outcome, refused, accepted, refusalNumber, decided}
 use Rattle.theory.proofs.Lists.{length-tabulate}
 use Rattle.lists.specs.Flat.{at}
 use Rattle.lists.proofs.Places.{triples-table}
 use Rattle.site_form.specs.Text.{bytes, numeral, tripleLine}
-use Rattle.site_form.specs.Printing.{summaryLine, nodeLines, answerLine, report, shown, isRefused}
+use Rattle.site_form.specs.Printing.{refusedLine, summaryLine, nodeLines, answerLine, report, shown, isRefused}
 use Rattle.site_writer.specs.Calls.{Room, Put}
 use Rattle.site_writer.proofs.Stores.{put-then, room-first, room-next}
 use Rattle.site_writer.proofs.Numerals.{five-digits}
-use Rattle.printer.specs.Lines.{refusedLine}
 use Rattle.printer.specs.Outcomes.{asksOutcome}
 use Rattle.printer.proofs.Lines.{room-as, put-as}
 
 -- ── refusals ──
-small-number : (r : Refusal) → number r < 100000
-unfolding number
+small-number : (r : Refusal) → refusalNumber r < 100000
+unfolding refusalNumber
 small-number Length = omega arith
 small-number Roster = omega arith
 small-number Code = omega arith
@@ -42,14 +41,14 @@ unfolding refusedLine
 refused-short n h = omega (arith, length-append (numeral n) (bytes ")\n"), five-digits n h)
 
 pub shown-refused : (n : ℕ) → shown (refused n) ≡ refusedLine n
-unfolding shown refusedLine
+unfolding shown
 shown-refused n = refl
 
-pub room-refusal : (r : Refusal) (n : ℕ) → n ≡ number r → Room 0 (refusedLine n)
+pub room-refusal : (r : Refusal) (n : ℕ) → n ≡ refusalNumber r → Room 0 (refusedLine n)
 room-refusal r n e = omega (arith, small-number r, refused-short n (omega (arith, small-number r)))
 
-pub refusal-put : (l : List ℕ) (r : Refusal) (n : ℕ) → n ≡ number r → (out : List ℕ) (x : ℕ) → Put l 0 (refusedLine n) out x → Put l 0 (shown (refused (number r))) out x
-refusal-put l r n e out x p = put-as 0 (shown-refused (number r) ∙ ap refusedLine (sym e)) l out x p
+pub refusal-put : (l : List ℕ) (r : Refusal) (n : ℕ) → n ≡ refusalNumber r → (out : List ℕ) (x : ℕ) → Put l 0 (refusedLine n) out x → Put l 0 (shown (refused (refusalNumber r))) out x
+refusal-put l r n e out x p = put-as 0 (shown-refused (refusalNumber r) ∙ ap refusedLine (sym e)) l out x p
 
 -- an outcome that is known
 pub shows : (l : List ℕ) (o : Outcome (List ℕ)) (s : Outcome (List ℕ)) → o ≡ s → (out : List ℕ) (x : ℕ) → Put l 0 (shown s) out x → Put l 0 (shown o) out x
@@ -114,8 +113,8 @@ module _ (ts : List Triple) (m : List ℕ) (answers found : List (Outcome Bool))
   room-found h = room-as 0 (ap (report ts m) (sym same)) h
 
   module _ (l out : List ℕ) (x : ℕ) where
-    pub asks-refused : any isRefused found ≡ true → Put l 0 (shown (refused (number Query))) out x → Put l 0 (shown (asksOutcome ts m answers)) out x
-    unfolding number
+    pub asks-refused : any isRefused found ≡ true → Put l 0 (shown (refused (refusalNumber Query))) out x → Put l 0 (shown (asksOutcome ts m answers)) out x
+    unfolding refusalNumber
     asks-refused e p = shows l (asksOutcome ts m answers) (refused 6) (asks-are true e) out x p
 
     pub asks-accepted : any isRefused found ≡ false → Put l 0 (report ts m found) out x → Put l 0 (shown (asksOutcome ts m answers)) out x

@@ -1,6 +1,6 @@
 -- What is printed, part by part, in the order of the checks.
 -- Assumes nothing.
-use Prim.Native.Nat.{ℕ, _%_, _≤_}
+use Prim.Native.Nat.{ℕ, _*_, _%_, _≤_}
 use mathlib.Core.Path.{_≡_}
 use mathlib.Core.Bool.{Bool, false, _||_}
 use mathlib.Core.List.{List, [], _∷_}
@@ -18,6 +18,7 @@ use Rattle.model.specs.Summary.{summary}
 use Rattle.model.specs.Outcomes.{Outcome, check, checked, decided, wrongSize}
 use Rattle.query.specs.declared.Query.{Query}
 use Rattle.query.specs.Ask.{askOutcome}
+use Rattle.site_form.specs.Text.{mostLines}
 use Rattle.site_form.specs.Printing.{largestPrinted, printerSlots, isRefused, report}
 use Rattle.theory.proofs.Accepted.{Right}
 
@@ -61,14 +62,14 @@ module _ (v : Vocabulary) where
   pub record Whole (table roster : List ℕ) : Type 0 where
     pub right : Right v roster (triples table)
     pub flat : length table % 3 ≡ 0
-    pub slots : length table ≤ 6144
-    pub size : length roster ≤ 512
+    pub slots : length table ≤ 3 * printerSlots
+    pub size : length roster ≤ largestPrinted
 
   -- a table as read: the checks 1, 10 and 3 pass
-  pub record Valid (table : List ℕ) (n : ℕ) : Type 0 where
+  pub record CheckedTable (table : List ℕ) (n : ℕ) : Type 0 where
     pub size : wrongSize n ≡ false
-    pub printed : n ≤ 512
+    pub printed : n ≤ largestPrinted
     pub words : wrongWords v n ≡ false
     pub codes : wrongCodes v n (triples table) ≡ false
     pub flat : length table % 3 ≡ 0
-    pub few : length table ≤ 3000
+    pub few : length table ≤ 3 * mostLines

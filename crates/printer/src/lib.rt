@@ -4,13 +4,14 @@ ghost use mathlib.Core.Path.{_≡_};
 ghost use Prim.Native.Nat.{_%_, _*_, _<_, _≤_};
 ghost use lib.ListN.{length};
 ghost use Rattle.model.specs.Lists.{any, collect};
-ghost use Rattle.model.specs.Outcomes.{refused, number};
+ghost use Rattle.model.specs.Outcomes.{refused, refusalNumber};
 ghost use Rattle.model.specs.Triples.{triples};
 ghost use Rattle.query.specs.Ask.{asked};
-ghost use Rattle.site_form.specs.Printing.{summaryLine, nodeLine, nodeLines, answerLine, shown, isRefused, report, printed};
+ghost use Rattle.site_form.specs.Text.{mostLines, mostAsks};
+ghost use Rattle.site_form.specs.Printing.{largestPrinted, printerSlots, refusedLine, summaryLine, pairLine, nodeLine, nodeLines, answerLine, shown, isRefused, report, printed};
 ghost use Rattle.site_writer.specs.Calls.{Room, Put};
-ghost use Rattle.printer.specs.Lines.{refusedLine, pairLine, answersIn};
-ghost use Rattle.printer.specs.Outcomes.{askedOf, asksOutcome, summaryOutcome, saturationOutcome, siteOutcome, Whole, Valid};
+ghost use Rattle.printer.specs.Lines.{answersIn};
+ghost use Rattle.printer.specs.Outcomes.{askedOf, asksOutcome, summaryOutcome, saturationOutcome, siteOutcome, Whole, CheckedTable};
 use lists::Code;
 use lists::narrow;
 use lists::wide;
@@ -25,12 +26,22 @@ use roster::own_roster;
 use saturate::saturate;
 use site_form::Form;
 use site_form::LARGEST_PRINTED;
+use site_form::MOST_ASKS;
 use site_form::MOST_BYTES;
+use site_form::MOST_TRIPLES;
+use site_form::PRINTER_SLOTS;
 use site_reader::read;
 use site_writer::put_after;
 use site_writer::put_bytes;
 use site_writer::put_triples;
 use summarise::summarise;
+
+// How many numbers the lists have: for the triples of a text, for those of a saturation or a summary, and for the work list.
+const READ_NUMBERS: usize = 3 * MOST_TRIPLES;
+
+const RESULT_NUMBERS: usize = 3 * PRINTER_SLOTS;
+
+const WORK_NUMBERS: usize = 2 * LARGEST_PRINTED;
 
 // Stores the line `(refused R)`.
 fn put_refused(out: &mut [u8], at: usize, n: u32) -> usize
@@ -100,8 +111,8 @@ fn put_answer(out: &mut [u8], at: usize, answer: Asked) -> usize
 }
 
 // Stores a line for each of the first `count` answers.
-fn put_answers(out: &mut [u8], at: usize, answers: [Asked; 16], count: usize) -> usize
-    requires { ⌜ (count ≤ 16) × Room at (collect answerLine (answersIn answers count)) ⌝ }
+fn put_answers(out: &mut [u8], at: usize, answers: [Asked; MOST_ASKS], count: usize) -> usize
+    requires { ⌜ (count ≤ mostAsks) × Room at (collect answerLine (answersIn answers count)) ⌝ }
     ensures { λ r. ⌜ Put (now (out .entry)) at (collect answerLine (answersIn answers count)) (now (out .exit)) r ⌝ }
 {
     let mut i = 0;
@@ -115,7 +126,7 @@ fn put_answers(out: &mut [u8], at: usize, answers: [Asked; 16], count: usize) ->
 
 // Stores the line of a refusal as all that is printed.
 fn refuse(out: &mut [u8], refusal: Refusal) -> usize
-    ensures { λ r. ⌜ Put (now (out .entry)) 0 (shown (refused (number refusal))) (now (out .exit)) r ⌝ }
+    ensures { λ r. ⌜ Put (now (out .entry)) 0 (shown (refused (refusalNumber refusal))) (now (out .exit)) r ⌝ }
 {
     put_refused(out, 0, refusal_number(refusal))
 }
@@ -131,8 +142,8 @@ fn is_refused(answer: Asked) -> bool
 }
 
 // Whether one of the first `count` answers is a refusal.
-fn any_refused(answers: [Asked; 16], count: usize) -> bool
-    requires { ⌜ count ≤ 16 ⌝ }
+fn any_refused(answers: [Asked; MOST_ASKS], count: usize) -> bool
+    requires { ⌜ count ≤ mostAsks ⌝ }
     ensures { λ r. ⌜ r ≡ any isRefused (answersIn answers count) ⌝ }
 {
     let mut i = 0;
@@ -150,13 +161,13 @@ fn ask_all(
     words: Vocabulary,
     table: &[u32],
     map: &[u32],
-    queries: [Query; 16],
+    queries: [Query; MOST_ASKS],
     count: usize,
-) -> [Asked; 16]
-    requires { ⌜ count ≤ 16 ⌝ }
+) -> [Asked; MOST_ASKS]
+    requires { ⌜ count ≤ mostAsks ⌝ }
     ensures { λ r. ⌜ answersIn r count ≡ askedOf words (now (table .entry)) (now (map .entry)) queries count ⌝ }
 {
-    let mut answers = [Asked::Maybe; 16];
+    let mut answers = [Asked::Maybe; MOST_ASKS];
     let mut i = 0;
     while i < count {
         answers[i] = ask(words, table, map, queries[i]);
@@ -170,10 +181,10 @@ fn put_report(
     out: &mut [u8],
     table: &[u32],
     map: &[u32],
-    answers: [Asked; 16],
+    answers: [Asked; MOST_ASKS],
     count: usize,
 ) -> usize
-    requires { ⌜ (count ≤ 16) × (length (now table) ≤ 6144) × (length (now map) ≤ 512) × Room 0 (report (triples (now table)) (now map) (answersIn answers count)) ⌝ }
+    requires { ⌜ (count ≤ mostAsks) × (length (now table) ≤ 3 * printerSlots) × (length (now map) ≤ largestPrinted) × Room 0 (report (triples (now table)) (now map) (answersIn answers count)) ⌝ }
     ensures { λ r. ⌜ Put (now (out .entry)) 0 (report (triples (now (table .entry))) (now (map .entry)) (answersIn answers count)) (now (out .exit)) r ⌝ }
 {
     let i = put_summary(out, 0, narrow(table.len() / 3));
@@ -183,15 +194,15 @@ fn put_report(
 }
 
 // Asks the queries of a summary and its map: 6 where one is refused, else the report.
-fn print_answers(
+fn ask_and_print(
     words: Vocabulary,
     out: &mut [u8],
     table: &[u32],
     map: &[u32],
-    queries: [Query; 16],
+    queries: [Query; MOST_ASKS],
     count: usize,
 ) -> usize
-    requires { ⌜ (count ≤ 16) × (length (now table) ≤ 6144) × (length (now map) ≤ 512) × Room 0 (report (triples (now table)) (now map) (askedOf words (now table) (now map) queries count)) ⌝ }
+    requires { ⌜ (count ≤ mostAsks) × (length (now table) ≤ 3 * printerSlots) × (length (now map) ≤ largestPrinted) × Room 0 (report (triples (now table)) (now map) (askedOf words (now table) (now map) queries count)) ⌝ }
     ensures { λ r. ⌜ Put (now (out .entry)) 0 (shown (asksOutcome (triples (now (table .entry))) (now (map .entry)) (askedOf words (now (table .entry)) (now (map .entry)) queries count))) (now (out .exit)) r ⌝ }
 {
     let answers = ask_all(words, table, map, queries, count);
@@ -201,8 +212,8 @@ fn print_answers(
     put_report(out, table, map, answers, count)
 }
 
-// Summarises a saturated table into lent lists, then prints.
-fn print_summary(
+// Summarises a saturated table into lent lists, then asks and prints.
+fn summarise_and_print(
     words: Vocabulary,
     out: &mut [u8],
     table: &[u32],
@@ -210,35 +221,35 @@ fn print_summary(
     result: &mut [u32],
     map: &mut [u32],
     work: &mut [u32],
-    queries: [Query; 16],
+    queries: [Query; MOST_ASKS],
     count: usize,
 ) -> usize
-    requires { ⌜ (count ≤ 16) × Whole words (now table) (now roster) × (length (now result) ≡ 6144) × (length (now map) ≡ length (now roster)) × (length (now work) ≡ 2 * length (now roster)) ⌝ }
+    requires { ⌜ (count ≤ mostAsks) × Whole words (now table) (now roster) × (length (now result) ≡ 3 * printerSlots) × (length (now map) ≡ length (now roster)) × (length (now work) ≡ 2 * length (now roster)) ⌝ }
     ensures { λ r. ⌜ Put (now (out .entry)) 0 (shown (summaryOutcome words (now (roster .entry)) (triples (now (table .entry))) queries count)) (now (out .exit)) r ⌝ }
 {
     let Counted::Count(k) = summarise(words, table, roster, result, map, work) else {
         return refuse(out, Refusal::Slots); // cannot be: the summary has no more triples than the table
     };
-    print_answers(words, out, &result[0..3 * k], map, queries, count)
+    ask_and_print(words, out, &result[0..3 * k], map, queries, count)
 }
 
-// Prints the summary of a saturated table.
-fn print_saturated(
+// Prints the summary of a saturated table: makes the lists that it is summarised into.
+fn print_saturated_table(
     words: Vocabulary,
     out: &mut [u8],
     table: &[u32],
     roster: &[u8],
-    queries: [Query; 16],
+    queries: [Query; MOST_ASKS],
     count: usize,
 ) -> usize
-    requires { ⌜ (count ≤ 16) × Whole words (now table) (now roster) ⌝ }
+    requires { ⌜ (count ≤ mostAsks) × Whole words (now table) (now roster) ⌝ }
     ensures { λ r. ⌜ Put (now (out .entry)) 0 (shown (summaryOutcome words (now (roster .entry)) (triples (now (table .entry))) queries count)) (now (out .exit)) r ⌝ }
 {
     let n = roster.len();
-    let mut result: [u32; 6144] = [0; 6144];
-    let mut map: [u32; 512] = [0; 512];
-    let mut work: [u32; 1024] = [0; 1024];
-    print_summary(
+    let mut result: [u32; RESULT_NUMBERS] = [0; RESULT_NUMBERS];
+    let mut map: [u32; LARGEST_PRINTED] = [0; LARGEST_PRINTED];
+    let mut work: [u32; WORK_NUMBERS] = [0; WORK_NUMBERS];
+    summarise_and_print(
         words,
         out,
         table,
@@ -251,41 +262,41 @@ fn print_saturated(
     )
 }
 
-// Saturates a table with its own roster in lent lists, then prints.
-fn print_saturation(
+// Saturates a checked table with its own roster in lent lists, then prints the summary of its saturation.
+fn saturate_and_print(
     words: Vocabulary,
     out: &mut [u8],
     table: &[u32],
     roster: &mut [u8],
     list: &mut [u32],
-    queries: [Query; 16],
+    queries: [Query; MOST_ASKS],
     count: usize,
 ) -> usize
-    requires { ⌜ (count ≤ 16) × Valid words (now table) (length (now roster)) × (length (now list) ≡ 6144) ⌝ }
+    requires { ⌜ (count ≤ mostAsks) × CheckedTable words (now table) (length (now roster)) × (length (now list) ≡ 3 * printerSlots) ⌝ }
     ensures { λ r. ⌜ Put (now (out .entry)) 0 (shown (saturationOutcome words (length (now (roster .entry))) (triples (now (table .entry))) queries count)) (now (out .exit)) r ⌝ }
 {
     own_roster(words, table, roster);
     let Counted::Count(k) = saturate(words, table, roster, list) else {
         return refuse(out, Refusal::Slots);
     };
-    print_saturated(words, out, &list[0..3 * k], roster, queries, count)
+    print_saturated_table(words, out, &list[0..3 * k], roster, queries, count)
 }
 
-// Prints a table that the checks 1, 10 and 3 pass.
-fn print_valid(
+// Prints a table that the checks 1, 10 and 3 pass: makes the lists that it is saturated in.
+fn print_checked_table(
     words: Vocabulary,
     out: &mut [u8],
     table: &[u32],
     n: usize,
-    queries: [Query; 16],
+    queries: [Query; MOST_ASKS],
     count: usize,
 ) -> usize
-    requires { ⌜ (count ≤ 16) × Valid words (now table) n ⌝ }
+    requires { ⌜ (count ≤ mostAsks) × CheckedTable words (now table) n ⌝ }
     ensures { λ r. ⌜ Put (now (out .entry)) 0 (shown (saturationOutcome words n (triples (now (table .entry))) queries count)) (now (out .exit)) r ⌝ }
 {
-    let mut roster: [u8; 512] = [0; 512];
-    let mut list: [u32; 6144] = [0; 6144];
-    print_saturation(
+    let mut roster: [u8; LARGEST_PRINTED] = [0; LARGEST_PRINTED];
+    let mut list: [u32; RESULT_NUMBERS] = [0; RESULT_NUMBERS];
+    saturate_and_print(
         words,
         out,
         table,
@@ -296,16 +307,16 @@ fn print_valid(
     )
 }
 
-// Prints a table as it was read.
-fn print_table(
+// Checks a table as it was read, by 1, 10 and 3, and prints it.
+fn check_and_print(
     words: Vocabulary,
     out: &mut [u8],
     table: &[u32],
     size: u32,
-    queries: [Query; 16],
+    queries: [Query; MOST_ASKS],
     count: usize,
 ) -> usize
-    requires { ⌜ (count ≤ 16) × (length (now table) % 3 ≡ 0) × (length (now table) ≤ 3000) ⌝ }
+    requires { ⌜ (count ≤ mostAsks) × (length (now table) % 3 ≡ 0) × (length (now table) ≤ 3 * mostLines) ⌝ }
     ensures { λ r. ⌜ Put (now (out .entry)) 0 (shown (siteOutcome words size (triples (now (table .entry))) queries count)) (now (out .exit)) r ⌝ }
 {
     let n = wide(size);
@@ -321,7 +332,7 @@ fn print_table(
     if checks::codes_wrong(words, table, n) {
         return refuse(out, Refusal::Code);
     }
-    print_valid(words, out, table, n, queries, count)
+    print_checked_table(words, out, table, n, queries, count)
 }
 
 // Stores what the site printer prints of a text; the number of bytes.
@@ -332,7 +343,7 @@ pub fn print_site(text: &[u8], out: &mut [u8]) -> usize
     if MOST_BYTES < text.len() {
         return refuse(out, Refusal::Form);
     }
-    let mut list: [u32; 3000] = [0; 3000];
+    let mut list: [u32; READ_NUMBERS] = [0; READ_NUMBERS];
     let answer = read(text, &mut list);
     let site = answer.site;
     let form = answer.form;
@@ -341,7 +352,7 @@ pub fn print_site(text: &[u8], out: &mut [u8]) -> usize
     };
     let words = site.words;
     let queries = site.queries;
-    print_table(
+    check_and_print(
         words,
         out,
         &list[0..3 * site.count],

@@ -12,7 +12,7 @@ use Rattle.model.specs.Lists.{any, tabulate}
 use Rattle.model.specs.Triples.{triples}
 use Rattle.model.specs.Roster.{wrongCodes}
 use Rattle.model.specs.declared.Refusal.the-variants.{Length, Words as WrongWords, Code as WrongCode, Query as WrongQuery}
-use Rattle.model.specs.Outcomes.{decided, number, wrongSize, wrongLength}
+use Rattle.model.specs.Outcomes.{decided, refusalNumber, wrongSize, wrongLength}
 use Rattle.lists.specs.Flat.{at}
 use Rattle.query.specs.declared.Query.{Query}
 use Rattle.query.specs.declared.Asked.the-variants.{Maybe, None, Refused}
@@ -25,27 +25,27 @@ module _ (v : Vocabulary) where
   -- ── the outcome ──
   module _ (table map : List ℕ) (q : Query) {x₁ : Bool} (e₁ : x₁ ≡ wrongSize (length map)) where
     pub wrong-size : x₁ ≡ true → asked (Refused Length) ≡ askOutcome v table map q
-    unfolding askOutcome askChecks decided asked number
+    unfolding askOutcome askChecks decided asked refusalNumber
     wrong-size h = rw (← e₁, h)
 
     module _ (h₁ : x₁ ≡ false) {x₂ : Bool} (e₂ : x₂ ≡ wrongLength (length table)) where
       pub wrong-length : x₂ ≡ true → asked (Refused Length) ≡ askOutcome v table map q
-      unfolding askOutcome askChecks decided asked number
+      unfolding askOutcome askChecks decided asked refusalNumber
       wrong-length h = rw (← e₁, h₁, ← e₂, h)
 
       module _ (h₂ : x₂ ≡ false) {x₀ : Bool} (e₀ : x₀ ≡ wrongWords v (length map)) where
         pub wrong-words : x₀ ≡ true → asked (Refused WrongWords) ≡ askOutcome v table map q
-        unfolding askOutcome askChecks decided asked number
+        unfolding askOutcome askChecks decided asked refusalNumber
         wrong-words h = rw (← e₁, h₁, ← e₂, h₂, ← e₀, h)
 
         module _ (h₀ : x₀ ≡ false) {x₃ : Bool} (e₃ : x₃ ≡ wrongCodes v (length map) (triples table)) where
           pub wrong-codes : x₃ ≡ true → asked (Refused WrongCode) ≡ askOutcome v table map q
-          unfolding askOutcome askChecks decided asked number
+          unfolding askOutcome askChecks decided asked refusalNumber
           wrong-codes h = rw (← e₁, h₁, ← e₂, h₂, ← e₀, h₀, ← e₃, h)
 
           module _ (h₃ : x₃ ≡ false) {x₄ : Bool} (e₄ : x₄ ≡ wrongQuery (length map) q) where
             pub wrong-query : x₄ ≡ true → asked (Refused WrongQuery) ≡ askOutcome v table map q
-            unfolding askOutcome askChecks decided asked number
+            unfolding askOutcome askChecks decided asked refusalNumber
             wrong-query h = rw (← e₁, h₁, ← e₂, h₂, ← e₀, h₀, ← e₃, h₃, ← e₄, h)
 
             module _ (h₄ : x₄ ≡ false) (n : ℕ) (m : n ≡ length table / 3) {x : Bool} (e : x ≡ any (stepAt table map q 0 unbound) (tabulate (at table) 0 n)) where

@@ -16,35 +16,35 @@ use Rattle.query.specs.declared.End.{End}
 use Rattle.query.specs.declared.End.the-variants.{Var, Code}
 use Rattle.query.specs.declared.Pattern.{Pattern}
 use Rattle.query.specs.declared.Query.{Query}
-use Rattle.query.specs.Ask.{pattern, fit, fitEnd, wrongEnd, wrongPattern, counted, wrongQuery}
+use Rattle.query.specs.Ask.{patternAt, fit, fitEnd, wrongPatternEnd, wrongPattern, countedPatterns, wrongQuery}
 
 -- ── check 6 ──
-pub end-variable : (n v : ℕ) (e : End) → e ≡ Var v → ltb 7 v ≡ wrongEnd n e
-unfolding wrongEnd
+pub end-variable : (n v : ℕ) (e : End) → e ≡ Var v → ltb 7 v ≡ wrongPatternEnd n e
+unfolding wrongPatternEnd
 end-variable n v e h = rw h
 
-pub end-code : (n c : ℕ) (e : End) → e ≡ Code c → leb n c ≡ wrongEnd n e
-unfolding wrongEnd
+pub end-code : (n c : ℕ) (e : End) → e ≡ Code c → leb n c ≡ wrongPatternEnd n e
+unfolding wrongPatternEnd
 end-code n c e h = rw h
 
 module _ (n : ℕ) (p : Pattern) where
-  pub wrong-subject : wrongEnd n (p .subject) ≡ true → true ≡ wrongPattern n p
+  pub wrong-subject : wrongPatternEnd n (p .subject) ≡ true → true ≡ wrongPattern n p
   unfolding wrongPattern
   wrong-subject e = rw e
 
-  module _ (e : wrongEnd n (p .subject) ≡ false) where
+  module _ (e : wrongPatternEnd n (p .subject) ≡ false) where
     pub wrong-property : n ≤ p .property → true ≡ wrongPattern n p
     unfolding wrongPattern
     wrong-property h = rw (e, le-leb _ _ h)
 
-    pub wrong-object : p .property < n → wrongEnd n (p .object) ≡ wrongPattern n p
+    pub wrong-object : p .property < n → wrongPatternEnd n (p .object) ≡ wrongPattern n p
     unfolding wrongPattern
     wrong-object h = rw (e, lt-leb _ _ h)
 
 -- no pattern before the k-th is wrong
 pub record RightBefore (n : ℕ) (q : Query) (k : ℕ) : Type 0 where
   pub within : k ≤ q .count
-  pub none : any (wrongPattern n) (tabulate (pattern q) 0 k) ≡ false
+  pub none : any (wrongPattern n) (tabulate (patternAt q) 0 k) ≡ false
 
 module _ (n : ℕ) (q : Query) where
   pub query-none : q .count ≡ 0 → true ≡ wrongQuery n q
@@ -57,29 +57,29 @@ module _ (n : ℕ) (q : Query) where
     query-many h = rw (ne-eqb _ _ some, lt-ltb _ _ h)
 
     module _ (few : q .count ≤ 8) where
-      pub query-found : (k : ℕ) → k < q .count → wrongPattern n (pattern q k) ≡ true → true ≡ wrongQuery n q
-      unfolding wrongQuery counted
+      pub query-found : (k : ℕ) → k < q .count → wrongPattern n (patternAt q k) ≡ true → true ≡ wrongQuery n q
+      unfolding wrongQuery countedPatterns
       query-found k l e =
           rw (ne-eqb _ _ some, le-ltb _ _ few)
-          (sym (run-holds (wrongPattern n) (pattern q) 0 (q .count) k (omega arith) (omega arith) e))
+          (sym (run-holds (wrongPattern n) (patternAt q) 0 (q .count) k (omega arith) (omega arith) e))
 
       pub query-end : (k : ℕ) → RightBefore n q k → q .count ≤ k → false ≡ wrongQuery n q
-      unfolding wrongQuery counted
+      unfolding wrongQuery countedPatterns
       query-end k h l =
           let e : q .count ≡ k = omega (arith, h .within) in
-          rw (ne-eqb _ _ some, le-ltb _ _ few) (sym (ap (λ (m : ℕ). any (wrongPattern n) (tabulate (pattern q) 0 m)) e ∙ h .none))
+          rw (ne-eqb _ _ some, le-ltb _ _ few) (sym (ap (λ (m : ℕ). any (wrongPattern n) (tabulate (patternAt q) 0 m)) e ∙ h .none))
 
   pub query-start : RightBefore n q 0
-  query-start = record { within = omega arith; none = run-none (wrongPattern n) (pattern q) 0 }
+  query-start = record { within = omega arith; none = run-none (wrongPattern n) (patternAt q) 0 }
 
-  pub query-step : (k : ℕ) → RightBefore n q k → k < q .count → wrongPattern n (pattern q k) ≡ false → RightBefore n q (k + 1)
-  query-step k h l e = record { within = omega arith; none = run-more (wrongPattern n) (pattern q) k (h .none) e }
+  pub query-step : (k : ℕ) → RightBefore n q k → k < q .count → wrongPattern n (patternAt q k) ≡ false → RightBefore n q (k + 1)
+  query-step k h l e = record { within = omega arith; none = run-more (wrongPattern n) (patternAt q) k (h .none) e }
 
 -- ── an end ──
-pub variable-below : (n v : ℕ) (e : End) → e ≡ Var v → wrongEnd n e ≡ false → v < 8
+pub variable-below : (n v : ℕ) (e : End) → e ≡ Var v → wrongPatternEnd n e ≡ false → v < 8
 variable-below n v e h w = omega (arith, ltb-false 7 v (end-variable n v e h ∙ w))
 
-pub code-below : (n c : ℕ) (e : End) → e ≡ Code c → wrongEnd n e ≡ false → c < n
+pub code-below : (n c : ℕ) (e : End) → e ≡ Code c → wrongPatternEnd n e ≡ false → c < n
 code-below n c e h w = leb-false n c (end-code n c e h ∙ w)
 
 module _ (map : List ℕ) (e : End) (x : ℕ) (b : List ℕ) where

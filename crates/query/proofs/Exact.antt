@@ -13,9 +13,8 @@ use borrow.Author.Tests.{ne-eqb, eqb-false, ltb-false, leb-false}
 use Rattle.model.specs.declared.Triple.{Triple}
 use Rattle.model.specs.declared.Vocabulary.{Vocabulary}
 use Rattle.model.specs.Codes.{wrongWords, absent}
-use Rattle.model.specs.Lists.{any}
 use Rattle.model.specs.Triples.{triples}
-use Rattle.model.specs.Roster.{wrongCodes, wrongTriple, wrongEnd as wrongCode}
+use Rattle.model.specs.Roster.{wrongCodes, wrongTriple, wrongEnd}
 use Rattle.model.specs.Partition.{label}
 use Rattle.model.specs.Cliques.{source}
 use Rattle.model.specs.Outcomes.{Outcome, accepted, decided, wrongSize, wrongLength}
@@ -23,8 +22,8 @@ use Rattle.query.specs.declared.Pattern.{Pattern}
 use Rattle.query.specs.declared.Query.{Query}
 use Rattle.query.specs.declared.Fit.{Fit}
 use Rattle.theory.proofs.Checks.{passes-first}
-use Rattle.query.specs.Ask.{pattern, unbound, fitTriple, tried, search, stepOf, wrongQuery, askChecks, askOutcome}
-use Rattle.query.specs.Match.{NodeOf, put, Choice, Accepted, Exact, AskExact}
+use Rattle.query.specs.Ask.{patternAt, unbound, fitTriple, tried, search, stepOf, wrongQuery, askChecks, askOutcome}
+use Rattle.query.specs.Match.{NodeOf, patternTriple, Choice, AskAccepted, Exact, AskExact}
 use Rattle.theory.proofs.Tests.{and-left, and-right, neither-left, neither-right, not-true-false}
 use Rattle.theory.proofs.Lists.{any-holds, any-found, any-none}
 use Rattle.query.proofs.Steps.{GoodQuery, good-query, Extends, Bound, Fitting, triple-complete, Tried, triple-sound}
@@ -32,7 +31,7 @@ use Rattle.query.proofs.Steps.{GoodQuery, good-query, Extends, Bound, F
 -- ── the search ──
 module _ (ts : List Triple) (map : List ℕ) (q : Query) (g : GoodQuery (length map) q) where
   At : (ℕ → ℕ) → ℕ → Type 0
-  At σ k = Mem (put (label map) σ (pattern q k)) ts
+  At σ k = Mem (patternTriple (label map) σ (patternAt q k)) ts
 
   search-complete : (σ : ℕ → ℕ) (left k : ℕ) (b : List ℕ) → k + left ≡ q .count → ((j : ℕ) → j < q .count → At σ j) → length b ≡ 8 → Extends σ b
       → search ts map (q .patterns) left k b ≡ true
@@ -40,7 +39,7 @@ module _ (ts : List Triple) (map : List ℕ) (q : Query) (g : GoodQuery (length 
   search-complete σ zero k b n m l h = refl
   search-complete σ (suc left) k b n m l h =
       let lk : k < q .count = omega arith in
-      let f : Fitting ts map σ (fitTriple map (pattern q k) (put (label map) σ (pattern q k)) b) = triple-complete ts map σ (pattern q k) b (g .subject k lk) (g .object k lk) l h in
+      let f : Fitting ts map σ (fitTriple map (patternAt q k) (patternTriple (label map) σ (patternAt q k)) b) = triple-complete ts map σ (patternAt q k) b (g .subject k lk) (g .object k lk) l h in
       any-holds (stepOf ts map (q .patterns) left k b) ts _ (m k lk)
       (rw (f .fits) (search-complete σ left (k + 1) _ (omega arith) m (f .long) (f .extends)))
 
@@ -68,14 +67,14 @@ module _ (ts : List Triple) (map : List ℕ) (q : Query) (g : GoodQuery (length 
         at-v v lv false e = h v lv (eqb-false _ _ e)
     search-sound (suc left) k b n y l h =
         let lk : k < q .count = omega arith in
-        let p : Pattern = pattern q k in
+        let p : Pattern = patternAt q k in
         let w = any-found (stepOf ts map (q .patterns) left k b) ts y in
         let t : Triple = w .0 in
         let e : Fit = fitTriple map p t b in
         let f : Tried ts map p t b e = triple-sound ts map p t b (w .1) (and-left (e .fits) _ (w .2)) (present t (w .1) .0) (present t (w .1) .1) (g .subject k lk) (g .object k lk) l in
         let r : Found (k + 1) (e .bindings) = search-sound left (k + 1) (e .bindings) (omega arith) (and-right (e .fits) _ (w .2)) (f .long) (f .bound h) in
         let σ : ℕ → ℕ = r .chosen in
-        let here : At σ k = Memᴰ·cast {a = put (label map) σ p} (f .there σ (r .extends)) (w .1) in
+        let here : At σ k = Memᴰ·cast {a = patternTriple (label map) σ p} (f .there σ (r .extends)) (w .1) in
         record {
           chosen = σ;
           extends = f .back σ (r .extends);
@@ -98,7 +97,7 @@ record Passed (v : Vocabulary) (table map : List ℕ) (q : Query) : Type 0 where
   pub codes : wrongCodes v (length map) (triples table) ≡ false
   pub query : wrongQuery (length map) q ≡ false
 
-passed : (v : Vocabulary) (table map : List ℕ) (q : Query) → Accepted v table map q → Passed v table map q
+passed : (v : Vocabulary) (table map : List ℕ) (q : Query) → AskAccepted v table map q → Passed v table map q
 unfolding askChecks
 passed v table map q a =
     let w = passes-first _ _ a in
@@ -107,8 +106,8 @@ passed v table map q a =
     let z = passes-first _ _ (y .1) in
     record { lengths = w .0; words = x .0; codes = y .0; query = z .0 }
 
-below : (v : Vocabulary) (n c : ℕ) → wrongCode v n c ≡ false → c < n
-unfolding wrongCode
+below : (v : Vocabulary) (n c : ℕ) → wrongEnd v n c ≡ false → c < n
+unfolding wrongEnd
 below v n c e = leb-false n c (neither-left (leb n c) _ e)
 
 module _ (v : Vocabulary) (table map : List ℕ) (q : Query) (a : Passed v table map q) where
@@ -123,8 +122,8 @@ module _ (v : Vocabulary) (table map : List ℕ) (q : Query) (a : Passed v table
   unfolding ts wrongCodes wrongTriple
   present t m =
       let e : wrongTriple v (length map) t ≡ false = any-none (wrongTriple v (length map)) ts (a .codes) t m in
-      let s : t .subject < length map = below v _ _ (neither-left (wrongCode v (length map) (t .subject)) _ e) in
-      let o : t .object < length map = below v _ _ (neither-right (leb (length map) (t .property)) _ (neither-right (wrongCode v (length map) (t .subject)) _ e)) in
+      let s : t .subject < length map = below v _ _ (neither-left (wrongEnd v (length map) (t .subject)) _ e) in
+      let o : t .object < length map = below v _ _ (neither-right (leb (length map) (t .property)) _ (neither-right (wrongEnd v (length map) (t .subject)) _ e)) in
       (λ z. omega (arith, small), λ z. omega (arith, small))
 
   answer : Bool

@@ -6,7 +6,7 @@ ghost use Prim.Native.Nat.{_+_, _-_, _*_, _<_, _≤_};
 ghost use lib.ListN.{length};
 ghost use Rattle.model.specs.Lists.{any, tabulate};
 ghost use Rattle.lists.specs.Flat.{at, RisingPart};
-ghost use Rattle.query.specs.Ask.{pattern, fitEnd, wrongEnd, wrongPattern, wrongQuery, asked, askOutcome};
+ghost use Rattle.query.specs.Ask.{blank, patternAt, fitEnd, wrongPatternEnd, wrongPattern, wrongQuery, asked, askOutcome};
 ghost use Rattle.query.specs.Parts.{FirstWith, FirstOf, FirstFit, front, wantedOf, InOrder, stepAt};
 use lists::Code;
 use lists::lower_bound;
@@ -52,8 +52,19 @@ pub struct Fit {
     pub bindings: [u32; 8],
 }
 
+// The pattern `((v 0) 0 (v 0))`, which stands in the places past a query's count.
+pub fn blank_pattern() -> Pattern
+    ensures { λ r. ⌜ r ≡ blank ⌝ }
+{
+    Pattern {
+        subject: End::Var(0),
+        property: 0,
+        object: End::Var(0),
+    }
+}
+
 fn end_wrong(e: End, n: usize) -> bool
-    ensures { λ r. ⌜ r ≡ wrongEnd n e ⌝ }
+    ensures { λ r. ⌜ r ≡ wrongPatternEnd n e ⌝ }
 {
     match e {
         End::Var(v) => 7 < v,
@@ -99,7 +110,7 @@ fn query_wrong(q: Query, n: usize) -> bool
 
 // An end against the node x. A code stands for its map entry; a variable without a node takes x.
 fn fit_end(map: &[u32], e: End, x: u32, bindings: [u32; 8]) -> Fit
-    requires { ⌜ wrongEnd (length (now map)) e ≡ false ⌝ }
+    requires { ⌜ wrongPatternEnd (length (now map)) e ≡ false ⌝ }
     ensures { λ r. ⌜ r ≡ fitEnd (now (map .entry)) e x bindings ⌝ }
 {
     match e {
@@ -145,7 +156,7 @@ fn first_with(table: &[u32], p: u32, from: usize, to: usize) -> usize
 
 // The node that an end must have, if there is one: a code stands for its map entry, and a variable may have a node already.
 fn node_wanted(map: &[u32], e: End, bindings: [u32; 8]) -> Wanted
-    requires { ⌜ wrongEnd (length (now map)) e ≡ false ⌝ }
+    requires { ⌜ wrongPatternEnd (length (now map)) e ≡ false ⌝ }
     ensures { λ r. ⌜ r ≡ wantedOf (now (map .entry)) e bindings ⌝ }
 {
     match e {
@@ -204,7 +215,7 @@ fn first_fit(
     to: usize,
     rising: bool,
 ) -> usize
-    requires { ⌜ (wrongEnd (length (now map)) (p .subject) ≡ false) × (from ≤ to) × (3 * to ≤ length (now table)) × InOrder (now table) rising ⌝ }
+    requires { ⌜ (wrongPatternEnd (length (now map)) (p .subject) ≡ false) × (from ≤ to) × (3 * to ≤ length (now table)) × InOrder (now table) rising ⌝ }
     ensures { λ r. ⌜ FirstFit (at (now (table .entry))) (now (map .entry)) p bindings from to r ⌝ }
 {
     let property = p.property;
@@ -257,7 +268,7 @@ fn try_triple(
     i: usize,
     rising: bool,
 ) -> bool
-    requires { ⌜ (wrongQuery (length (now map)) q ≡ false) × (k < q .count) × (3 * i + 2 < length (now table)) × (at (now table) i .property ≡ pattern q k .property) × InOrder (now table) rising ⌝ }
+    requires { ⌜ (wrongQuery (length (now map)) q ≡ false) × (k < q .count) × (3 * i + 2 < length (now table)) × (at (now table) i .property ≡ patternAt q k .property) × InOrder (now table) rising ⌝ }
     ensures { λ r. ⌜ r ≡ stepAt (now (table .entry)) (now (map .entry)) q k bindings (at (now (table .entry)) i) ⌝ }
 {
     let pattern = q.patterns[k];

@@ -1,12 +1,14 @@
 // Asks the summary and map of the papers' example its two queries, shows each refusal of ask, and asks a large table.
 
 use libc::STDOUT_FILENO;
+use lists::Code;
 use model::Vocabulary;
 use model::refusal_number;
 use query::Asked;
 use query::End;
 use query::Pattern;
 use query::Query;
+use query::blank_pattern;
 
 // The summary of the saturated example.
 const SUMMARY: [u32; 42] = [
@@ -91,7 +93,7 @@ fn vars(s: u32, p: u32, o: u32) -> Pattern {
 
 // A query of two patterns, of which `count` are counted.
 fn pair(a: Pattern, b: Pattern, count: u32) -> Query {
-    let z = vars(0, 0, 0);
+    let z = blank_pattern();
     Query {
         patterns: [a, b, z, z, z, z, z, z],
         count: count,
@@ -99,7 +101,7 @@ fn pair(a: Pattern, b: Pattern, count: u32) -> Query {
 }
 
 fn example() {
-    let a: u32 = 4294967295;
+    let a = Code::ABSENT;
     let map: [u32; 14] = [a, a, a, a, a, 5, 6, 7, 8, 9, 10, 10, 12, 12];
     show(query::ask(
         words(4),

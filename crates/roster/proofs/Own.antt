@@ -12,7 +12,7 @@ use Rattle.model.specs.Codes.{wrongWords}
 use Rattle.model.specs.Lists.{zeros}
 use Rattle.model.specs.Triples.{triples}
 use Rattle.model.specs.Roster.{ownRoster, wrongCodes}
-use Rattle.model.specs.Outcomes.{Outcome, refused, accepted, number, done, decided, left, zeroed, wrongSize, wrongLength}
+use Rattle.model.specs.Outcomes.{Outcome, refused, accepted, refusalNumber, done, decided, left, zeroed, wrongSize, wrongLength}
 use Rattle.model.specs.Calls.{ownRosterOutcome, ownRosterLeaves}
 use Rattle.theory.proofs.Tests.{or-left, or-right, or-neither}
 use Rattle.theory.proofs.Covered.{AllBelow, all-codes}
@@ -37,7 +37,7 @@ module _ (v : Vocabulary) where
     leaves-is e = ap (λ (o : Outcome (Unit {0})). left o roster (ownRoster v (length roster) (triples table))) e
 
     by-length : first ≡ true → OwnRosterCall v table roster (Refused Length) roster
-    unfolding done number left zeroed
+    unfolding done refusalNumber left zeroed
     by-length p = let e = outcome-is p refl refl in record { answer = sym e; leaves = sym (leaves-is e) }
 
     pub by-size : wrongSize (length roster) ≡ true → OwnRosterCall v table roster (Refused Length) roster
@@ -51,11 +51,11 @@ module _ (v : Vocabulary) where
       passed = or-neither (wrongSize (length roster)) _ p q
 
       pub by-words : wrongWords v (length roster) ≡ true → OwnRosterCall v table roster (Refused Words) roster
-      unfolding done number left zeroed
+      unfolding done refusalNumber left zeroed
       by-words h = let e = outcome-is passed h refl in record { answer = sym e; leaves = sym (leaves-is e) }
 
       pub by-codes : wrongWords v (length roster) ≡ false → third ≡ true → OwnRosterCall v table roster (Refused Code) roster
-      unfolding done number left zeroed
+      unfolding done refusalNumber left zeroed
       by-codes w h = let e = outcome-is passed w h in record { answer = sym e; leaves = sym (leaves-is e) }
 
       pub by-marking : wrongWords v (length roster) ≡ false → third ≡ false → (a b : List ℕ) → a ≡ zeros (length roster) → b ≡ tableMarked v a (triples table) → OwnRosterCall v table roster Accepted b

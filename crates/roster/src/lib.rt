@@ -3,8 +3,8 @@
 ghost use mathlib.Core.Path.{_≡_};
 ghost use mathlib.Core.Bool.{false, not, _&&_};
 ghost use Rattle.model.specs.Codes.{wrongWords};
-ghost use Prim.Native.Nat.{ℕ, _+_, _*_, _<_, _≤_};
-ghost use lib.ListN.{length, getD, set};
+ghost use Prim.Native.Nat.{_+_, _<_};
+ghost use lib.ListN.{length, getD};
 ghost use Rattle.model.specs.Lists.{zeros};
 ghost use Rattle.model.specs.Triples.{triples};
 ghost use Rattle.theory.proofs.Covered.{Below, AllBelow};
@@ -28,7 +28,7 @@ use model::Triple;
 use model::Vocabulary;
 
 // Whether a mark says class.
-pub fn is_class(mark: u8) -> bool
+fn is_class(mark: u8) -> bool
     ensures { λ r. ⌜ r ≡ isClass mark ⌝ }
 {
     if mark == 1 {
@@ -38,7 +38,7 @@ pub fn is_class(mark: u8) -> bool
 }
 
 // Whether a mark says property.
-pub fn is_property(mark: u8) -> bool
+fn is_property(mark: u8) -> bool
     ensures { λ r. ⌜ r ≡ isProperty mark ⌝ }
 {
     if mark == 2 {

@@ -14,7 +14,7 @@ use Rattle.model.specs.declared.Counted.the-variants.{Count, Refused as counted
 use Rattle.model.specs.declared.Vocabulary.{Vocabulary}
 use Rattle.model.specs.Lists.{zeros}
 use Rattle.model.specs.Triples.{triples, slots, sorted, listed}
-use Rattle.model.specs.Outcomes.{accepted, number, counted, checked, Passes}
+use Rattle.model.specs.Outcomes.{accepted, refusalNumber, counted, checked, Passes}
 use Rattle.model.specs.Calls.{tableChecks, saturated, saturateOutcome, saturateLeaves}
 use Rattle.theory.proofs.Order.{sorted-rising, sorted-mem, mem-sorted, sorted-length}
 use Rattle.theory.proofs.Lists.{length-tabulate}
@@ -62,7 +62,7 @@ module _ (v : Vocabulary) where
 
       module _ (m : List ℕ) (b : Builder) (C : Closed v (In (triples table)) l m b) where
         pub answer-slots : b .full ≡ true → (n : List ℕ) → Cleared m n 0 (length m) → Answers (counted-refused Slots) n
-        unfolding counted number saturateOutcome saturateLeaves saturated slots
+        unfolding counted refusalNumber saturateOutcome saturateLeaves saturated slots
         answer-slots f n z =
             let sat = saturated v table roster in
             let long : length l / 3 < length sat = C .over f sat (λ u d. (saturation-exact v (length roster) (type-below right) (triples table) (below v roster (triples table) right) u) .1 d) in

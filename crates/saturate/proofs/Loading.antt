@@ -22,7 +22,7 @@ use Rattle.lists.specs.Flat.{at, RisingPart}
 use Rattle.lists.proofs.Places.{triples-table}
 use Rattle.sorting.specs.Sorting.{Distinct}
 use Rattle.builder.specs.declared.Builder.{Builder}
-use Rattle.builder.specs.Builder.{first, Offered, Step}
+use Rattle.builder.specs.Builder.{first, Offered, GrownBy}
 use Rattle.builder.proofs.Collecting.{opening, offer-step, step-none, step-then}
 use Rattle.saturate.specs.Rounds.{schema, chosen, part, OfferedIf, Added}
 use Rattle.saturate.proofs.Closing.{front-sorted}
@@ -86,7 +86,7 @@ module _ (v : Vocabulary) where
     -- the first i triples of the table, where they are chosen, are held
     pub record Loading (l : List ℕ) (s : Builder) (i : ℕ) : Type 0 where
       pub going : s .full ≡ false
-      pub step : Step all X l₀ l (opening count) s
+      pub step : GrownBy all X l₀ l (opening count) s
       pub done : (j : ℕ) → j < i → chosen v w (at table j) ≡ true → Mem (at table j) (first l (s .filled))
 
     pub loading-start : 3 * count ≤ length l₀ → RisingPart (at l₀) 0 count → Loading l₀ (opening count) 0
@@ -115,10 +115,10 @@ module _ (v : Vocabulary) where
       in-table =
           subst (Mem t) (sym (triples-table table)) (subst (λ (z : Triple). Mem z (tabulate (at table) 0 (length table / 3))) (sym e) (mem-tabulate (at table) 0 (length table / 3) i (omega arith) (omega arith)))
 
-      one : Step all X l m s c
+      one : GrownBy all X l m s c
       one = O .steps all X (sorted-rising _) (L .step .goes-on (L .going)) (λ k. mem-sorted t _ (append-left X (mem-part w (triples table) t in-table k)))
 
-      on : Step all X l₀ m (opening count) c
+      on : GrownBy all X l₀ m (opening count) c
       on = step-then all X l₀ l m (opening count) s c (L .going) (L .step) one
 
       pub loading-next : c .full ≡ false → Loading m c (i + 1)

@@ -14,7 +14,7 @@ ghost use Rattle.model.specs.Outcomes.{counted};
 ghost use Rattle.model.specs.Calls.{saturateOutcome, saturateLeaves};
 ghost use Rattle.lists.specs.Flat.{at, RisingPart};
 ghost use Rattle.builder.specs.Builder.{first, Built};
-ghost use Rattle.saturate.specs.Rounds.{noRule, keyOf, drives, firstOf, secondOf, Ready, Drawn, DrawnPartners, DrawnRule, Rounded, Closed, schema, chosen, part, OfferedIf, Added, Swept, FreeEnds, Stratified};
+ghost use Rattle.saturate.specs.Rounds.{noRule, partnerKey, drives, firstOf, secondOf, RoundReady, Drawn, DrawnPartners, DrawnRule, Rounded, Closed, schema, chosen, part, OfferedIf, Added, Swept, FreeEnds, Stratified};
 use builder::Builder;
 use builder::finish;
 use builder::offer;
@@ -116,7 +116,7 @@ fn draw(words: Vocabulary, list: &mut [u32], b: Builder, r: Rule, a: Triple, p: 
 // The first triple, in order, that can be the partner of a driving premise: the partner's subject is the code that they share.
 // Where the rule's first shared place is the first premise's subject, the second premise drives; else the first does.
 fn partner_key(words: Vocabulary, r: Rule, driver: Triple) -> Triple
-    ensures { λ x. ⌜ x ≡ keyOf words r driver ⌝ }
+    ensures { λ x. ⌜ x ≡ partnerKey words r driver ⌝ }
 {
     if r.left == 0 {
         return Triple {
@@ -168,7 +168,7 @@ fn draw_partners(
     r: Rule,
     driver: Triple,
 ) -> Builder
-    requires { ⌜ Ready words (now list) b × Mem r rules × Mem driver (first (now list) (b .base)) ⌝ }
+    requires { ⌜ RoundReady words (now list) b × Mem r rules × Mem driver (first (now list) (b .base)) ⌝ }
     ensures { λ x. ⌜ DrawnPartners words (now (list .entry)) (now (list .exit)) b x r driver ⌝ }
 {
     let key = partner_key(words, r, driver);
@@ -201,7 +201,7 @@ fn drives(words: Vocabulary, r: Rule, driver: Triple) -> bool
 
 // Draws from a triple of the frozen part, where it is a driving premise, and each of its partners.
 fn draw_driver(words: Vocabulary, list: &mut [u32], b: Builder, r: Rule, driver: Triple) -> Builder
-    requires { ⌜ Ready words (now list) b × Mem r rules × Mem driver (first (now list) (b .base)) ⌝ }
+    requires { ⌜ RoundReady words (now list) b × Mem r rules × Mem driver (first (now list) (b .base)) ⌝ }
     ensures { λ x. ⌜ DrawnPartners words (now (list .entry)) (now (list .exit)) b x r driver ⌝ }
 {
     if !drives(words, r, driver) {
@@ -212,7 +212,7 @@ fn draw_driver(words: Vocabulary, list: &mut [u32], b: Builder, r: Rule, driver:
 
 // Draws with one rule from each driving premise of the frozen part.
 fn draw_rule(words: Vocabulary, list: &mut [u32], b: Builder, r: Rule) -> Builder
-    requires { ⌜ Ready words (now list) b × Mem r rules ⌝ }
+    requires { ⌜ RoundReady words (now list) b × Mem r rules ⌝ }
     ensures { λ x. ⌜ DrawnRule words (now (list .entry)) (now (list .exit)) b x r ⌝ }
 {
     let base = b.base;

@@ -8,7 +8,7 @@ use lib.ListN.{length, getD, List·getD-append}
 use lib.Seq.{ext-getD}
 use native.Mathlib.Omega.{arith}
 use Rattle.model.specs.Lists.{tabulate}
-use Rattle.query.specs.Ask.{blank, counted}
+use Rattle.query.specs.Ask.{blank, countedPatterns}
 use Rattle.theory.proofs.Lists.{length-tabulate, tabulate-at}
 use Rattle.site_form.specs.Reading.{queryOf, CountsPatterns}
 
@@ -21,5 +21,5 @@ front d xs ys =
     (λ i h. let k : i < length xs = omega arith in tabulate-at f d 0 (length xs) i k ∙ ap f (zero-add i) ∙ List·getD-append xs ys d i k)
 
 pub counts-patterns : CountsPatterns
-unfolding counted queryOf
+unfolding countedPatterns queryOf
 counts-patterns ps = front blank ps _

@@ -12,7 +12,7 @@ use lib.Seq.{drop-drop, drop-append-seam}
 use borrow.Author.Tests.{eqb-true, eq-eqb, leb-true, le-leb}
 use native.Mathlib.Omega.{arith}
 use Rattle.model.specs.Lists.{collect}
-use Rattle.site_form.specs.Reading.{Step, bad, got, Reader, andThen, _>>=_, give, orElse, _or_, givenElse, optional, whileGot, many, begins, word, end}
+use Rattle.site_form.specs.Reading.{Step, bad, got, Reader, andThen, _>>=_, give, orElse, _or_, givenElse, optional, whileGot, many, begins, word, textEnd}
 
 -- a reader that answers `bad` gives nothing
 pub not-bad : {A : Type 0} {P : Type 0} (s : Step A) (x : A) (i : ℕ) → s ≡ bad → s ≡ got x i → P
@@ -127,16 +127,16 @@ module _ (w text : List ℕ) (at : ℕ) where
   word-bad s e f = rw (e, f)
 
 module _ (text : List ℕ) (at : ℕ) where
-  pub end-says : (u : Unit {0}) (j : ℕ) → end text at ≡ got u j → drop at text ≡ []
-  unfolding end
+  pub end-says : (u : Unit {0}) (j : ℕ) → textEnd text at ≡ got u j → drop at text ≡ []
+  unfolding textEnd
   end-says u j e = go (leb (length text) at) refl e
     where
       go : (t : Bool) → leb (length text) at ≡ t → cond t (got tt at) bad ≡ got u j → drop at text ≡ []
       go false p q = not-bad bad u j refl q
       go true p q = drop-of-length-le text (leb-true (length text) at p)
 
-  pub end-takes : drop at text ≡ [] → Takes end text at tt []
-  unfolding end
+  pub end-takes : drop at text ≡ [] → Takes textEnd text at tt []
+  unfolding textEnd
   end-takes e = let z : length text - at ≡ 0 = sym (length-drop at text) ∙ ap length e in record { next = at; gives = rw (le-leb (length text) at (omega arith)); rest = e }
 
 -- ── forms that follow one another ──

@@ -38,8 +38,8 @@ givenLines =
     ∷ "(t 11 6 13)"
     ∷ []
 
-abbrev pub askLines : List String
-askLines =
+abbrev pub givenQueries : List String
+givenQueries =
     "(ask ((v 0) 5 (v 1)) ((v 0) 6 (v 2)))"
     ∷ "(ask ((v 0) 7 (v 1)) ((v 1) 7 (v 2)))"
     ∷ []
@@ -106,4 +106,4 @@ PrintsGraph = printed (lines givenLines) ≡ lines printedLines
 
 -- 01's example
 abbrev pub PrintsExample : Type 0
-PrintsExample = printed (lines (givenLines ++ askLines)) ≡ lines (printedLines ++ answerLines)
+PrintsExample = printed (lines (givenLines ++ givenQueries)) ≡ lines (printedLines ++ answerLines)

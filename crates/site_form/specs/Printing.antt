@@ -40,11 +40,13 @@ printerSlots = 2048
 unfoldable pub summaryLine : ℕ → List ℕ
 summaryLine count = bytes "(summary " ++ (numeral count ++ bytes ")\n")
 
+-- a code with its representative
+unfoldable pub pairLine : ℕ → ℕ → List ℕ
+pairLine c r = bytes "(rep " ++ (numeral c ++ (bytes " " ++ (numeral r ++ bytes ")\n")))
+
 -- 01: "for each node in rising order its code with its representative"
 unfoldable pub nodeLine : List ℕ → ℕ → List ℕ
-nodeLine representatives c =
-    cond (eqb (label representatives c) absent) []
-    (bytes "(rep " ++ (numeral c ++ (bytes " " ++ (numeral (label representatives c) ++ bytes ")\n"))))
+nodeLine representatives c = cond (eqb (label representatives c) absent) [] (pairLine c (label representatives c))
 
 unfoldable pub nodeLines : List ℕ → List ℕ
 nodeLines representatives = collect (nodeLine representatives) (tabulate (λ c. c) 0 (length representatives))
@@ -60,9 +62,12 @@ unfoldable pub report : List Triple → List ℕ → List (Outcome Bool) → Lis
 report triples representatives answers =
     summaryLine (length triples) ++ (collect tripleLine triples ++ (nodeLines representatives ++ collect answerLine answers))
 
+unfoldable pub refusedLine : ℕ → List ℕ
+refusedLine r = bytes "(refused " ++ (numeral r ++ bytes ")\n")
+
 -- 01: "or `(refused R)` alone"
 unfoldable pub shown : Outcome (List ℕ) → List ℕ
-shown (refused r) = bytes "(refused " ++ (numeral r ++ bytes ")\n")
+shown (refused r) = refusedLine r
 shown (accepted lines) = lines
 
 -- ── checks ──
@@ -84,8 +89,8 @@ printChecked v n triples saturated summarised representatives answers =
     (report summarised representatives answers)
 
 -- the queries are asked of the summary and its map
-unfoldable pub asked : Vocabulary → List Triple → List ℕ → List (List Pattern) → List (Outcome Bool)
-asked v summarised representatives qs = map (λ ps. askOutcome v (flat summarised) representatives (queryOf ps)) qs
+unfoldable pub queryAnswers : Vocabulary → List Triple → List ℕ → List (List Pattern) → List (Outcome Bool)
+queryAnswers v summarised representatives qs = map (λ ps. askOutcome v (flat summarised) representatives (queryOf ps)) qs
 
 unfoldable pub printForms : Forms → Outcome (List ℕ)
 printForms f =
@@ -94,7 +99,7 @@ printForms f =
     let saturated = saturation v (f .size) (f .triples) in
     let summarised = summary v own saturated in
     let representatives = mapOf v own saturated in
-    printChecked v (f .size) (f .triples) saturated summarised representatives (asked v summarised representatives (f .asks))
+    printChecked v (f .size) (f .triples) saturated summarised representatives (queryAnswers v summarised representatives (f .asks))
 
 abbrev pub printRead : Option Forms → Outcome (List ℕ)
 printRead none = refused 8

@@ -12,12 +12,12 @@ use Rattle.model.specs.declared.Triple.{Triple}
 use Rattle.model.specs.declared.Vocabulary.{Vocabulary}
 use Rattle.model.specs.Codes.{rdfs, vocabulary}
 use Rattle.model.specs.Triples.{triple, slots, listed}
-use Rattle.model.specs.Outcomes.{Outcome, refused, accepted, number as refusalNumber, check, checked, left}
+use Rattle.model.specs.Outcomes.{Outcome, refused, accepted, refusalNumber, check, checked, left}
 use Rattle.query.specs.declared.End.{End}
 use Rattle.query.specs.declared.End.the-variants.{Var, Code}
 use Rattle.query.specs.declared.Pattern.{Pattern}
 use Rattle.query.specs.declared.Query.{Query}
-use Rattle.query.specs.Ask.{blank, counted}
+use Rattle.query.specs.Ask.{blank, countedPatterns}
 use Rattle.site_form.specs.declared.Site.{Site}
 use Rattle.site_form.specs.declared.Form.{Form}
 use Rattle.site_form.specs.declared.Form.the-variants.{Read, Refused}
@@ -88,8 +88,8 @@ unfoldable pub word : List ℕ → Reader (Unit {0})
 word w text at = cond (begins w (drop at text)) (got tt (at + length w)) bad
 
 -- the end of the text
-unfoldable pub end : Reader (Unit {0})
-end text at = cond (leb (length text) at) (got tt at) bad
+unfoldable pub textEnd : Reader (Unit {0})
+textEnd text at = cond (leb (length text) at) (got tt at) bad
 
 unfoldable pub digit : ℕ → Bool
 digit b = leb 48 b && ltb b 58
@@ -213,7 +213,7 @@ formsReader = do
   w ← optional wordsReader
   ts ← many mostLines tripleReader
   qs ← many mostAsks askReader
-  end
+  textEnd
   give (forms n w ts qs)
 
 abbrev pub value : {A : Type 0} → Step A → Option A
@@ -239,7 +239,7 @@ queriesOf qs = map queryOf qs ++ replicate (mostAsks - length qs) (queryOf [])
 
 -- a query by value counts the patterns of its line
 abbrev pub CountsPatterns : Type 0
-CountsPatterns = (ps : List Pattern) → counted (queryOf ps) ≡ ps
+CountsPatterns = (ps : List Pattern) → countedPatterns (queryOf ps) ≡ ps
 
 -- 02: "without it 0 to 4 hold"
 abbrev pub loaded : Option Vocabulary → Vocabulary

@@ -8,10 +8,12 @@ pub const MOST_TRIPLES: usize = 1000;
 
 pub const MOST_ASKS: usize = 16;
 
-// The most bytes of a text that is printed, and the largest site size.
+// The most bytes of a text that is printed, the largest site size, and the slots for its saturation.
 pub const MOST_BYTES: usize = 32768;
 
 pub const LARGEST_PRINTED: usize = 512;
+
+pub const PRINTER_SLOTS: usize = 2048;
 
 // A site that was read: its size, its reserved codes, how many triples and queries the text has, and the queries.
 // The triples go to a lent list.
@@ -20,7 +22,7 @@ pub struct Site {
     pub words: Vocabulary,
     pub count: usize,
     pub asks: usize,
-    pub queries: [Query; 16],
+    pub queries: [Query; MOST_ASKS],
 }
 
 // Whether the text was read.

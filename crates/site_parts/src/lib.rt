@@ -8,7 +8,7 @@ ghost use Rattle.query.specs.declared.End.{End};
 ghost use Rattle.query.specs.declared.End.the-variants.{Code};
 ghost use Rattle.model.specs.Triples.{triple};
 ghost use Rattle.site_form.specs.Text.{bytes};
-ghost use Rattle.site_form.specs.Reading.{digit, moreOf, number, word, lineEnd, siteReader, wordsReader, tripleReader, endIn, endReader, patternReader, nextReader};
+ghost use Rattle.site_form.specs.Reading.{digit, moreOf, number, word, textEnd, lineEnd, siteReader, wordsReader, tripleReader, endIn, endReader, patternReader, nextReader};
 ghost use Rattle.site_parts.specs.Steps.{numberStep, wordStep, wordsStep, tripleStep, endStep, patternStep, mapped, numberAfter, endAfter, threeIn};
 use model::Triple;
 use model::Vocabulary;
@@ -82,7 +82,7 @@ fn digits(text: &[u8], from: usize, first: u32) -> NumberForm
 }
 
 // A number of u32 without leading zeros.
-pub fn number(text: &[u8], at: usize) -> NumberForm
+fn number(text: &[u8], at: usize) -> NumberForm
     ensures { λ r. ⌜ numberStep r ≡ number (now (text .entry)) at ⌝ }
 {
     if text.len() <= at {
@@ -125,7 +125,7 @@ pub fn word(text: &[u8], at: usize, w: &[u8]) -> WordForm
 }
 
 // A number behind the bytes w.
-pub fn number_after(text: &[u8], at: usize, w: &[u8]) -> NumberForm
+fn number_after(text: &[u8], at: usize, w: &[u8]) -> NumberForm
     ensures { λ r. ⌜ numberStep r ≡ numberAfter (now (w .entry)) (now (text .entry)) at ⌝ }
 {
     let WordForm::Got { next } = word(text, at, w) else {
@@ -139,6 +139,16 @@ pub fn line_end(text: &[u8], at: usize) -> WordForm
     ensures { λ r. ⌜ wordStep r ≡ lineEnd (now (text .entry)) at ⌝ }
 {
     word(text, at, b")\n")
+}
+
+// The end of the text.
+pub fn text_end(text: &[u8], at: usize) -> WordForm
+    ensures { λ r. ⌜ wordStep r ≡ textEnd (now (text .entry)) at ⌝ }
+{
+    if at < text.len() {
+        return WordForm::Bad;
+    }
+    WordForm::Got { next: at }
 }
 
 // The line `(site N)`.
@@ -282,7 +292,7 @@ fn end_after(text: &[u8], at: usize, w: &[u8]) -> EndForm
 }
 
 // A pattern `(END P END)`.
-pub fn pattern(text: &[u8], at: usize) -> PatternForm
+fn pattern_form(text: &[u8], at: usize) -> PatternForm
     ensures { λ r. ⌜ patternStep r ≡ patternReader (now (text .entry)) at ⌝ }
 {
     let EndForm::Got {
@@ -326,5 +336,5 @@ pub fn next_pattern(text: &[u8], at: usize) -> PatternForm
     let WordForm::Got { next } = word(text, at, b" ") else {
         return PatternForm::Bad;
     };
-    pattern(text, next)
+    pattern_form(text, next)
 }

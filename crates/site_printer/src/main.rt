@@ -4,12 +4,13 @@
 use libc::STDIN_FILENO;
 use libc::STDOUT_FILENO;
 use printer::print_site;
+use site_form::MOST_BYTES;
 
 // Reads one byte more than a text may have: more is refused with 8.
 fn main() {
     let mut input = io::large_buffer();
     let mut output = io::large_buffer();
-    let n = io::read_full(STDIN_FILENO, &mut input[0..32769]);
+    let n = io::read_full(STDIN_FILENO, &mut input[0..MOST_BYTES + 1]);
     let count = print_site(&input[0..n], &mut output);
     io::write_all(STDOUT_FILENO, &output[0..count]);
 }

@@ -6,14 +6,14 @@ use mathlib.Core.List.{List, []}
 use mathlib.Core.Option.{Option, none, some}
 use native.Mathlib.Omega.{arith}
 use lib.ListN.{length, replicate}
-use borrow.Author.Tests.{lt-leb, le-leb, lt-ltb, le-ltb}
+use borrow.Author.Tests.{lt-ltb, le-ltb}
 use Rattle.model.specs.declared.Refusal.{Refusal}
 use Rattle.model.specs.declared.Refusal.the-variants.{Slots as slots-refusal, Form as form-refusal}
 use Rattle.model.specs.declared.Vocabulary.{Vocabulary}
 use Rattle.model.specs.Codes.{rdfs}
 use Rattle.model.specs.Lists.{zeros}
 use Rattle.model.specs.Triples.{slots, listed}
-use Rattle.model.specs.Outcomes.{number, decided, left, zeroed}
+use Rattle.model.specs.Outcomes.{refusalNumber, decided, left, zeroed}
 use Rattle.query.specs.declared.Query.{Query}
 use Rattle.lists.specs.Flat.{Cleared}
 use Rattle.lists.proofs.Search.{cleared-all}
@@ -21,7 +21,7 @@ use Rattle.site_form.specs.declared.Site.{Site}
 use Rattle.site_form.specs.declared.ReadAnswer.{ReadAnswer}
 use Rattle.site_form.specs.declared.Form.the-variants.{Read, Refused}
 use Rattle.site_form.specs.Text.{mostLines, mostAsks}
-use Rattle.site_form.specs.Reading.{Step, bad, got, Reader, _>>=_, give, optional, many, end, siteReader, wordsReader, tripleReader, askReader, Forms, forms, formsReader, value, readForms, queryOf, queriesOf, loaded, siteOf, outcomeOf, readOutcome, answered, readSite, readList}
+use Rattle.site_form.specs.Reading.{Step, bad, got, Reader, _>>=_, give, optional, many, textEnd, siteReader, wordsReader, tripleReader, askReader, Forms, forms, formsReader, value, readForms, queryOf, queriesOf, siteOf, outcomeOf, readOutcome, answered, readSite, readList}
 use Rattle.site_form.proofs.Readers.{fails}
 use Rattle.site_reader.specs.declared.LinesRead.{LinesRead}
 use Rattle.site_reader.specs.declared.WordsRead.{WordsRead}
@@ -82,22 +82,22 @@ module _ (text : List ℕ) where
     asks-got : many mostAsks askReader text (lines .next) ≡ got (items (askLines text (lines .next))) (asks .next)
     asks-got = many-got askReader text mostAsks (lines .next) ∙ ap (got (items (askLines text (lines .next)))) (sym (ha .next))
 
-    to-end : formsReader text 0 ≡ (end >>= λ u. give said) text (asks .next)
+    to-end : formsReader text 0 ≡ (textEnd >>= λ u. give said) text (asks .next)
     unfolding formsReader
     to-end = then-got _ _ text 0 n i e ∙ then-got _ _ text i _ _ words-got ∙ then-got _ _ text (r .next) _ _ triples-got ∙ then-got _ _ text (lines .next) _ _ asks-got
 
-    not-ended : asks .next < length text → readForms text ≡ none
-    unfolding readForms end
-    not-ended h = ap value (to-end ∙ fails end _ text (asks .next) (rw (lt-leb _ _ h)))
+    not-ended : textEnd text (asks .next) ≡ bad → readForms text ≡ none
+    unfolding readForms
+    not-ended h = ap value (to-end ∙ fails textEnd _ text (asks .next) h)
 
-    ended : length text ≤ asks .next → readForms text ≡ some said
-    unfolding readForms end give
-    ended h = ap value (to-end ∙ then-got end _ text (asks .next) tt (asks .next) (rw (le-leb _ _ h)))
+    ended : (u : Unit {0}) (j : ℕ) → textEnd text (asks .next) ≡ got u j → readForms text ≡ some said
+    unfolding readForms give
+    ended u j h = ap value (to-end ∙ then-got textEnd _ text (asks .next) u j h)
 
 -- ── the answers ──
 module _ (text l : List ℕ) where
   pub by-form : readForms text ≡ none → (l′ : List ℕ) → length l′ ≡ length l → (r : ReadAnswer) (m : List ℕ) → RefusedRead l′ form-refusal r m → ReadCall text l r m
-  unfolding readOutcome readSite readList left zeroed number
+  unfolding readOutcome readSite readList left zeroed refusalNumber
   by-form e l′ k r m h = record {
     outcome = ap answered (h .answer) ∙ sym (ap (λ (o : Option Forms). outcomeOf o l) e);
     site = ap (λ (x : ReadAnswer). x .site) (h .answer) ∙ rw e;
@@ -106,7 +106,7 @@ module _ (text l : List ℕ) where
 
   module _ (f : Forms) (e : readForms text ≡ some f) where
     pub by-slots : slots l < length (f .triples) → (l′ : List ℕ) → length l′ ≡ length l → (r : ReadAnswer) (m : List ℕ) → RefusedRead l′ slots-refusal r m → ReadCall text l r m
-    unfolding readOutcome readSite readList left zeroed number decided
+    unfolding readOutcome readSite readList left zeroed refusalNumber decided
     by-slots s l′ k r m h = record {
       outcome = ap answered (h .answer) ∙ rw (e, lt-ltb _ _ s);
       site = ap (λ (x : ReadAnswer). x .site) (h .answer) ∙ rw (e, lt-ltb _ _ s);
@@ -130,21 +130,21 @@ module _ (text l : List ℕ) where
     same-size : length l′ ≡ length l
     same-size = ap length (hl .list) ∙ all-length l 0 (items (tripleLines text (w .next)))
 
-    pub read-not-ended : asks .next < length text → (r : ReadAnswer) (m : List ℕ) → RefusedRead l′ form-refusal r m → ReadCall text l r m
+    pub read-not-ended : textEnd text (asks .next) ≡ bad → (r : ReadAnswer) (m : List ℕ) → RefusedRead l′ form-refusal r m → ReadCall text l r m
     read-not-ended h r m k = by-form text l (not-ended text n i e w hw l l′ lines hl asks ha h) l′ same-size r m k
 
-    module _ (h : length text ≤ asks .next) where
+    module _ (u : Unit {0}) (j : ℕ) (h : textEnd text (asks .next) ≡ got u j) where
       pub read-no-slots : length l′ / 3 < lines .count → (r : ReadAnswer) (m : List ℕ) → RefusedRead l′ slots-refusal r m → ReadCall text l r m
       unfolding slots
       read-no-slots s r m k =
           let z = same-size in
-          by-slots text l _ (ended text n i e w hw l l′ lines hl asks ha h) (omega (arith, hl .count)) l′ same-size r m k
+          by-slots text l _ (ended text n i e w hw l l′ lines hl asks ha u j h) (omega (arith, hl .count)) l′ same-size r m k
 
       pub read-all : lines .count ≤ length l′ / 3 → (m : List ℕ) → Cleared l′ m (3 * lines .count) (length l′)
           → ReadCall text l (record { form = Read; site = record { size = n; words = w .words; count = lines .count; asks = asks .count; queries = asks .queries } }) m
       unfolding slots siteOf
       read-all s m c =
           let z = same-size in
-          by-read text l _ (ended text n i e w hw l l′ lines hl asks ha h) (omega (arith, hl .count)) _
-          (λ j. record { size = n; words = hw .words j; count = hl .count j; asks = ha .count j; queries = ha .queries j }) m
+          by-read text l _ (ended text n i e w hw l l′ lines hl asks ha u j h) (omega (arith, hl .count)) _
+          (λ k. record { size = n; words = hw .words k; count = hl .count k; asks = ha .count k; queries = ha .queries k }) m
           (all-listed l l′ m (items (tripleLines text (w .next))) (lines .count) (hl .count) (omega arith) (hl .list) c)

@@ -10,9 +10,9 @@ ghost use Rattle.site_reader.specs.Calls.{WordsFrom, stored, LinesFrom, 
 use model::Refusal;
 use model::Triple;
 use model::Vocabulary;
-use query::End;
 use query::Pattern;
 use query::Query;
+use query::blank_pattern;
 use site_form::Form;
 use site_form::MOST_ASKS;
 use site_form::MOST_TRIPLES;
@@ -26,6 +26,7 @@ use site_parts::WordsForm;
 use site_parts::line_end;
 use site_parts::next_pattern;
 use site_parts::site_line;
+use site_parts::text_end;
 use site_parts::triple_line;
 use site_parts::word;
 use site_parts::words_line;
@@ -58,19 +59,14 @@ pub struct AskRead {
 pub struct AsksRead {
     pub count: usize,
     pub next: usize,
-    pub queries: [Query; 16],
+    pub queries: [Query; MOST_ASKS],
 }
 
 // A query without patterns.
 fn blank_query() -> Query
     ensures { λ r. ⌜ r ≡ queryOf [] ⌝ }
 {
-    let blank = Pattern {
-        subject: End::Var(0),
-        property: 0,
-        object: End::Var(0),
-    };
-    let patterns = [blank; 8];
+    let patterns = [blank_pattern(); 8];
     Query { patterns, count: 0 }
 }
 
@@ -132,7 +128,7 @@ fn ask_line(text: &[u8], at: usize) -> AskRead
 fn ask_lines(text: &[u8], at: usize) -> AsksRead
     ensures { λ r. ⌜ AsksFrom (now (text .entry)) at r ⌝ }
 {
-    let mut queries = [blank_query(); 16];
+    let mut queries = [blank_query(); MOST_ASKS];
     let mut count = 0;
     let mut i = at;
     while count < MOST_ASKS {
@@ -203,7 +199,7 @@ fn refuse(list: &mut [u32], refusal: Refusal) -> ReadAnswer
 {
     let n = list.len();
     lists::clear(list, 0, n);
-    let queries = [blank_query(); 16];
+    let queries = [blank_query(); MOST_ASKS];
     ReadAnswer {
         form: Form::Refused(refusal),
         site: Site {
@@ -231,10 +227,10 @@ pub fn read(text: &[u8], list: &mut [u32]) -> ReadAnswer
     let loaded = some_words(text, i);
     let lines = triple_lines(text, loaded.next, list);
     let asks = ask_lines(text, lines.next);
-    let n = list.len();
-    if asks.next < text.len() {
+    let WordForm::Got { .. } = text_end(text, asks.next) else {
         return refuse(list, Refusal::Form); // bytes behind the last form
-    }
+    };
+    let n = list.len();
     if n / 3 < lines.count {
         return refuse(list, Refusal::Slots);
     }

@@ -164,7 +164,7 @@ fn show_text(text: &[u8], k: u64) {
 }
 
 // The place of the next `%`, or the end.
-fn text_end(input: &[u8], from: usize) -> usize
+fn next_mark(input: &[u8], from: usize) -> usize
     requires { ⌜ from ≤ length (now input) ⌝ }
     ensures { λ r. ⌜ (from ≤ r) × (r ≤ length (now (input .entry))) ⌝ }
 {
@@ -183,7 +183,7 @@ fn show_texts(input: &[u8]) {
     let mut i = 0;
     let mut k = 1;
     while i < input.len() {
-        let end = text_end(input, i);
+        let end = next_mark(input, i);
         show_text(&input[i..end], k);
         i = end + 2;
         k += 1;

@@ -17,7 +17,7 @@ use Rattle.model.specs.Codes.{rdfs, wrongWords, smallestSize}
 use Rattle.model.specs.Lists.{collect, zeros, padded}
 use Rattle.model.specs.Triples.{triples}
 use Rattle.model.specs.Roster.{wrongCodes}
-use Rattle.model.specs.Outcomes.{Outcome, refused, accepted, number, counted, decided, left, zeroed, wrongSize, wrongLength}
+use Rattle.model.specs.Outcomes.{Outcome, refused, accepted, refusalNumber, counted, decided, left, zeroed, wrongSize, wrongLength}
 use Rattle.theory.proofs.Tests.{or-left, or-right, or-neither, neither-right}
 use Rattle.theory.proofs.Lists.{length-tabulate}
 use Rattle.theory.proofs.Covered.{AllBelow, all-codes}
@@ -99,7 +99,7 @@ module _ (v : Vocabulary) (n : ℕ) (table out : List ℕ) where
   list-is e = ap (λ (o : Outcome ℕ). left o out (padded (length out) (written v n table))) e
 
   by-length : wrongWrite n table ≡ true → WriteCall v n table out (Refused Length) out
-  unfolding counted number left zeroed
+  unfolding counted refusalNumber left zeroed
   by-length p = let e = outcome-is p refl refl refl in record { outcome = sym e; list = sym (list-is e) }
 
   pub write-size : wrongSize n ≡ true → WriteCall v n table out (Refused Length) out
@@ -128,11 +128,11 @@ module _ (v : Vocabulary) (n : ℕ) (table out : List ℕ) where
     small = ltb-false _ _ (neither-right (ltb n smallestSize) _ p)
 
     pub write-words : wrongWords v n ≡ true → WriteCall v n table out (Refused Words) out
-    unfolding counted number left zeroed
+    unfolding counted refusalNumber left zeroed
     write-words k = let e = outcome-is passed k refl refl in record { outcome = sym e; list = sym (list-is e) }
 
     pub write-codes : wrongWords v n ≡ false → wrongCodes v n (triples table) ≡ true → WriteCall v n table out (Refused Code) out
-    unfolding counted number left zeroed
+    unfolding counted refusalNumber left zeroed
     write-codes k c = let e = outcome-is passed k c refl in record { outcome = sym e; list = sym (list-is e) }
 
     pub room-site : Room 0 (siteLine n)
@@ -161,7 +161,7 @@ module _ (v : Vocabulary) (n : ℕ) (table out : List ℕ) where
           size = put-length out 0 (written v n table) l count whole
 
           pub write-full : length l < count → (z : List ℕ) → Cleared l z 0 (length l) → WriteCall v n table out (Refused Slots) z
-          unfolding counted number left zeroed
+          unfolding counted refusalNumber left zeroed
           write-full h z c =
               let k = count-is in
               let s = size in

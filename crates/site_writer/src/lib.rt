@@ -58,7 +58,7 @@ fn numeral_length(v: u32) -> usize
 }
 
 // Stores the numeral of v from a place on, last digit first; the place after it.
-pub fn put_numeral(out: &mut [u8], at: usize, v: u32) -> usize
+fn put_numeral(out: &mut [u8], at: usize, v: u32) -> usize
     requires { ⌜ Room at (numeral v) ⌝ }
     ensures { λ r. ⌜ Put (now (out .entry)) at (numeral v) (now (out .exit)) r ⌝ }
 {
@@ -136,7 +136,7 @@ fn put_loaded(out: &mut [u8], at: usize, words: Vocabulary) -> usize
 }
 
 // Stores a line `(t S P O)`.
-pub fn put_triple(out: &mut [u8], at: usize, t: Triple) -> usize
+fn put_triple(out: &mut [u8], at: usize, t: Triple) -> usize
     requires { ⌜ Room at (tripleLine t) ⌝ }
     ensures { λ r. ⌜ Put (now (out .entry)) at (tripleLine t) (now (out .exit)) r ⌝ }
 {
@@ -162,7 +162,7 @@ pub fn put_triples(out: &mut [u8], at: usize, table: &[u32]) -> usize
 }
 
 // Zeros from index a to before index b.
-pub fn clear_bytes(out: &mut [u8], a: usize, b: usize)
+fn clear_bytes(out: &mut [u8], a: usize, b: usize)
     requires { ⌜ (a ≤ b) × (b ≤ length (now out)) ⌝ }
     ensures { λ r. ⌜ Cleared (now (out .entry)) (now (out .exit)) a b ⌝ }
 {

@@ -13,7 +13,7 @@ use Rattle.model.specs.Codes.{absent}
 use Rattle.model.specs.Roster.{unmarked}
 use Rattle.theory.proofs.Tests.{bool-cases, not-both}
 use Rattle.node_cliques.specs.Labels.{isLabel}
-use Rattle.strong_map.specs.Threads.{Least, none, some, Groups, Node, Label, From, Threaded, Walked, Settled, fresh, stale}
+use Rattle.strong_map.specs.Threads.{Least, none, some, Groups, GroupNode, Label, From, Threaded, Walked, Settled, fresh, stale}
 use Rattle.strong_map.specs.Calls.{dataNode, Threadable, NodeThreaded, Labelled, stampOf, stamped, Settleable, NodeSettled, Walkable, Settling}
 use Rattle.strong_map.proofs.Stores.{stamp-is-node, stamp-is-other}
 use Rattle.strong_map.proofs.Threads.{thread-none, thread-node, settle-old, settle-new, walk-start, walk-end, settled-skip}
@@ -50,7 +50,7 @@ module _ (g : Groups) (roster map₀ work₀ : List ℕ) (L : Labelled g roster 
           in-work = omega (arith, T .work-size, L .work-size, L .map-size);
           small = omega (arith, L .sites .small, L .map-size);
           label = λ h.
-              let d : Node g i = sym same-test ∙ h in
+              let d : GroupNode g i = sym same-test ∙ h in
               let b = L .sites .label-below (g .A i) (L .sites .first i d) in
               omega (arith, T .labels i d, T .work-size, L .work-size);
         }
@@ -61,7 +61,7 @@ module _ (g : Groups) (roster map₀ work₀ : List ℕ) (L : Labelled g roster 
         T′ : Threaded g (i + 1) map₀ map work₀ work
         T′ = subst (λ (z : ℕ). Threaded g z map₀ map work₀ work) e T
 
-        linked : Node g i → Threaded g i map₀ map′ work₀ work′
+        linked : GroupNode g i → Threaded g i map₀ map′ work₀ work′
         linked d =
             let l : getD work i 0 ≡ g .A i = T .labels i d in
             let b = L .sites .label-below (g .A i) (L .sites .first i d) in
@@ -132,7 +132,7 @@ module _ (g : Groups) (before map₀ work₀ : List ℕ) (n a : ℕ) (K : Walkab
           is : s ≡ getD work (g .n + g .B c) 0
           is = e ∙ (λ j. getD work (sym (K .size) j + at-second j) 0)
 
-          node : Node g (getD work (g .n + g .B c) 0) → s < n
+          node : GroupNode g (getD work (g .n + g .B c) 0) → s < n
           node d = let b = K .sites .below _ d in omega (arith, K .size, is)
 
           go : Rattle.strong_map.specs.Threads.Stamp g a (W .low) (g .B c) (getD work (g .n + g .B c) 0) → s < n

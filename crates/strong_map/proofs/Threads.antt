@@ -30,7 +30,7 @@ module _ (gr : Groups) where
   n = gr .n
 
   abbrev D : ℕ → Type 0
-  D = threads.Node gr
+  D = threads.GroupNode gr
 
   abbrev Label : ℕ → Type 0
   Label = threads.Label gr

@@ -10,7 +10,7 @@ use Rattle.model.specs.declared.Vocabulary.{Vocabulary}
 use Rattle.model.specs.Codes.{absent}
 use Rattle.model.specs.Roster.{unmarked}
 use Rattle.node_cliques.specs.Labels.{isLabel}
-use Rattle.strong_map.specs.Threads.{Groups, Node, Label, LabelsApart, Settled}
+use Rattle.strong_map.specs.Threads.{Groups, GroupNode, Label, LabelsApart, Settled}
 
 -- ── one node of a thread ──
 -- a data node, where the map's entry of each node is the node itself
@@ -37,8 +37,8 @@ pub record Labelled (g : Groups) (roster map work : List ℕ) : Type 0 where
   pub map-size : length map ≡ g .n
   pub work-size : length work ≡ g .n + g .n
   pub nodes : (i : ℕ) → i < g .n → g .node i ≡ dataNode roster map i
-  pub firsts : (m : ℕ) → Node g m → getD work m 0 ≡ g .A m
-  pub seconds : (m : ℕ) → Node g m → getD work (g .n + m) 0 ≡ g .B m
+  pub firsts : (m : ℕ) → GroupNode g m → getD work m 0 ≡ g .A m
+  pub seconds : (m : ℕ) → GroupNode g m → getD work (g .n + m) 0 ≡ g .B m
   pub heads : (s : ℕ) → Label g s → getD work s 0 ≡ absent
   pub stamps : (s : ℕ) → Label g s → getD work (g .n + s) 0 ≡ absent
 

@@ -26,8 +26,8 @@ pub record Groups : Type 0 where
   pub B : ℕ → ℕ
 
 module _ (g : Groups) where
-  abbrev pub Node : ℕ → Type 0
-  Node m = g .node m ≡ true
+  abbrev pub GroupNode : ℕ → Type 0
+  GroupNode m = g .node m ≡ true
 
   abbrev pub Label : ℕ → Type 0
   Label s = g .label s ≡ true
@@ -35,21 +35,21 @@ module _ (g : Groups) where
   -- the labels of nodes are labels, and no label is a node
   pub record LabelsApart : Type 0 where
     pub small : g .n ≤ absent
-    pub below : (m : ℕ) → Node m → m < g .n
-    pub first : (m : ℕ) → Node m → Label (g .A m)
-    pub second : (m : ℕ) → Node m → Label (g .B m)
+    pub below : (m : ℕ) → GroupNode m → m < g .n
+    pub first : (m : ℕ) → GroupNode m → Label (g .A m)
+    pub second : (m : ℕ) → GroupNode m → Label (g .B m)
     pub label-below : (s : ℕ) → Label s → s < g .n
-    pub apart : (s : ℕ) → Label s → Node s → ⊥
+    pub apart : (s : ℕ) → Label s → GroupNode s → ⊥
 
   -- the nodes of a thread from a number on
   pub record From (a low m : ℕ) : Type 0 where
-    pub node : Node m
+    pub node : GroupNode m
     pub label : g .A m ≡ a
     pub high : low ≤ m
 
   -- the nodes with both labels
   pub record Both (a b m : ℕ) : Type 0 where
-    pub node : Node m
+    pub node : GroupNode m
     pub first : g .A m ≡ a
     pub second : g .B m ≡ b
 
@@ -58,17 +58,17 @@ module _ (g : Groups) where
     pub map-size : length map ≡ length map₀
     pub work-size : length work ≡ length work₀
     pub heads : (s : ℕ) → Label s → Least (From s i) (getD work s 0)
-    pub nexts : (m : ℕ) → Node m → i ≤ m → Least (From (g .A m) (m + 1)) (getD map m 0)
-    pub before : (m : ℕ) → Node m → m < i → getD map m 0 ≡ getD map₀ m 0
-    pub rest : (m : ℕ) → (Node m → ⊥) → getD map m 0 ≡ getD map₀ m 0
-    pub labels : (m : ℕ) → Node m → getD work m 0 ≡ g .A m
+    pub nexts : (m : ℕ) → GroupNode m → i ≤ m → Least (From (g .A m) (m + 1)) (getD map m 0)
+    pub before : (m : ℕ) → GroupNode m → m < i → getD map m 0 ≡ getD map₀ m 0
+    pub rest : (m : ℕ) → (GroupNode m → ⊥) → getD map m 0 ≡ getD map₀ m 0
+    pub labels : (m : ℕ) → GroupNode m → getD work m 0 ≡ g .A m
     pub behind : (m : ℕ) → g .n ≤ m → getD work m 0 ≡ getD work₀ m 0
 
   -- the stamp s of the label b while the thread of a is walked and is settled below low: the smallest node with a and b; or absent or a node
   -- of a thread before, and then no node below low has both
   pub data Stamp (a low b s : ℕ) : Type 0 where
     fresh : Both a b s → s < low → ((m : ℕ) → Both a b m → s ≤ m) → Stamp a low b s
-    stale : (s ≡ absent) ⊎ (Node s × (g .A s < a)) → ((m : ℕ) → Both a b m → low ≤ m) → Stamp a low b s
+    stale : (s ≡ absent) ⊎ (GroupNode s × (g .A s < a)) → ((m : ℕ) → Both a b m → low ≤ m) → Stamp a low b s
 
   -- the thread of a is settled below low, and c is its next node; map₀ and work₀ are the lists where the walk began
   pub record Walked (a low c : ℕ) (map₀ map work₀ work : List ℕ) : Type 0 where
@@ -76,12 +76,12 @@ module _ (g : Groups) where
     pub work-size : length work ≡ length work₀
     pub heads : (s : ℕ) → Label s → getD work s 0 ≡ getD work₀ s 0
     pub current : Least (From a low) c
-    pub settled : (m : ℕ) → Node m → g .A m ≡ a → m < low → Least (Both a (g .B m)) (getD map m 0)
-    pub threaded : (m : ℕ) → Node m → g .A m ≡ a → low ≤ m → Least (From a (m + 1)) (getD map m 0)
-    pub others : (m : ℕ) → Node m → (g .A m ≡ a → ⊥) → getD map m 0 ≡ getD map₀ m 0
-    pub rest : (m : ℕ) → (Node m → ⊥) → getD map m 0 ≡ getD map₀ m 0
-    pub labels : (m : ℕ) → Node m → getD work m 0 ≡ g .A m
-    pub seconds : (m : ℕ) → Node m → getD work (g .n + m) 0 ≡ g .B m
+    pub settled : (m : ℕ) → GroupNode m → g .A m ≡ a → m < low → Least (Both a (g .B m)) (getD map m 0)
+    pub threaded : (m : ℕ) → GroupNode m → g .A m ≡ a → low ≤ m → Least (From a (m + 1)) (getD map m 0)
+    pub others : (m : ℕ) → GroupNode m → (g .A m ≡ a → ⊥) → getD map m 0 ≡ getD map₀ m 0
+    pub rest : (m : ℕ) → (GroupNode m → ⊥) → getD map m 0 ≡ getD map₀ m 0
+    pub labels : (m : ℕ) → GroupNode m → getD work m 0 ≡ g .A m
+    pub seconds : (m : ℕ) → GroupNode m → getD work (g .n + m) 0 ≡ g .B m
     pub stamps : (b : ℕ) → Label b → Stamp a low b (getD work (g .n + b) 0)
 
   -- the threads of the labels below a are settled, the others stand; map₀ is the map before threading
@@ -89,9 +89,9 @@ module _ (g : Groups) where
     pub map-size : length map ≡ length map₀
     pub work-size : length work ≡ g .n + g .n
     pub heads : (s : ℕ) → Label s → Least (From s 0) (getD work s 0)
-    pub done : (m : ℕ) → Node m → g .A m < a → Least (Both (g .A m) (g .B m)) (getD map m 0)
-    pub left : (m : ℕ) → Node m → a ≤ g .A m → Least (From (g .A m) (m + 1)) (getD map m 0)
-    pub rest : (m : ℕ) → (Node m → ⊥) → getD map m 0 ≡ getD map₀ m 0
-    pub labels : (m : ℕ) → Node m → getD work m 0 ≡ g .A m
-    pub seconds : (m : ℕ) → Node m → getD work (g .n + m) 0 ≡ g .B m
-    pub stamps : (b : ℕ) → Label b → (getD work (g .n + b) 0 ≡ absent) ⊎ (Node (getD work (g .n + b) 0) × (g .A (getD work (g .n + b) 0) < a))
+    pub done : (m : ℕ) → GroupNode m → g .A m < a → Least (Both (g .A m) (g .B m)) (getD map m 0)
+    pub left : (m : ℕ) → GroupNode m → a ≤ g .A m → Least (From (g .A m) (m + 1)) (getD map m 0)
+    pub rest : (m : ℕ) → (GroupNode m → ⊥) → getD map m 0 ≡ getD map₀ m 0
+    pub labels : (m : ℕ) → GroupNode m → getD work m 0 ≡ g .A m
+    pub seconds : (m : ℕ) → GroupNode m → getD work (g .n + m) 0 ≡ g .B m
+    pub stamps : (b : ℕ) → Label b → (getD work (g .n + b) 0 ≡ absent) ⊎ (GroupNode (getD work (g .n + b) 0) × (g .A (getD work (g .n + b) 0) < a))

@@ -18,7 +18,7 @@ use Rattle.model.specs.Lists.{tabulate, zeros}
 use Rattle.model.specs.Triples.{triples, slots, sorted, listed}
 use Rattle.model.specs.Partition.{label}
 use Rattle.model.specs.Summary.{moved, condensed}
-use Rattle.model.specs.Outcomes.{Outcome, refused, accepted, number, counted, check, checked, Passes, left, wrongWork}
+use Rattle.model.specs.Outcomes.{Outcome, refused, accepted, refusalNumber, counted, check, checked, Passes, left, wrongWork}
 use Rattle.model.specs.Calls.{tableChecks, summariseOutcomeBy, summariseLeavesBy}
 use Rattle.theory.proofs.Checks.{no-checks}
 use Rattle.theory.proofs.Lists.{length-tabulate, tabulate-mem, mem-tabulate, map-mem, mem-map}
@@ -35,7 +35,7 @@ use Rattle.lists.specs.Flat.{at, Cleared}
 use Rattle.lists.proofs.Places.{triples-table}
 use Rattle.lists.proofs.Search.{cleared-all}
 use Rattle.builder.specs.declared.Builder.{Builder}
-use Rattle.builder.specs.Builder.{first, Collected, Finished}
+use Rattle.builder.specs.Builder.{first, CollectedFrom, Finished}
 use Rattle.summarise.specs.Condensed.{condensedOutcome, Imaged, Condensed, SummariseCallBy}
 
 -- ── triples that pass the checks ──
@@ -53,7 +53,7 @@ images-mapped f table count u = (there, back)
         subst (λ (x : Triple). Mem x (tabulate (λ i. f (at table i)) 0 count)) (sym (z .2 ∙ ap f (w .3))) (mem-tabulate (λ i. f (at table i)) 0 count (w .0) (w .1) (w .2))
 
 -- ── the images under a finished map ──
-module _ (table : List ℕ) (count : ℕ) (m result l : List ℕ) (b : Builder) (C : Collected (λ i. moved (label m) (at table i)) count result l b) where
+module _ (table : List ℕ) (count : ℕ) (m result l : List ℕ) (b : Builder) (C : CollectedFrom (λ i. moved (label m) (at table i)) count result l b) where
   abbrev ts : List Triple
   ts = first table count
 
@@ -62,7 +62,7 @@ module _ (table : List ℕ) (count : ℕ) (m result l : List ℕ) (b : Builder) 
   images-are = sorted-members _ _ (images-mapped (moved (label m)) table count)
 
   pub imaged-full : b .full ≡ true → (n k : List ℕ) → Cleared l n 0 (length l) → Cleared m k 0 (length m) → Imaged m ts result (counted-refused Slots) n k
-  unfolding counted number slots
+  unfolding counted refusalNumber slots
   imaged-full f n k z y =
       let long : length result / 3 < length (condensed m ts) = subst (λ (x : List Triple). length result / 3 < length x) images-are (C .over f) in
       let q = too-few [] (length result / 3) (length (condensed m ts)) no-checks long in

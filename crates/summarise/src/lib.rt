@@ -12,7 +12,7 @@ ghost use Rattle.model.specs.Summary.{moved};
 ghost use Rattle.theory.proofs.Accepted.{Right};
 ghost use Rattle.theory.proofs.Covered.{Below, AllBelow};
 ghost use Rattle.lists.specs.Flat.{at};
-ghost use Rattle.builder.specs.Builder.{first, Collected};
+ghost use Rattle.builder.specs.Builder.{first, CollectedFrom};
 ghost use Rattle.summarise.specs.Condensed.{Imaged, Condensed, SummariseCall};
 use builder::Builder;
 use builder::finish;
@@ -44,7 +44,7 @@ fn image(map: &[u32], t: Triple) -> Triple
 // The images of the first `count` triples, each at least once, or the builder is full.
 fn images(table: &[u32], count: usize, map: &[u32], list: &mut [u32]) -> Builder
     requires { ⌜ (3 * count ≤ length (now table)) × AllBelow (length (now map)) (first (now table) count) ⌝ }
-    ensures { λ x. ⌜ Collected (λ i. moved (label (now (map .entry))) (at (now (table .entry)) i)) count (now (list .entry)) (now (list .exit)) x ⌝ }
+    ensures { λ x. ⌜ CollectedFrom (λ i. moved (label (now (map .entry))) (at (now (table .entry)) i)) count (now (list .entry)) (now (list .exit)) x ⌝ }
 {
     let mut state = Builder {
         base: 0,

@@ -15,7 +15,7 @@ use Rattle.model.specs.declared.Vocabulary.{Vocabulary}
 use Rattle.model.specs.Codes.{wrongWords}
 use Rattle.model.specs.Triples.{triples}
 use Rattle.model.specs.Roster.{covers, wrongRoster, wrongCodes}
-use Rattle.model.specs.Outcomes.{Outcome, refused, accepted, number, Check, check, decided, checked, Passes, zeroed, left, wrongSize, wrongLength}
+use Rattle.model.specs.Outcomes.{Outcome, refused, accepted, refusalNumber, Check, check, decided, checked, Passes, zeroed, left, wrongSize, wrongLength}
 use Rattle.model.specs.Calls.{tableChecks, Accepted}
 use Rattle.theory.proofs.Tests.{or-left, or-right, or-false, or-neither, bool-cases}
 use Rattle.theory.proofs.Checks.{passes-first, decided-cases, not-accepted}
@@ -108,7 +108,7 @@ module _ (v : Vocabulary) where
     outcome-is p w q r s = λ i. firstOf (p i) (w i) (q i) (r i) (s i)
 
     by-length : first ≡ true → Is (Refused Length)
-    unfolding verdict number
+    unfolding verdict refusalNumber
     by-length p = sym (outcome-is p refl refl refl refl)
 
     pub by-size : wrongSize (length roster) ≡ true → Is (Refused Length)
@@ -125,19 +125,19 @@ module _ (v : Vocabulary) where
       sizes = or-neither (wrongSize (length roster)) _ p (or-neither (wrongLength (length table)) _ q l)
 
       pub by-words : wrongWords v (length roster) ≡ true → Is (Refused Words)
-      unfolding verdict number
+      unfolding verdict refusalNumber
       by-words w = sym (outcome-is sizes w refl refl refl)
 
       pub by-roster : wrongWords v (length roster) ≡ false → wrongRoster v roster ≡ true → Is (Refused Roster)
-      unfolding verdict number
+      unfolding verdict refusalNumber
       by-roster w a = sym (outcome-is sizes w a refl refl)
 
       pub by-codes : wrongWords v (length roster) ≡ false → wrongRoster v roster ≡ false → wrongCodes v (length roster) (triples table) ≡ true → Is (Refused Code)
-      unfolding verdict number
+      unfolding verdict refusalNumber
       by-codes w a b = sym (outcome-is sizes w a b refl)
 
       pub by-cover : wrongWords v (length roster) ≡ false → wrongRoster v roster ≡ false → wrongCodes v (length roster) (triples table) ≡ false → not (covers v roster (triples table)) ≡ true → Is (Refused Cover)
-      unfolding verdict number
+      unfolding verdict refusalNumber
       by-cover w a b d = sym (outcome-is sizes w a b d)
 
       pub by-none : wrongWords v (length roster) ≡ false → wrongRoster v roster ≡ false → wrongCodes v (length roster) (triples table) ≡ false → not (covers v roster (triples table)) ≡ false → Is Passed
@@ -165,16 +165,16 @@ module _ (v : Vocabulary) where
 
     module _ (r : Refusal) (e : Is lengths table roster (Refused r)) where
       -- refused: so is the call, whatever it checks afterwards
-      pub refused-more : {A : Type 0} (more : List Check) (rest : Outcome A) → decided (tableChecks v lengths table roster ++ more) rest ≡ refused (number r)
+      pub refused-more : {A : Type 0} (more : List Check) (rest : Outcome A) → decided (tableChecks v lengths table roster ++ more) rest ≡ refused (refusalNumber r)
       unfolding verdict
-      refused-more more rest = refused-any (tableChecks v lengths table roster) more tt (number r) rest (sym e)
+      refused-more more rest = refused-any (tableChecks v lengths table roster) more tt (refusalNumber r) rest (sym e)
 
-      refused-kept : zeroed (number r) ≡ false
+      refused-kept : zeroed (refusalNumber r) ≡ false
       unfolding verdict
       refused-kept =
-          kept-by (first lengths table roster) (wrongWords v (length roster)) (wrongRoster v roster) (wrongCodes v (length roster) (triples table)) (not (covers v roster (triples table))) (number r)
+          kept-by (first lengths table roster) (wrongWords v (length roster)) (wrongRoster v roster) (wrongCodes v (length roster) (triples table)) (not (covers v roster (triples table))) (refusalNumber r)
           (e ∙ outcome-is lengths table roster refl refl refl refl refl)
 
       -- and nothing is altered
-      pub refused-left : {A : Type 0} (o : Outcome A) → o ≡ refused (number r) → (entry after : List ℕ) → left o entry after ≡ entry
-      refused-left o q entry after = left-kept (number r) o entry after refused-kept q
+      pub refused-left : {A : Type 0} (o : Outcome A) → o ≡ refused (refusalNumber r) → (entry after : List ℕ) → left o entry after ≡ entry
+      refused-left o q entry after = left-kept (refusalNumber r) o entry after refused-kept q

@@ -84,6 +84,10 @@ module _ (v : Vocabulary) (roster : List ℕ) where
       }
 
   module _ (K : Grouping) where
+    -- absent is no code, so its entry is absent
+    absent-entry : length roster ≤ absent → (ts : List Triple) → label (K .map-of ts) absent ≡ absent
+    absent-entry r ts = List·getD-eq-default (K .map-of ts) absent (subst (λ (z : ℕ). z ≤ absent) (sym (K .size ts)) r)
+
     -- ── a finer quotient first ──
     module _ (H : Graph) (f : ℕ → ℕ) (own : Own v roster H f) (finer : (n : ℕ) → DataNode v roster H n → K .E H n (f n)) (falls : (n : ℕ) → DataNode v roster H n → f n ≤ n)
         (g h : ℕ → ℕ) (R : RepresentsBy v roster (K .E H) H g) (S : RepresentsBy v roster (K .E (Image f H)) (Image f H) h) where
@@ -191,9 +195,8 @@ module _ (v : Vocabulary) (roster : List ℕ) where
       no-node-at c k =
           let L = saturation-right v roster ts R in
           let r = room v roster ts R in
-          let e : length (K .map-of short) ≡ length roster = K .size short in
           ap h (K .absents ts (below v roster ts R) r c k)
-          ∙ List·getD-eq-default (K .map-of short) absent (subst (λ (z : ℕ). z ≤ absent) (sym e) r)
+          ∙ absent-entry r short
           ∙ sym (K .absents long (below v roster long L) r c (λ x. k (node-down v roster (In ts) (covered v roster ts R) (same-node long-is x))))
 
       -- the representatives are carried through both maps
@@ -239,7 +242,7 @@ module _ (v : Vocabulary) (roster : List ℕ) where
           none-at x =
               let r = room v roster ts R in
               let e = K .absents ts (below v roster ts R) r c x in
-              ap k e ∙ List·getD-eq-default (K .map-of (sum ts)) absent (subst (λ (z : ℕ). z ≤ absent) (sym (K .size (sum ts))) r) ∙ sym e
+              ap k e ∙ absent-entry r (sum ts) ∙ sym e
 
       -- each node of the summary is its own representative: no saturation is needed for that
       pub rest-own : (c : ℕ) → Node (In (sum ts)) c → k c ≡ c
@@ -297,7 +300,7 @@ module _ (v : Vocabulary) (roster : List ℕ) where
     strong-then-weak c =
         ⊎-elim (λ x. quotient-map weakly (In ts) s (S .of-marked) weak-finer falls-strong w u W U c x)
         (λ x. ap u (strong-absent v roster ts (below v roster ts R) (room v roster ts R) c x)
-        ∙ List·getD-eq-default (mapOf v roster (sum strongly ts)) absent (subst (λ (z : ℕ). z ≤ absent) (sym (length-map-of v roster (sum strongly ts))) (room v roster ts R))
+        ∙ absent-entry weakly (room v roster ts R) (sum strongly ts)
         ∙ sym (map-absent v roster ts (below v roster ts R) (room v roster ts R) c x)) (node-or ts c)
 
     pub weak-of-strong : sum weakly (sum strongly ts) ≡ sum weakly ts

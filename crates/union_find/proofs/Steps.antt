@@ -12,7 +12,7 @@ use borrow.Author.Tests.{eqb-true}
 use Rattle.model.specs.Codes.{absent}
 use Rattle.theory.proofs.Tests.{cond-cases}
 use Rattle.union_find.specs.Roots.{root, merge, Forest, Kept}
-use Rattle.union_find.specs.Calls.{Active, Found, Apart, Flattened}
+use Rattle.union_find.specs.Calls.{Active, RootFound, Apart, Flattened}
 use Rattle.lists.proofs.Compare.{Cmp, lt, eq, gt, cmp}
 use Rattle.union_find.proofs.Laws.{root-top, root-up, root-is-top, root-root, root-active, set-at, shortcut, linked, kept-start, kept-then, kept-ext, kept-set}
 
@@ -73,7 +73,7 @@ walk-step l₀ from l x p w h x' p' ex ep A f a = step-at A l₀ from l x p (w A
 pub walk-of : {l₀ : List ℕ} {from : ℕ} {l : List ℕ} {x p : ℕ} (s : Active l₀ from) → Walks l₀ from l x p → Walk (s .A) l₀ from l x p
 walk-of s w = w (s .A) (s .forest) (s .active)
 
-pub walk-end : (l₀ : List ℕ) (from : ℕ) (l : List ℕ) (x p : ℕ) → Active l₀ from → Walks l₀ from l x p → x ≤ p → Found l₀ l from x
+pub walk-end : (l₀ : List ℕ) (from : ℕ) (l : List ℕ) (x p : ℕ) → Active l₀ from → Walks l₀ from l x p → x ≤ p → RootFound l₀ l from x
 walk-end l₀ from l x p s w h = record {
   result = sym (root-top l x (rw (← walk-of s w .parent) h)) ∙ walk-of s w .goal;
   keeps = λ A f a. w A f a .kept;
@@ -90,7 +90,7 @@ pub record Both (A : ℕ → Bool) (l₀ l : List ℕ) (a b x y : ℕ) : Type 0 
   pub x-root : x ≡ root l₀ a
   pub y-root : y ≡ root l₀ b
 
-pub both : (A : ℕ → Bool) (l₀ l₁ l₂ : List ℕ) (a b x y : ℕ) → Forest A l₀ → A a ≡ true → A b ≡ true → Found l₀ l₁ a x → Found l₁ l₂ b y → Both A l₀ l₂ a b x y
+pub both : (A : ℕ → Bool) (l₀ l₁ l₂ : List ℕ) (a b x y : ℕ) → Forest A l₀ → A a ≡ true → A b ≡ true → RootFound l₀ l₁ a x → RootFound l₁ l₂ b y → Both A l₀ l₂ a b x y
 both A l₀ l₁ l₂ a b x y f ha hb p q =
     let k = p .keeps A f ha in
     let ey : y ≡ root l₀ b = q .result ∙ k .roots b hb in

@@ -14,7 +14,7 @@ pub record Active (l : List ℕ) (x : ℕ) : Type 0 where
   pub active : A x ≡ true
 
 -- r is the root of x, and all roots are kept
-pub record Found (l l' : List ℕ) (x r : ℕ) : Type 0 where
+pub record RootFound (l l' : List ℕ) (x r : ℕ) : Type 0 where
   pub result : r ≡ root l x
   pub keeps : (A : ℕ → Bool) → Forest A l → A x ≡ true → Kept A l l' (root l)
 

@@ -2,14 +2,14 @@
 
 ghost use mathlib.Core.Path.{_≡_};
 ghost use Prim.Native.Nat.{_<_};
-ghost use Rattle.union_find.specs.Calls.{Active, Found, ActivePair, United, Flattened};
+ghost use Rattle.union_find.specs.Calls.{Active, RootFound, ActivePair, United, Flattened};
 use lists::narrow;
 use lists::wide;
 
 // The root of a code. On the way each second code gets the parent of its parent (path halving).
 pub fn find(parent: &mut [u32], from: usize) -> usize
     requires { ⌜ Active (now parent) from ⌝ }
-    ensures { λ r. ⌜ Found (now (parent .entry)) (now (parent .exit)) from r ⌝ }
+    ensures { λ r. ⌜ RootFound (now (parent .entry)) (now (parent .exit)) from r ⌝ }
 {
     let mut x = from;
     let mut p = wide(parent[x]);

@@ -23,7 +23,7 @@ use Rattle.theory.proofs.Accepted.{Right, room, below, has-marked, size-bounds}
 use Rattle.union_find.specs.Roots.{root}
 use Rattle.union_find.proofs.Laws.{set-at}
 use Rattle.weak_map.specs.Linking.{Sound, slotOf, Slots, Flags, Linked}
-use Rattle.weak_map.specs.Calls.{NodeLinked, EndLinkable, EndLinked}
+use Rattle.weak_map.specs.Calls.{SlotLinked, EndLinkable, EndLinked}
 use Rattle.weak_map.proofs.Nodes.{sound-pair, sound-united, sound-one, sound-same}
 
 -- ── slots ──
@@ -162,7 +162,7 @@ module _ (v : Vocabulary) where
                 flags = flags-flag map′ between w f;
               })
 
-          node-linked : NodeLinked map work map′ between (slot e p) n → work′ ≡ set between n n → Linked v roster ts S′ map′ work′
+          node-linked : SlotLinked map work map′ between (slot e p) n → work′ ≡ set between n n → Linked v roster ts S′ map′ work′
           node-linked d q = go (ℕ-discrete (getD work (slot e p) 0) absent)
             where
               go : Dec (getD work (slot e p) 0 ≡ absent) → Linked v roster ts S′ map′ work′

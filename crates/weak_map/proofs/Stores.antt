@@ -19,7 +19,7 @@ use Rattle.union_find.specs.Calls.{ActivePair, United}
 use Rattle.cliques.specs.Calls.{sideOf}
 use Rattle.cliques.proofs.Sides.{end-below}
 use Rattle.weak_map.specs.Linking.{slotOf}
-use Rattle.weak_map.specs.Calls.{NodeLinkable, NodeLinked, EndLinkable, EndLinked, bare, BareJoinable, BareJoined}
+use Rattle.weak_map.specs.Calls.{SlotLinkable, SlotLinked, EndLinkable, EndLinked, bare, BareJoinable, BareJoined}
 use Rattle.weak_map.proofs.Links.{slot-below}
 
 pub own-stored : (l : List ℕ) (i n : ℕ) → i ≡ n → set l i n ≡ set l n n
@@ -29,17 +29,17 @@ pub slot-target : (s : Bool) (n p w : ℕ) → s ≡ false → w ≡ p → n + w
 slot-target s n p w h e = rw h (ap (λ (j : ℕ). n + j) e)
 
 -- ── a node at a slot ──
-pub node-first : (map work : List ℕ) (k n : ℕ) → getD work k 0 ≡ absent → NodeLinked map work map (set work k n) k n
+pub node-first : (map work : List ℕ) (k n : ℕ) → getD work k 0 ≡ absent → SlotLinked map work map (set work k n) k n
 node-first map work k n h = record { first = λ z. (refl, refl); later = λ z. absurd (z h) }
 
 module _ (map work : List ℕ) (k n a b : ℕ) (h : getD work k 0 ≡ absent → ⊥) (p : a ≡ getD work k 0) (q : b ≡ n) where
-  pub node-pair : NodeLinkable map work k n → ActivePair map a b
+  pub node-pair : SlotLinkable map work k n → ActivePair map a b
   node-pair d = rw (p, q) (d .pair h)
 
-  pub node-later : (map′ : List ℕ) → United map map′ a b → NodeLinked map work map′ work k n
+  pub node-later : (map′ : List ℕ) → United map map′ a b → SlotLinked map work map′ work k n
   node-later map′ u = record { first = λ z. absurd (h z); later = λ z. (rw (← p, ← q) u, refl) }
 
-node-size : (map work map′ work′ : List ℕ) (k n : ℕ) → NodeLinked map work map′ work′ k n → length work′ ≡ length work
+node-size : (map work map′ work′ : List ℕ) (k n : ℕ) → SlotLinked map work map′ work′ k n → length work′ ≡ length work
 node-size map work map′ work′ k n d = go (ℕ-discrete (getD work k 0) absent)
   where
     go : Dec (getD work k 0 ≡ absent) → length work′ ≡ length work
@@ -83,10 +83,10 @@ module _ (v : Vocabulary) where
 
   module _ (roster : List ℕ) (e : Side) (t : Triple) (map work : List ℕ) (h : links v roster e t ≡ true) (k n : ℕ)
       (p : k ≡ slotOf (length roster) e (t .property)) (q : n ≡ end e t) where
-    pub end-node : EndLinkable v roster e t map work → NodeLinkable map work k n
+    pub end-node : EndLinkable v roster e t map work → SlotLinkable map work k n
     end-node d = rw (p, q) (record { inside = omega (arith, slot-below (length roster) (t .property) e (d .below .property), d .size); pair = d .pair h })
 
-    module _ (map′ between : List ℕ) (s : NodeLinked map work map′ between k n) where
+    module _ (map′ between : List ℕ) (s : SlotLinked map work map′ between k n) where
       pub end-inside : EndLinkable v roster e t map work → n < length between
       end-inside d = omega (arith, end-below (length roster) t (d .below) e, node-size map work map′ between k n s, d .size)
 

@@ -18,11 +18,11 @@ use Rattle.union_find.specs.Calls.{ActivePair, United}
 use Rattle.weak_map.specs.Linking.{Sound, slotOf, AllSeen, Bare}
 
 -- ── a node at a slot ──
-pub record NodeLinkable (map work : List ℕ) (k n : ℕ) : Type 0 where
+pub record SlotLinkable (map work : List ℕ) (k n : ℕ) : Type 0 where
   pub inside : k < length work
   pub pair : (getD work k 0 ≡ absent → ⊥) → ActivePair map (getD work k 0) n
 
-pub record NodeLinked (map work map′ work′ : List ℕ) (k n : ℕ) : Type 0 where
+pub record SlotLinked (map work map′ work′ : List ℕ) (k n : ℕ) : Type 0 where
   pub first : getD work k 0 ≡ absent → (map′ ≡ map) × (work′ ≡ set work k n)
   pub later : (getD work k 0 ≡ absent → ⊥) → United map map′ (getD work k 0) n × (work′ ≡ work)
 
@@ -55,7 +55,7 @@ module _ (v : Vocabulary) where
   pub record EndLinked (roster : List ℕ) (e : Side) (t : Triple) (map work map′ work′ : List ℕ) : Type 0 where
     pub between : List ℕ
     pub skipped : links v roster e t ≡ false → (map′ ≡ map) × (work′ ≡ work)
-    pub linked : links v roster e t ≡ true → NodeLinked map work map′ between (slotOf (length roster) e (t .property)) (end e t) × (work′ ≡ set between (end e t) (end e t))
+    pub linked : links v roster e t ≡ true → SlotLinked map work map′ between (slotOf (length roster) e (t .property)) (end e t) × (work′ ≡ set between (end e t) (end e t))
 
   -- nodes at the same side of one property have one root, and so have the data nodes without data triples
   pub record Complete (roster : List ℕ) (ts : List Triple) (map : List ℕ) : Type 0 where

@@ -14,7 +14,7 @@ ghost use Rattle.theory.proofs.Accepted.{Right};
 ghost use Rattle.lists.specs.Flat.{at};
 ghost use Rattle.cliques.specs.Calls.{sideOf};
 ghost use Rattle.weak_map.specs.Linking.{slotOf, Openable, Opened, Started, AllSeen};
-ghost use Rattle.weak_map.specs.Calls.{bare, NodeLinkable, NodeLinked, EndLinkable, EndLinked, BareJoinable, BareJoined, Ready, Complete};
+ghost use Rattle.weak_map.specs.Calls.{bare, SlotLinkable, SlotLinked, EndLinkable, EndLinked, BareJoinable, BareJoined, Ready, Complete};
 use cliques::links_at;
 use cliques::side_end;
 use lists::Code;
@@ -64,8 +64,8 @@ fn slot(n: usize, sources: bool, property: u32) -> usize
 
 // The first node of a slot is held there, and each later one joins its class.
 fn link_node(map: &mut [u32], work: &mut [u32], slot: usize, node: u32)
-    requires { ⌜ NodeLinkable (now map) (now work) slot node ⌝ }
-    ensures { λ r. ⌜ NodeLinked (now (map .entry)) (now (work .entry)) (now (map .exit)) (now (work .exit)) slot node ⌝ }
+    requires { ⌜ SlotLinkable (now map) (now work) slot node ⌝ }
+    ensures { λ r. ⌜ SlotLinked (now (map .entry)) (now (work .entry)) (now (map .exit)) (now (work .exit)) slot node ⌝ }
 {
     let first = work[slot];
     if Code(first).is_absent() {

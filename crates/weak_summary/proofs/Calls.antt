@@ -6,7 +6,7 @@ use mathlib.Core.Bool.{Bool, true, false, not, cond}
 use mathlib.Core.List.{List, [], _∷_}
 use mathlib.Core.Option.{Option, none, some}
 use native.Mathlib.Omega.{arith}
-use lib.Dec.{eqb, ltb}
+use lib.Dec.{ltb}
 use lib.ListN.{length}
 use borrow.Author.Tests.{eq-eqb, ne-eqb}
 use Rattle.model.specs.declared.Done.{Done}
@@ -15,7 +15,7 @@ use Rattle.model.specs.declared.Vocabulary.{Vocabulary}
 use Rattle.model.specs.Codes.{codes}
 use Rattle.model.specs.Lists.{zeros, collect, tabulate}
 use Rattle.model.specs.Triples.{slots}
-use Rattle.model.specs.Outcomes.{Outcome, refused, accepted, number, done, decided, left, zeroed}
+use Rattle.model.specs.Outcomes.{Outcome, refused, accepted, refusalNumber, done, decided, left, zeroed}
 use Rattle.model.specs.Intake.{State, openLeaves}
 use Rattle.intake.specs.Opening.{Opens}
 use Rattle.query.specs.Ask.{askOutcome}
@@ -27,7 +27,7 @@ use Rattle.site_form.specs.Reading.{Forms, formed, queryOf, queriesOf, siteOf, 
 use Rattle.site_reader.specs.Calls.{ReadCall}
 use Rattle.weak_summary.specs.Status.{statusOf, valueOr, bits, Stores}
 use Rattle.weak_summary.specs.Flat.{flatQuery, endNumbers, patternNumbers, queryNumbers, flatQueries}
-use Rattle.weak_summary.specs.Calls.{flatAskOutcome, OpenStatus, formStatus, Lent, lent, rightLengths, siteLeaves, flatReadOutcome, flatReadLeaves, ReadStatus, RefusedReadIsZero}
+use Rattle.weak_summary.specs.Calls.{flatAskOutcome, OpenStatus, formStatus, ReadLent, lent, rightLengths, siteLeaves, flatReadOutcome, flatReadLeaves, ReadStatus, RefusedReadIsZero}
 use Rattle.weak_summary.proofs.Outcomes.{stores-as}
 
 -- ── reading ──
@@ -36,7 +36,7 @@ unfolding formStatus statusOf
 form-status Read site = refl
 form-status (Refused r) site = refl
 
-module _ (text : List ℕ) (s : Lent) where
+module _ (text : List ℕ) (s : ReadLent) where
   pub wrong-queries : (length (s .queries) ≡ 656 → ⊥) → rightLengths s ≡ false
   unfolding rightLengths
   wrong-queries h = rw (ne-eqb (length (s .queries)) 656 h)
@@ -52,15 +52,15 @@ module _ (text : List ℕ) (s : Lent) where
   outcome-of : Bool → Outcome Site
   outcome-of b = cond (not b) (refused 1) (readOutcome text (s .list))
 
-  leaves-of : Bool → Lent
+  leaves-of : Bool → ReadLent
   leaves-of b = cond b (siteLeaves (readList text (s .list)) (readSite text (s .list))) s
 
   passed : rightLengths s ≡ true → readOutcome text (s .list) ≡ flatReadOutcome text s
   unfolding flatReadOutcome decided outcome-of
   passed h = sym (ap outcome-of h)
 
-  pub read-length : (status : ℕ) → rightLengths s ≡ false → status ≡ number Length → ReadStatus text s status s
-  unfolding flatReadOutcome flatReadLeaves decided statusOf number outcome-of leaves-of
+  pub read-length : (status : ℕ) → rightLengths s ≡ false → status ≡ refusalNumber Length → ReadStatus text s status s
+  unfolding flatReadOutcome flatReadLeaves decided statusOf refusalNumber outcome-of leaves-of
   read-length status h e = record {
     answer = e ∙ sym (ap (λ (b : Bool). statusOf (outcome-of b)) h);
     leaves = sym (ap leaves-of h);
@@ -122,8 +122,8 @@ module _ (v : Vocabulary) where
     unfolding flatAskOutcome decided
     ask-one h = ap (λ (b : Bool). cond (not b) (refused 1) (askOutcome v table map (flatQuery query))) (ne-eqb (length query) 41 h)
 
-    pub ask-length : (before s : ℕ) → (length query ≡ 41 → ⊥) → s ≡ number Length → Stores (bits (flatAskOutcome v table map query)) before s before
-    unfolding bits statusOf valueOr number
+    pub ask-length : (before s : ℕ) → (length query ≡ 41 → ⊥) → s ≡ refusalNumber Length → Stores (bits (flatAskOutcome v table map query)) before s before
+    unfolding bits statusOf valueOr refusalNumber
     ask-length before s h e = stores-as (sym (ap bits (ask-one h))) (record { answer = e; value = refl })
 
     pub ask-passed : length query ≡ 41 → askOutcome v table map (flatQuery query) ≡ flatAskOutcome v table map query

@@ -17,7 +17,7 @@ use Rattle.query.specs.declared.End.{End}
 use Rattle.query.specs.declared.End.the-variants.{Var, Code}
 use Rattle.query.specs.declared.Pattern.{Pattern}
 use Rattle.query.specs.declared.Query.{Query}
-use Rattle.query.specs.Ask.{blank, pattern}
+use Rattle.query.specs.Ask.{blank, patternAt}
 use Rattle.site_form.specs.Reading.{Forms, queryOf, queriesOf, siteOf, noForms, readForms, outcomeOf, readOutcome, siteIn, readSite}
 use Rattle.site_form.proofs.Whole.{read-says}
 use Rattle.weak_summary.specs.Flat.{endOf, patternFrom, flatPattern, flatQuery, endNumbers, patternNumbers, queryNumbers, queryAt, flatQueries, FlatIsFaithful, ReadCanBeAsked}
@@ -48,16 +48,16 @@ abbrev queryWith : ℕ → List Pattern → Query
 queryWith n ps = record { patterns = ps; count = n }
 
 module _ (q : Query) where
-  number-at : (k j : ℕ) → k < 8 → j < 5 → getD (queryNumbers q) (5 * k + 1 + j) 0 ≡ getD (patternNumbers (pattern q k)) j 0
+  number-at : (k j : ℕ) → k < 8 → j < 5 → getD (queryNumbers q) (5 * k + 1 + j) 0 ≡ getD (patternNumbers (patternAt q k)) j 0
   unfolding queryNumbers
   number-at k j h m =
       let e : 5 * k + 1 + j ≡ suc (5 * k + j) = omega arith in
-      ap (λ (i : ℕ). getD (q .count ∷ blocks patternNumbers (pattern q) 8) i 0) e
-      ∙ blocks-at patternNumbers (pattern q) 5 length-pattern 8 k j 0 h m
+      ap (λ (i : ℕ). getD (q .count ∷ blocks patternNumbers (patternAt q) 8) i 0) e
+      ∙ blocks-at patternNumbers (patternAt q) 5 length-pattern 8 k j 0 h m
 
-  pattern-at : (k : ℕ) → k < 8 → flatPattern (queryNumbers q) k ≡ pattern q k
+  pattern-at : (k : ℕ) → k < 8 → flatPattern (queryNumbers q) k ≡ patternAt q k
   pattern-at k h =
-      let p = pattern q k in
+      let p = patternAt q k in
       shifted (queryNumbers q) (patternNumbers p) (5 * k + 1) (λ j m. number-at k j h m) ∙ pattern-back (p .subject) (p .property) (p .object)
 
   all-patterns : length (q .patterns) ≡ 8 → tabulate (flatPattern (queryNumbers q)) 0 8 ≡ q .patterns

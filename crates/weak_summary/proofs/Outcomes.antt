@@ -9,7 +9,7 @@ use Rattle.model.specs.declared.Counted.{Counted}
 use Rattle.model.specs.declared.Counted.the-variants.{Count, Refused as counted-refused}
 use Rattle.model.specs.declared.Found.{Found}
 use Rattle.model.specs.declared.Found.the-variants.{Yes, No, Refused as found-refused}
-use Rattle.model.specs.Outcomes.{Outcome, number, done, counted, found}
+use Rattle.model.specs.Outcomes.{Outcome, refusalNumber, done, counted, found}
 use Rattle.query.specs.declared.Asked.{Asked}
 use Rattle.query.specs.declared.Asked.the-variants.{Maybe, None, Refused as asked-refused}
 use Rattle.query.specs.Ask.{asked}
@@ -24,7 +24,7 @@ pub done-zero : (d : Done) → d ≡ Accepted → 0 ≡ statusOf (done d)
 unfolding done statusOf
 done-zero d e = sym (ap (λ (x : Done). statusOf (done x)) e)
 
-pub done-number : (d : Done) (r : Refusal) (s : ℕ) → d ≡ done-refused r → s ≡ number r → s ≡ statusOf (done d)
+pub done-number : (d : Done) (r : Refusal) (s : ℕ) → d ≡ done-refused r → s ≡ refusalNumber r → s ≡ statusOf (done d)
 unfolding done statusOf
 done-number d r s e h = h ∙ sym (ap (λ (x : Done). statusOf (done x)) e)
 
@@ -36,7 +36,7 @@ counted-stores c before k e = record {
   value = sym (ap (λ (x : Counted). valueOr before (counted x)) e);
 }
 
-pub counted-refuses : (c : Counted) (before : ℕ) (r : Refusal) (s : ℕ) → c ≡ counted-refused r → s ≡ number r → Stores (counted c) before s before
+pub counted-refuses : (c : Counted) (before : ℕ) (r : Refusal) (s : ℕ) → c ≡ counted-refused r → s ≡ refusalNumber r → Stores (counted c) before s before
 unfolding counted statusOf valueOr
 counted-refuses c before r s e h = record {
   answer = h ∙ sym (ap (λ (x : Counted). statusOf (counted x)) e);
@@ -58,7 +58,7 @@ found-no f before e = record {
   value = sym (ap (λ (x : Found). valueOr before (bits (found x))) e);
 }
 
-pub found-refuses : (f : Found) (before : ℕ) (r : Refusal) (s : ℕ) → f ≡ found-refused r → s ≡ number r → Stores (bits (found f)) before s before
+pub found-refuses : (f : Found) (before : ℕ) (r : Refusal) (s : ℕ) → f ≡ found-refused r → s ≡ refusalNumber r → Stores (bits (found f)) before s before
 unfolding found statusOf valueOr bits
 found-refuses f before r s e h = record {
   answer = h ∙ sym (ap (λ (x : Found). statusOf (bits (found x))) e);
@@ -80,7 +80,7 @@ asked-none a before e = record {
   value = sym (ap (λ (x : Asked). valueOr before (bits (asked x))) e);
 }
 
-pub asked-refuses : (a : Asked) (before : ℕ) (r : Refusal) (s : ℕ) → a ≡ asked-refused r → s ≡ number r → Stores (bits (asked a)) before s before
+pub asked-refuses : (a : Asked) (before : ℕ) (r : Refusal) (s : ℕ) → a ≡ asked-refused r → s ≡ refusalNumber r → Stores (bits (asked a)) before s before
 unfolding asked statusOf valueOr bits
 asked-refuses a before r s e h = record {
   answer = h ∙ sym (ap (λ (x : Asked). statusOf (bits (asked x))) e);

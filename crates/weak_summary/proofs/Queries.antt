@@ -15,7 +15,7 @@ use Rattle.query.specs.declared.End.{End}
 use Rattle.query.specs.declared.End.the-variants.{Var, Code}
 use Rattle.query.specs.declared.Pattern.{Pattern}
 use Rattle.query.specs.declared.Query.{Query}
-use Rattle.query.specs.Ask.{blank, pattern}
+use Rattle.query.specs.Ask.{blank, patternAt}
 use Rattle.weak_summary.specs.Flat.{endOf, patternFrom, flatPattern, flatQuery, endNumbers, patternNumbers, queryNumbers, queryAt, flatQueries}
 use Rattle.weak_summary.proofs.Blocks.{sets-append, sets-whole, blocks, length-blocks, blocks-step}
 
@@ -120,7 +120,7 @@ module _ (l a : List ℕ) (i : ℕ) (p : Pattern) (h : a ≡ sets l i (endNumber
 -- the first j patterns of a query are stored; at is where they begin
 pub record PuttingPatterns (l₀ : List ℕ) (at : ℕ) (q : Query) (l : List ℕ) (j : ℕ) : Type 0 where
   pub few : j ≤ 8
-  pub list : l ≡ sets l₀ at (blocks patternNumbers (pattern q) j)
+  pub list : l ≡ sets l₀ at (blocks patternNumbers (patternAt q) j)
 
 module _ (l₀ : List ℕ) (at : ℕ) (q : Query) where
   pub putting-start : PuttingPatterns l₀ at q l₀ 0
@@ -129,12 +129,12 @@ module _ (l₀ : List ℕ) (at : ℕ) (q : Query) where
 
   module _ (l : List ℕ) (j : ℕ) (h : PuttingPatterns l₀ at q l j) where
     pub putting-length : length l ≡ length l₀
-    putting-length = ap length (h .list) ∙ length-sets l₀ at (blocks patternNumbers (pattern q) j)
+    putting-length = ap length (h .list) ∙ length-sets l₀ at (blocks patternNumbers (patternAt q) j)
 
-    pub putting-step : j < 8 → (m : List ℕ) → m ≡ sets l (at + 5 * j) (patternNumbers (pattern q j)) → PuttingPatterns l₀ at q m (j + 1)
+    pub putting-step : j < 8 → (m : List ℕ) → m ≡ sets l (at + 5 * j) (patternNumbers (patternAt q j)) → PuttingPatterns l₀ at q m (j + 1)
     putting-step k m e = record {
       few = omega arith;
-      list = blocks-step patternNumbers (pattern q) 5 length-pattern l₀ l m at j (at + 5 * j) refl (h .list) e;
+      list = blocks-step patternNumbers (patternAt q) 5 length-pattern l₀ l m at j (at + 5 * j) refl (h .list) e;
     }
 
 -- all eight, behind the count
@@ -142,11 +142,11 @@ pub query-put : (l : List ℕ) (i : ℕ) (q : Query) (m : List ℕ) (j : ℕ) �
 unfolding queryNumbers
 query-put l i q m j h k =
     let e : j ≡ 8 = omega (arith, h .few) in
-    h .list ∙ (λ x. sets (set l i (q .count)) (add-one i x) (blocks patternNumbers (pattern q) (e x)))
+    h .list ∙ (λ x. sets (set l i (q .count)) (add-one i x) (blocks patternNumbers (patternAt q) (e x)))
 
 pub length-query : (q : Query) → length (queryNumbers q) ≡ 41
 unfolding queryNumbers
-length-query q = omega (arith, length-blocks patternNumbers (pattern q) 5 length-pattern 8)
+length-query q = omega (arith, length-blocks patternNumbers (patternAt q) 5 length-pattern 8)
 
 -- the first k queries are stored
 pub record PuttingQueries (l₀ : List ℕ) (qs : List Query) (l : List ℕ) (k : ℕ) : Type 0 where

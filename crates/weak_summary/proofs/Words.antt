@@ -1,18 +1,18 @@
 -- The five reserved codes as a list of numbers.
 -- Assumes nothing.
 use Prim.Native.Nat.{ℕ}
-use mathlib.Core.Path.{_≡_, refl, sym, _∙_, ap, subst}
+use mathlib.Core.Path.{_≡_, refl, subst}
 use mathlib.Core.List.{List, [], _∷_}
 use native.Mathlib.Omega.{arith}
 use lib.ListN.{length, getD, set}
 use Rattle.model.specs.declared.Refusal.the-variants.{Length}
 use Rattle.model.specs.declared.Vocabulary.{Vocabulary}
 use Rattle.model.specs.Codes.{codes}
-use Rattle.model.specs.Outcomes.{number}
+use Rattle.model.specs.Outcomes.{refusalNumber}
 use Rattle.weak_summary.specs.Words.{wordsOf, WordsAreFaithful, ByWords}
 
-pub one : {s : ℕ} → s ≡ number Length → s ≡ 1
-unfolding number
+pub one : {s : ℕ} → s ≡ refusalNumber Length → s ≡ 1
+unfolding refusalNumber
 one e = e
 
 module _ {words : List ℕ} {Wrong : Type 0} {Right : Vocabulary → Type 0} where

@@ -13,7 +13,7 @@ use Rattle.query.specs.declared.End.{End}
 use Rattle.query.specs.declared.End.the-variants.{Var, Code}
 use Rattle.query.specs.declared.Pattern.{Pattern}
 use Rattle.query.specs.declared.Query.{Query}
-use Rattle.query.specs.Ask.{pattern}
+use Rattle.query.specs.Ask.{patternAt}
 use Rattle.site_form.specs.Reading.{readSite}
 
 -- ── numbers to a query ──
@@ -48,7 +48,7 @@ unfoldable pub patternNumbers : Pattern → List ℕ
 patternNumbers p = endNumbers (p .subject) ++ p .property ∷ endNumbers (p .object)
 
 unfoldable pub queryNumbers : Query → List ℕ
-queryNumbers q = q .count ∷ collect patternNumbers (tabulate (pattern q) 0 8)
+queryNumbers q = q .count ∷ collect patternNumbers (tabulate (patternAt q) 0 8)
 
 -- the k-th of some queries
 abbrev pub queryAt : List Query → ℕ → Query

@@ -7,16 +7,14 @@ ghost use lib.ListN.{length};
 ghost use lib.Seq.{sets};
 ghost use Rattle.model.specs.Codes.{codes};
 ghost use Rattle.model.specs.Triples.{triple};
-ghost use Rattle.model.specs.Cliques.{source, target};
-ghost use Rattle.model.specs.Outcomes.{number, done, counted, found};
-ghost use Rattle.model.specs.Calls.{ownRosterOutcome, ownRosterLeaves, saturateOutcome, saturateLeaves, cliquesOutcome, cliquesLeave, summariseOutcome, summariseLeaves, strongSummariseOutcome, strongSummariseLeaves, lookUpOutcome};
+ghost use Rattle.model.specs.Outcomes.{done, counted, found};
+ghost use Rattle.model.specs.Calls.{lookUpOutcome};
 ghost use Rattle.intake.specs.Opening.{stateWith};
 ghost use Rattle.query.specs.Ask.{asked};
-ghost use Rattle.site_form.specs.Writing.{writeOutcome, writeList};
 ghost use Rattle.weak_summary.specs.Status.{statusOf, bits, Stores};
 ghost use Rattle.weak_summary.specs.Flat.{endOf, flatPattern, flatQuery, endNumbers, patternNumbers, queryNumbers, flatQueries};
-ghost use Rattle.weak_summary.specs.Words.{wordsOf, ByWords};
-ghost use Rattle.weak_summary.specs.Calls.{flatAskOutcome, OpenStatus, FeedStatus, lent, formStatus, ReadStatus};
+ghost use Rattle.weak_summary.specs.Words.{wordsOf};
+ghost use Rattle.weak_summary.specs.Calls.{OwnRosterByWords, SaturateByWords, CliquesByWords, SummariseByWords, SummariseStrongByWords, AskByWords, OpenByWords, FeedByWords, WriteByWords, lent, formStatus, ReadStatus};
 use cliques::cliques;
 use intake::feed_lists;
 use intake::open_counts;
@@ -33,9 +31,11 @@ use query::End;
 use query::Pattern;
 use query::Query;
 use query::ask;
+use query::blank_pattern;
 use roster::own_roster;
 use saturate::saturate;
 use site_form::Form;
+use site_form::MOST_ASKS;
 use site_reader::read;
 use site_writer::write;
 use summarise::summarise;
@@ -120,7 +120,7 @@ fn end_of(kind: u32, value: u32) -> End
 }
 
 // The pattern at place k of a flat query.
-fn pattern_at(query: &[u32], k: usize) -> Pattern
+fn flat_pattern(query: &[u32], k: usize) -> Pattern
     requires { ⌜ (length (now query) ≡ 41) × (k < 8) ⌝ }
     ensures { λ p. ⌜ p ≡ flatPattern (now (query .entry)) k ⌝ }
 {
@@ -140,15 +140,10 @@ fn query_of(query: &[u32]) -> Query
     requires { ⌜ length (now query) ≡ 41 ⌝ }
     ensures { λ q. ⌜ q ≡ flatQuery (now (query .entry)) ⌝ }
 {
-    let blank = Pattern {
-        subject: End::Var(0),
-        property: 0,
-        object: End::Var(0),
-    };
-    let mut patterns = [blank; 8];
+    let mut patterns = [blank_pattern(); 8];
     let mut k = 0;
     while k < 8 {
-        patterns[k] = pattern_at(query, k);
+        patterns[k] = flat_pattern(query, k);
         k += 1;
     }
     let count = query[0];
@@ -171,7 +166,7 @@ fn words_of(words: &[u32]) -> Vocabulary
 
 #[no_mangle]
 pub extern "C" fn ws_own_roster(words: &[u32], table: &[u32], roster: &mut [u8]) -> u32
-    ensures { λ s. ⌜ ByWords (now (words .entry)) ((s ≡ 1) × (now (roster .exit) ≡ now (roster .entry))) (λ v. (s ≡ statusOf (ownRosterOutcome v (now (table .entry)) (now (roster .entry)))) × (now (roster .exit) ≡ ownRosterLeaves v (now (table .entry)) (now (roster .entry)))) ⌝ }
+    ensures { λ s. ⌜ OwnRosterByWords (now (words .entry)) (now (table .entry)) (now (roster .entry)) s (now (roster .exit)) ⌝ }
 {
     if words.len() != WORDS_NUMBERS {
         return refusal_number(Refusal::Length);
@@ -188,7 +183,7 @@ pub extern "C" fn ws_saturate(
     result: &mut [u32],
     count: &mut usize,
 ) -> u32
-    ensures { λ s. ⌜ ByWords (now (words .entry)) ((s ≡ 1) × (now (count .exit) ≡ now (count .entry)) × (now (result .exit) ≡ now (result .entry))) (λ v. Stores (saturateOutcome v (now (table .entry)) (now (roster .entry)) (now (result .entry))) (now (count .entry)) s (now (count .exit)) × (now (result .exit) ≡ saturateLeaves v (now (table .entry)) (now (roster .entry)) (now (result .entry)))) ⌝ }
+    ensures { λ s. ⌜ SaturateByWords (now (words .entry)) (now (table .entry)) (now (roster .entry)) (now (result .entry)) (now (count .entry)) s (now (result .exit)) (now (count .exit)) ⌝ }
 {
     if words.len() != WORDS_NUMBERS {
         return refusal_number(Refusal::Length);
@@ -205,7 +200,7 @@ pub extern "C" fn ws_cliques(
     sources: &mut [u32],
     targets: &mut [u32],
 ) -> u32
-    ensures { λ s. ⌜ ByWords (now (words .entry)) ((s ≡ 1) × (now (sources .exit) ≡ now (sources .entry)) × (now (targets .exit) ≡ now (targets .entry))) (λ v. (s ≡ statusOf (cliquesOutcome v (now (table .entry)) (now (roster .entry)) (now (sources .entry)) (now (targets .entry)))) × (now (sources .exit) ≡ cliquesLeave v source (now (table .entry)) (now (roster .entry)) (now (sources .entry)) (now (targets .entry))) × (now (targets .exit) ≡ cliquesLeave v target (now (table .entry)) (now (roster .entry)) (now (sources .entry)) (now (targets .entry)))) ⌝ }
+    ensures { λ s. ⌜ CliquesByWords (now (words .entry)) (now (table .entry)) (now (roster .entry)) (now (sources .entry)) (now (targets .entry)) s (now (sources .exit)) (now (targets .exit)) ⌝ }
 {
     if words.len() != WORDS_NUMBERS {
         return refusal_number(Refusal::Length);
@@ -224,7 +219,7 @@ pub extern "C" fn ws_summarise(
     work: &mut [u32],
     count: &mut usize,
 ) -> u32
-    ensures { λ s. ⌜ ByWords (now (words .entry)) ((s ≡ 1) × (now (count .exit) ≡ now (count .entry)) × (now (result .exit) ≡ now (result .entry)) × (now (map .exit) ≡ now (map .entry)) × (now (work .exit) ≡ now (work .entry))) (λ v. Stores (summariseOutcome v (now (table .entry)) (now (roster .entry)) (now (result .entry)) (now (map .entry)) (now (work .entry))) (now (count .entry)) s (now (count .exit)) × (record { result = now (result .exit); map = now (map .exit); work = now (work .exit) } ≡ summariseLeaves v (now (table .entry)) (now (roster .entry)) (now (result .entry)) (now (map .entry)) (now (work .entry)))) ⌝ }
+    ensures { λ s. ⌜ SummariseByWords (now (words .entry)) (now (table .entry)) (now (roster .entry)) (now (result .entry)) (now (map .entry)) (now (work .entry)) (now (count .entry)) s (now (result .exit)) (now (map .exit)) (now (work .exit)) (now (count .exit)) ⌝ }
 {
     if words.len() != WORDS_NUMBERS {
         return refusal_number(Refusal::Length);
@@ -243,7 +238,7 @@ pub extern "C" fn ws_summarise_strong(
     work: &mut [u32],
     count: &mut usize,
 ) -> u32
-    ensures { λ s. ⌜ ByWords (now (words .entry)) ((s ≡ 1) × (now (count .exit) ≡ now (count .entry)) × (now (result .exit) ≡ now (result .entry)) × (now (map .exit) ≡ now (map .entry)) × (now (work .exit) ≡ now (work .entry))) (λ v. Stores (strongSummariseOutcome v (now (table .entry)) (now (roster .entry)) (now (result .entry)) (now (map .entry)) (now (work .entry))) (now (count .entry)) s (now (count .exit)) × (record { result = now (result .exit); map = now (map .exit); work = now (work .exit) } ≡ strongSummariseLeaves v (now (table .entry)) (now (roster .entry)) (now (result .entry)) (now (map .entry)) (now (work .entry)))) ⌝ }
+    ensures { λ s. ⌜ SummariseStrongByWords (now (words .entry)) (now (table .entry)) (now (roster .entry)) (now (result .entry)) (now (map .entry)) (now (work .entry)) (now (count .entry)) s (now (result .exit)) (now (map .exit)) (now (work .exit)) (now (count .exit)) ⌝ }
 {
     if words.len() != WORDS_NUMBERS {
         return refusal_number(Refusal::Length);
@@ -275,7 +270,7 @@ pub extern "C" fn ws_ask(
     query: &[u32],
     maybe: &mut u32,
 ) -> u32
-    ensures { λ s. ⌜ ByWords (now (words .entry)) ((s ≡ 1) × (now (maybe .exit) ≡ now (maybe .entry))) (λ v. Stores (bits (flatAskOutcome v (now (table .entry)) (now (map .entry)) (now (query .entry)))) (now (maybe .entry)) s (now (maybe .exit))) ⌝ }
+    ensures { λ s. ⌜ AskByWords (now (words .entry)) (now (table .entry)) (now (map .entry)) (now (query .entry)) (now (maybe .entry)) s (now (maybe .exit)) ⌝ }
 {
     if words.len() != WORDS_NUMBERS {
         return refusal_number(Refusal::Length);
@@ -297,7 +292,10 @@ pub extern "C" fn ws_open(
     held: &mut usize,
     summarised: &mut usize,
 ) -> u32
-    ensures { λ s. ⌜ ByWords (now (words .entry)) ((s ≡ 1) × (stateWith (now (triples .exit)) (now (summary .exit)) (now (map .exit)) (now (held .exit)) (now (summarised .exit)) ≡ stateWith (now (triples .entry)) (now (summary .entry)) (now (map .entry)) (now (held .entry)) (now (summarised .entry)))) (λ v. OpenStatus v (now (roster .entry)) (stateWith (now (triples .entry)) (now (summary .entry)) (now (map .entry)) (now (held .entry)) (now (summarised .entry))) s (stateWith (now (triples .exit)) (now (summary .exit)) (now (map .exit)) (now (held .exit)) (now (summarised .exit)))) ⌝ }
+    ensures { λ s. ⌜ OpenByWords (now (words .entry)) (now (roster .entry))
+        (stateWith (now (triples .entry)) (now (summary .entry)) (now (map .entry)) (now (held .entry)) (now (summarised .entry)))
+        s
+        (stateWith (now (triples .exit)) (now (summary .exit)) (now (map .exit)) (now (held .exit)) (now (summarised .exit))) ⌝ }
 {
     if words.len() != WORDS_NUMBERS {
         return refusal_number(Refusal::Length);
@@ -305,8 +303,8 @@ pub extern "C" fn ws_open(
     let loaded = words_of(words);
     let opened = open_counts(*held, *summarised, loaded, roster, triples, summary, map);
     let answer = opened.answer;
-    *held = opened.held;
-    *summarised = opened.summarised;
+    *held = opened.counts.held;
+    *summarised = opened.counts.summarised;
     done_status(answer)
 }
 
@@ -325,7 +323,10 @@ pub extern "C" fn ws_feed(
     summarised: &mut usize,
     new: &mut u32,
 ) -> u32
-    ensures { λ r. ⌜ ByWords (now (words .entry)) ((r ≡ 1) × (now (new .exit) ≡ now (new .entry)) × (now (work .exit) ≡ now (work .entry)) × (stateWith (now (triples .exit)) (now (summary .exit)) (now (map .exit)) (now (held .exit)) (now (summarised .exit)) ≡ stateWith (now (triples .entry)) (now (summary .entry)) (now (map .entry)) (now (held .entry)) (now (summarised .entry)))) (λ v. FeedStatus v (now (roster .entry)) (stateWith (now (triples .entry)) (now (summary .entry)) (now (map .entry)) (now (held .entry)) (now (summarised .entry))) (now (work .entry)) (triple s p o) (now (new .entry)) r (now (new .exit)) (stateWith (now (triples .exit)) (now (summary .exit)) (now (map .exit)) (now (held .exit)) (now (summarised .exit))) (now (work .exit))) ⌝ }
+    ensures { λ r. ⌜ FeedByWords (now (words .entry)) (now (roster .entry))
+        (stateWith (now (triples .entry)) (now (summary .entry)) (now (map .entry)) (now (held .entry)) (now (summarised .entry))) (now (work .entry)) (now (new .entry))
+        (triple s p o) r
+        (stateWith (now (triples .exit)) (now (summary .exit)) (now (map .exit)) (now (held .exit)) (now (summarised .exit))) (now (work .exit)) (now (new .exit)) ⌝ }
 {
     if words.len() != WORDS_NUMBERS {
         return refusal_number(Refusal::Length);
@@ -345,8 +346,8 @@ pub extern "C" fn ws_feed(
         o,
     );
     let answer = fed.answer;
-    *held = fed.held;
-    *summarised = fed.summarised;
+    *held = fed.counts.held;
+    *summarised = fed.counts.summarised;
     found_status(answer, new)
 }
 
@@ -358,7 +359,7 @@ pub extern "C" fn ws_write(
     out: &mut [u8],
     count: &mut usize,
 ) -> u32
-    ensures { λ s. ⌜ ByWords (now (words .entry)) ((s ≡ 1) × (now (count .exit) ≡ now (count .entry)) × (now (out .exit) ≡ now (out .entry))) (λ v. Stores (writeOutcome v n (now (table .entry)) (now (out .entry))) (now (count .entry)) s (now (count .exit)) × (now (out .exit) ≡ writeList v n (now (table .entry)) (now (out .entry)))) ⌝ }
+    ensures { λ s. ⌜ WriteByWords (now (words .entry)) n (now (table .entry)) (now (out .entry)) (now (count .entry)) s (now (out .exit)) (now (count .exit)) ⌝ }
 {
     if words.len() != WORDS_NUMBERS {
         return refusal_number(Refusal::Length);
@@ -412,12 +413,12 @@ fn put_query(list: &mut [u32], k: usize, q: Query)
 }
 
 // Stores sixteen queries as flat queries.
-fn put_queries(list: &mut [u32], queries: [Query; 16])
+fn put_queries(list: &mut [u32], queries: [Query; MOST_ASKS])
     requires { ⌜ length (now list) ≡ 656 ⌝ }
     ensures { λ r. ⌜ now (list .exit) ≡ flatQueries queries ⌝ }
 {
     let mut k = 0;
-    while k < 16 {
+    while k < MOST_ASKS {
         put_query(list, k, queries[k]);
         k += 1;
     }

@@ -2,7 +2,7 @@
 -- Assumes nothing.
 use mathlib.Core.Path.{sym, _∙_}
 use native.Mathlib.Omega.{arith}
-use Rattle.intake.proofs.Adding.{below-map, added-quick, refused-wrong, right-after, added-never, added-slow}
+use Rattle.intake.proofs.Adding.{below-map, as-added, added-quick, refused-wrong, right-after, added-never, added-slow}
 use borrow.Author.Needs.{needs}
 use Rattle.intake.proofs.add.Statement.{statement}
 use Rattle.intake.proofs.add.Tie as tie
@@ -19,8 +19,11 @@ insert-at-requires c κs = search needs
 clear-requires : tie.Need-clear-requires
 clear-requires c κs = search needs
 
-add-t24 : tie.Need-add-t24
-add-t24 c = search needs
+add-added : tie.Need-add-added
+add-added c = search needs
+
+added-requires : tie.Need-added-requires
+added-requires c κs = search needs
 
 same-length : tie.Need-same-length
 same-length c = search needs
@@ -36,9 +39,11 @@ same-length-4 c = search needs
 
 returns : tie.Need-returns
 returns c =
-    let a = c .before .before .before .before .before .before .before .before .before .before .before .before .before .before .before .before .before .args in
-    let p = c .before .before .before .before .before .before .before .before .before .before .before .before .before .before .before .before .before .pre in
-    added-quick _ (a .roster .now) (a .triples .now) (a .summary .now) (a .map .now) (a .work .now) (a .held) (a .summarised) (a .t) (a .i) (p .0) (p .1) (p .2) _ (c .before .before .before .before .before .before .insert-at .ensures) (c .before .before .before .before .before .before .before .before .before .image-known .ensures (c .before .before .before .before .before .before .before .before .if1 .taken)) _ (c .before .before .clear .ensures)
+    let a = c .before .before .before .before .before .before .before .before .before .before .before .before .before .before .before .before .before .before .args in
+    let p = c .before .before .before .before .before .before .before .before .before .before .before .before .before .before .before .before .before .before .pre in
+    let I = c .before .before .before .before .before .before .before .insert-at .ensures in
+    as-added _ (a .roster .now) (a .triples .now) (a .summary .now) (a .map .now) (a .work .now) (a .held) (a .summarised) (a .t) (a .i) (p .0) (p .1) (p .2) _ I _ _ _ (c .added .ensures) _ _ _
+    (added-quick _ (a .roster .now) (a .triples .now) (a .summary .now) (a .map .now) (a .work .now) (a .held) (a .summarised) (a .t) (a .i) (p .0) (p .1) (p .2) _ I (c .before .before .before .before .before .before .before .before .before .before .image-known .ensures (c .before .before .before .before .before .before .before .before .before .if1 .taken)) _ (c .before .before .before .clear .ensures))
 
 held-wrong-requires : tie.Need-held-wrong-requires
 held-wrong-requires c κs = search needs
@@ -87,6 +92,9 @@ refuse-requires-2 c κs = search needs
 enum-known-k : tie.Need-enum-known-k
 enum-known-k c = search needs
 
+added-requires-2 : tie.Need-added-requires-2
+added-requires-2 c κs = search needs
+
 same-length-8 : tie.Need-same-length-8
 same-length-8 c = search needs
 
@@ -119,9 +127,11 @@ same-length-15 c = search needs
 
 returns-4 : tie.Need-returns-4
 returns-4 c =
-    let a = c .before .before .before .before .before .before .before .before .before .before .before .before .before .before .before .before .before .before .before .before .before .before .before .before .before .before .before .before .before .before .args in
-    let p = c .before .before .before .before .before .before .before .before .before .before .before .before .before .before .before .before .before .before .before .before .before .before .before .before .before .before .before .before .before .before .pre in
-    added-slow _ (a .roster .now) (a .triples .now) (a .summary .now) (a .map .now) (a .work .now) (a .held) (a .summarised) (a .t) (a .i) (p .0) (p .1) (p .2) _ (c .before .before .before .before .before .before .before .before .before .before .before .before .before .before .before .before .insert-at2 .ensures) _ _ _ _ (c .before .before .before .before .before .before .before .before .before .condense .ensures) _ (c .before .k .given .1)
+    let a = c .before .before .before .before .before .before .before .before .before .before .before .before .before .before .before .before .before .before .before .before .before .before .before .before .before .before .before .before .before .before .before .args in
+    let p = c .before .before .before .before .before .before .before .before .before .before .before .before .before .before .before .before .before .before .before .before .before .before .before .before .before .before .before .before .before .before .before .pre in
+    let I = c .before .before .before .before .before .before .before .before .before .before .before .before .before .before .before .before .before .insert-at2 .ensures in
+    as-added _ (a .roster .now) (a .triples .now) (a .summary .now) (a .map .now) (a .work .now) (a .held) (a .summarised) (a .t) (a .i) (p .0) (p .1) (p .2) _ I _ _ _ (c .added2 .ensures) _ _ _
+    (added-slow _ (a .roster .now) (a .triples .now) (a .summary .now) (a .map .now) (a .work .now) (a .held) (a .summarised) (a .t) (a .i) (p .0) (p .1) (p .2) _ I _ _ _ _ (c .before .before .before .before .before .before .before .before .before .before .condense .ensures) _ (c .before .before .k .given .1))
 
 pub add-spec : {M : Type 1} → statement M
 add-spec =
@@ -130,7 +140,8 @@ add-spec =
     image-known-requires
     insert-at-requires
     clear-requires
-    add-t24
+    add-added
+    added-requires
     same-length
     same-length-2
     same-length-3
@@ -148,6 +159,7 @@ add-spec =
     enum-known-r
     refuse-requires-2
     enum-known-k
+    added-requires-2
     same-length-8
     same-length-9
     same-length-10

@@ -133,7 +133,7 @@ module _ {M : Type 1} (𝓤 : URA M) (H : Heap 𝓤) (A : Atoms 𝓤) (W : Given
   ans y = EL.val E.the-type E′.the-laws y
 
   abbrev after : FedCounts → Counts
-  after r = record { held = r .held; summarised = r .summarised }
+  after r = r .counts
 
   abbrev Post : Val → SProp 𝓤
   Post = walkOf 𝓤 H A f.ended stayed (f.clauses 𝓤 H A at-mem run) .post (((κ0, (κ1, (κ2, (κ3, (κ4, (κ5, tt)))))), (q0, (q1, (q2, (q3, (q4, (q5, tt)))))), bounds, a, vals), tt)
@@ -150,7 +150,7 @@ module _ {M : Type 1} (𝓤 : URA M) (H : Heap 𝓤) (A : Atoms 𝓤) (W : Given
 
   -- what the callee ensures of its result and of the last lists
   abbrev Said : FedCounts → List ℕ → List ℕ → List ℕ → List ℕ → Type 0
-  Said r z3 z4 z5 z6 = Fed v1 y2 (stateWith y3 y4 y5 (h .held) (h .summarised)) y6 (triple v7 v8 v9) (found (r .answer)) (stateWith z3 z4 z5 (r .held) (r .summarised)) z6
+  Said r z3 z4 z5 z6 = Fed v1 y2 (stateWith y3 y4 y5 (h .held) (h .summarised)) y6 (triple v7 v8 v9) (found (r .answer)) (stateWith z3 z4 z5 (r .counts .held) (r .counts .summarised)) z6
 
   exits : (r : FedCounts) (z3 : List ℕ) (z4 : List ℕ) (z5 : List ℕ) (z6 : List ℕ) → Said r z3 z4 z5 z6 → length z3 ≡ length y3 → length z4 ≡ length y4 → length z5 ≡ length y5 → length z6 ≡ length y6 → Is E.the-row (r .answer) (ans (r .answer) ∷ []) → ent 𝓤 (⋆ 𝓤 H A (‵ (fobs γ (T.the-row .coded .code (after r))) ∷ ‵ (fbor κ0 (Body (mem T.the-row) b o γ)) ∷ ‵ (flft κ0 q0) ∷ (‵ (flft κ1 q1) ⊛ ‵ (flft κ2 q2) ⊛ ‵ (flft κ3 q3) ⊛ ‵ (flft κ4 q4) ⊛ ‵ (flft κ5 q5) ⊛ ‵ ftrue) ∷ ‵ (finally u32 γ3 z3) ∷ ‵ (finally u32 γ4 z4) ∷ ‵ (finally u32 γ5 z5) ∷ ‵ (finally u32 γ6 z6) ∷ [])) (Post (ans (r .answer)))
   exits r z3 z4 z5 z6 e l3 l4 l5 l6 is =
@@ -201,11 +201,12 @@ module _ {M : Type 1} (𝓤 : URA M) (H : Heap 𝓤) (A : Atoms 𝓤) (W : Given
         -- [res; ks; lasts; fin5; fin4; fin3; fin2; cell; own; open; obs; auth; L21; L20; L19; L18; L17; L16; L15; L14; L13; L12; L11; L10; L9; L8; L7; L6; L5; L4; L3; L2; L1; L0]
         land ! (from ! (stop !)) (init ! 32 refl (LL.lawful F.the-type F′.the-laws 𝓤 H A W .typed r _ is .0)) $ rewrite ! 32 (λ (u : Val). ‵ (fat fullShare F′.mir l11 0 u)) (ap only (LL.tells F.the-type F′.the-laws r _ is)) refl $
         let p = LL.owed F.the-type F′.the-laws r _ is in
-        assigns ! (of-opd ! (load ! (from ! (fld ! refl (stop !))) (look-in ! 32 (sub ! 1 refl (whole !))))) (from ! (hop ! (look ! 52 refl) (fld ! refl (stop !)))) (store-in ! 7 (sub ! 0 refl (whole !)) (tt, record { fits = p .1 .0 .1 })) $
-        assigns ! (of-opd ! (load ! (from ! (fld ! refl (stop !))) (look-in ! 32 (sub ! 2 refl (whole !))))) (from ! (hop ! (look ! 52 refl) (fld ! refl (stop !)))) (store-in ! 7 (sub ! 1 refl (whole !)) (tt, record { fits = p .1 .1 .0 .1 })) $
+        let z = LL.owed T.the-type T′.the-laws (r .counts) _ (p .1 .0) in
+        assigns ! (of-opd ! (load ! (from ! (fld ! refl (fld ! refl (stop !)))) (look-in ! 32 (sub ! 0 refl (sub ! 1 refl (whole !)))))) (from ! (hop ! (look ! 52 refl) (fld ! refl (stop !)))) (store-in ! 7 (sub ! 0 refl (whole !)) (tt, record { fits = z .0 .1 })) $
+        assigns ! (of-opd ! (load ! (from ! (fld ! refl (fld ! refl (stop !)))) (look-in ! 32 (sub ! 1 refl (sub ! 1 refl (whole !)))))) (from ! (hop ! (look ! 52 refl) (fld ! refl (stop !)))) (store-in ! 7 (sub ! 1 refl (whole !)) (tt, record { fits = z .1 .0 .1 })) $
         assigns ! (of-opd ! (load ! (from ! (fld ! refl (stop !))) (look-in ! 32 (sub ! 0 refl (whole !))))) (from ! (stop !)) (init ! 54 refl (EL.lawful E.the-type E′.the-laws 𝓤 H A W tt .typed (r .answer) _ (p .0) .0)) $
         -- the record's borrow is closed, at the new counts
-        move ! (8 ∷ []) $ drop ! $ owned ! T.the-row (Is T.the-row) (LL.makes T.the-type T′.the-plain 𝓤 H A) (after r) _ (LL.owes T.the-type T′.the-laws (after r) (p .1 .0, (p .1 .1 .0, tt))) $ move ! (8 ∷ 0 ∷ 9 ∷ 10 ∷ 11 ∷ []) $ closes ! tt T.the-row (after r) (vstruct (vcons (vint w64 (r .held)) (vcons (vint w64 (r .summarised)) vnil)) ∷ []) b o $
+        move ! (8 ∷ []) $ drop ! $ owned ! T.the-row (Is T.the-row) (LL.makes T.the-type T′.the-plain 𝓤 H A) (after r) _ (p .1 .0) $ move ! (8 ∷ 0 ∷ 9 ∷ 10 ∷ 11 ∷ []) $ closes ! tt T.the-row (after r) (vstruct (vcons (vint w64 (r .counts .held)) (vcons (vint w64 (r .counts .summarised)) vnil)) ∷ []) b o $
         -- [obs; bor; k0; res; ks; lasts; fin5; fin4; fin3; fin2; L21; L20; L19; L18; L17; L16; L15; L14; L13; L12; L11; L10; L9; L8; L7; L6; L5; L4; L3; L2; L1; L0]
         returns ! (look ! 52 refl) $ forget ! 10 refl $ forget ! 12 refl $ forget ! 14 refl $ forget ! 16 refl $ forget ! 18 refl $ forget ! 20 refl $ forget ! 22 refl $ forget ! 24 refl $ forget ! 26 refl $ forget ! 28 refl $ forget ! 30 refl $ forget ! 32 refl $ forget ! 34 refl $ forget ! 36 refl $ forget ! 38 refl $ forget ! 40 refl $ forget ! 42 refl $ forget ! 44 refl $ forget ! 46 refl $ forget ! 48 refl $ forget ! 50 refl $ forget ! 52 refl $
         move ! (52 ∷ 53 ∷ []) $ free1 ! $ move ! (50 ∷ 51 ∷ []) $ free1 ! $ move ! (48 ∷ 49 ∷ []) $ free1 ! $ move ! (46 ∷ 47 ∷ []) $ free1 ! $ move ! (44 ∷ 45 ∷ []) $ free1 ! $ move ! (42 ∷ 43 ∷ []) $ free1 ! $ move ! (40 ∷ 41 ∷ []) $ free1 ! $ move ! (38 ∷ 39 ∷ []) $ free1 ! $ move ! (36 ∷ 37 ∷ []) $ free1 ! $ move ! (34 ∷ 35 ∷ []) $ free1 ! $ move ! (32 ∷ 33 ∷ []) $ free1 ! $ move ! (30 ∷ 31 ∷ []) $ free1 ! $ move ! (28 ∷ 29 ∷ []) $ free1 ! $ move ! (26 ∷ 27 ∷ []) $ free1 ! $ move ! (24 ∷ 25 ∷ []) $ free1 ! $ move ! (22 ∷ 23 ∷ []) $ free1 ! $ move ! (20 ∷ 21 ∷ []) $ free1 ! $ move ! (18 ∷ 19 ∷ []) $ free1 ! $ move ! (16 ∷ 17 ∷ []) $ free1 ! $ move ! (14 ∷ 15 ∷ []) $ free1 ! $ move ! (12 ∷ 13 ∷ []) $ free1 ! $ move ! (10 ∷ 11 ∷ []) $ free1 ! $ free0 ! $

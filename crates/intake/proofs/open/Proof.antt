@@ -125,7 +125,7 @@ module _ {M : Type 1} (𝓤 : URA M) (H : Heap 𝓤) (A : Atoms 𝓤) (W : Given
   ans y = EL.val E.the-type E′.the-laws y
 
   abbrev after : OpenedCounts → Counts
-  after r = record { held = r .held; summarised = r .summarised }
+  after r = r .counts
 
   abbrev Post : Val → SProp 𝓤
   Post = walkOf 𝓤 H A f.ended stayed (f.clauses 𝓤 H A at-mem run) .post (((κ0, (κ1, (κ2, (κ3, (κ4, tt))))), (q0, (q1, (q2, (q3, (q4, tt))))), bounds, a, vals), tt)
@@ -142,7 +142,7 @@ module _ {M : Type 1} (𝓤 : URA M) (H : Heap 𝓤) (A : Atoms 𝓤) (W : Given
 
   -- what the callee ensures of its result and of the last lists
   abbrev Said : OpenedCounts → List ℕ → List ℕ → List ℕ → Type 0
-  Said r z3 z4 z5 = Opens v1 y2 (stateWith y3 y4 y5 (h .held) (h .summarised)) (outcome (r .answer)) (stateWith z3 z4 z5 (r .held) (r .summarised))
+  Said r z3 z4 z5 = Opens v1 y2 (stateWith y3 y4 y5 (h .held) (h .summarised)) (outcome (r .answer)) (stateWith z3 z4 z5 (r .counts .held) (r .counts .summarised))
 
   exits : (r : OpenedCounts) (z3 : List ℕ) (z4 : List ℕ) (z5 : List ℕ) → Said r z3 z4 z5 → length z3 ≡ length y3 → length z4 ≡ length y4 → length z5 ≡ length y5 → Is E.the-row (r .answer) (ans (r .answer) ∷ []) → ent 𝓤 (⋆ 𝓤 H A (‵ (fobs γ (T.the-row .coded .code (after r))) ∷ ‵ (fbor κ0 (Body (mem T.the-row) b o γ)) ∷ ‵ (flft κ0 q0) ∷ (‵ (flft κ1 q1) ⊛ ‵ (flft κ2 q2) ⊛ ‵ (flft κ3 q3) ⊛ ‵ (flft κ4 q4) ⊛ ‵ ftrue) ∷ ‵ (finally u32 γ3 z3) ∷ ‵ (finally u32 γ4 z4) ∷ ‵ (finally u32 γ5 z5) ∷ [])) (Post (ans (r .answer)))
   exits r z3 z4 z5 e l3 l4 l5 is =
@@ -190,11 +190,12 @@ module _ {M : Type 1} (𝓤 : URA M) (H : Heap 𝓤) (A : Atoms 𝓤) (W : Given
         -- [res; ks; lasts; fin4; fin3; fin2; cell; own; open; obs; auth; L15; L14; L13; L12; L11; L10; L9; L8; L7; L6; L5; L4; L3; L2; L1; L0]
         land ! (from ! (stop !)) (init ! 27 refl (LL.lawful F.the-type F′.the-laws 𝓤 H A W .typed r _ is .0)) $ rewrite ! 27 (λ (u : Val). ‵ (fat fullShare F′.mir l7 0 u)) (ap only (LL.tells F.the-type F′.the-laws r _ is)) refl $
         let p = LL.owed F.the-type F′.the-laws r _ is in
-        assigns ! (of-opd ! (load ! (from ! (fld ! refl (stop !))) (look-in ! 27 (sub ! 1 refl (whole !))))) (from ! (hop ! (look ! 39 refl) (fld ! refl (stop !)))) (store-in ! 6 (sub ! 0 refl (whole !)) (tt, record { fits = p .1 .0 .1 })) $
-        assigns ! (of-opd ! (load ! (from ! (fld ! refl (stop !))) (look-in ! 27 (sub ! 2 refl (whole !))))) (from ! (hop ! (look ! 39 refl) (fld ! refl (stop !)))) (store-in ! 6 (sub ! 1 refl (whole !)) (tt, record { fits = p .1 .1 .0 .1 })) $
+        let z = LL.owed T.the-type T′.the-laws (r .counts) _ (p .1 .0) in
+        assigns ! (of-opd ! (load ! (from ! (fld ! refl (fld ! refl (stop !)))) (look-in ! 27 (sub ! 0 refl (sub ! 1 refl (whole !)))))) (from ! (hop ! (look ! 39 refl) (fld ! refl (stop !)))) (store-in ! 6 (sub ! 0 refl (whole !)) (tt, record { fits = z .0 .1 })) $
+        assigns ! (of-opd ! (load ! (from ! (fld ! refl (fld ! refl (stop !)))) (look-in ! 27 (sub ! 1 refl (sub ! 1 refl (whole !)))))) (from ! (hop ! (look ! 39 refl) (fld ! refl (stop !)))) (store-in ! 6 (sub ! 1 refl (whole !)) (tt, record { fits = z .1 .0 .1 })) $
         assigns ! (of-opd ! (load ! (from ! (fld ! refl (stop !))) (look-in ! 27 (sub ! 0 refl (whole !))))) (from ! (stop !)) (init ! 41 refl (EL.lawful E.the-type E′.the-laws 𝓤 H A W tt .typed (r .answer) _ (p .0) .0)) $
         -- the record's borrow is closed, at the new counts
-        move ! (7 ∷ []) $ drop ! $ owned ! T.the-row (Is T.the-row) (LL.makes T.the-type T′.the-plain 𝓤 H A) (after r) _ (LL.owes T.the-type T′.the-laws (after r) (p .1 .0, (p .1 .1 .0, tt))) $ move ! (7 ∷ 0 ∷ 8 ∷ 9 ∷ 10 ∷ []) $ closes ! tt T.the-row (after r) (vstruct (vcons (vint w64 (r .held)) (vcons (vint w64 (r .summarised)) vnil)) ∷ []) b o $
+        move ! (7 ∷ []) $ drop ! $ owned ! T.the-row (Is T.the-row) (LL.makes T.the-type T′.the-plain 𝓤 H A) (after r) _ (p .1 .0) $ move ! (7 ∷ 0 ∷ 8 ∷ 9 ∷ 10 ∷ []) $ closes ! tt T.the-row (after r) (vstruct (vcons (vint w64 (r .counts .held)) (vcons (vint w64 (r .counts .summarised)) vnil)) ∷ []) b o $
         -- [obs; bor; k0; res; ks; lasts; fin4; fin3; fin2; L15; L14; L13; L12; L11; L10; L9; L8; L7; L6; L5; L4; L3; L2; L1; L0]
         returns ! (look ! 39 refl) $ forget ! 9 refl $ forget ! 11 refl $ forget ! 13 refl $ forget ! 15 refl $ forget ! 17 refl $ forget ! 19 refl $ forget ! 21 refl $ forget ! 23 refl $ forget ! 25 refl $ forget ! 27 refl $ forget ! 29 refl $ forget ! 31 refl $ forget ! 33 refl $ forget ! 35 refl $ forget ! 37 refl $ forget ! 39 refl $
         move ! (39 ∷ 40 ∷ []) $ free1 ! $ move ! (37 ∷ 38 ∷ []) $ free1 ! $ move ! (35 ∷ 36 ∷ []) $ free1 ! $ move ! (33 ∷ 34 ∷ []) $ free1 ! $ move ! (31 ∷ 32 ∷ []) $ free1 ! $ move ! (29 ∷ 30 ∷ []) $ free1 ! $ move ! (27 ∷ 28 ∷ []) $ free1 ! $ move ! (25 ∷ 26 ∷ []) $ free1 ! $ move ! (23 ∷ 24 ∷ []) $ free1 ! $ move ! (21 ∷ 22 ∷ []) $ free1 ! $ move ! (19 ∷ 20 ∷ []) $ free1 ! $ move ! (17 ∷ 18 ∷ []) $ free1 ! $ move ! (15 ∷ 16 ∷ []) $ free1 ! $ move ! (13 ∷ 14 ∷ []) $ free1 ! $ move ! (11 ∷ 12 ∷ []) $ free1 ! $ move ! (9 ∷ 10 ∷ []) $ free1 ! $ free0 ! $

@@ -1,4 +1,4 @@
-use Rattle.model.specs.Outcomes.{number}
+use Rattle.model.specs.Outcomes.{refusalNumber}
 use borrow.Author.Needs.{needs}
 use Rattle.model.proofs.refusal_number.Statement.{statement}
 use Rattle.model.proofs.refusal_number.Tie as tie
@@ -33,39 +33,39 @@ enum-told-9 : tie.Need-enum-told-9
 enum-told-9 c = search needs
 
 returns : tie.Need-returns
-unfolding number
+unfolding refusalNumber
 returns c = rw (c .enum-told .given .1)
 
 returns-2 : tie.Need-returns-2
-unfolding number
+unfolding refusalNumber
 returns-2 c = rw (c .enum-told2 .given .1)
 
 returns-3 : tie.Need-returns-3
-unfolding number
+unfolding refusalNumber
 returns-3 c = rw (c .enum-told3 .given .1)
 
 returns-4 : tie.Need-returns-4
-unfolding number
+unfolding refusalNumber
 returns-4 c = rw (c .enum-told4 .given .1)
 
 returns-5 : tie.Need-returns-5
-unfolding number
+unfolding refusalNumber
 returns-5 c = rw (c .enum-told5 .given .1)
 
 returns-6 : tie.Need-returns-6
-unfolding number
+unfolding refusalNumber
 returns-6 c = rw (c .enum-told6 .given .1)
 
 returns-7 : tie.Need-returns-7
-unfolding number
+unfolding refusalNumber
 returns-7 c = rw (c .enum-told7 .given .1)
 
 returns-8 : tie.Need-returns-8
-unfolding number
+unfolding refusalNumber
 returns-8 c = rw (c .enum-told8 .given .1)
 
 returns-9 : tie.Need-returns-9
-unfolding number
+unfolding refusalNumber
 returns-9 c = rw (c .enum-told9 .given .1)
 
 pub refusal-number-spec : {M : Type 1} → statement M

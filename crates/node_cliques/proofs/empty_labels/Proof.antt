@@ -8,13 +8,13 @@ use lib.ListN.{length}
 use borrow.Author.Needs.{needs}
 use Rattle.model.specs.Codes.{absent}
 use Rattle.node_cliques.specs.Labels.{isLabel}
-use Rattle.node_cliques.specs.Labelling.{Filled}
+use Rattle.node_cliques.specs.Labelling.{EntriesFilled}
 use Rattle.node_cliques.proofs.Fills.{filled-start, filled-set, filled-skip, filled-end}
 use Rattle.node_cliques.proofs.empty_labels.Statement.{statement}
 use Rattle.node_cliques.proofs.empty_labels.Tie as tie
 
 abbrev Inv-loop : tie.InvT-loop
-Inv-loop words roster list₀ i₀ list i = Filled (isLabel words roster) absent list₀ list i
+Inv-loop words roster list₀ i₀ list i = EntriesFilled (isLabel words roster) absent list₀ list i
 
 abbrev μ-loop : tie.MeasureT-loop
 μ-loop words roster list₀ i₀ list i = length roster - i

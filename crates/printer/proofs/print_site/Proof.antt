@@ -6,7 +6,7 @@ use Rattle.printer.proofs.print_site.Statement.{statement}
 use Rattle.printer.proofs.print_site.Tie as tie
 use Rattle.printer.proofs.print_site.Reads as reads
 use Rattle.printer.proofs.print_site.Lts as lts
-use Rattle.printer.proofs.print_table.Reads as print-table-reads
+use Rattle.printer.proofs.check_and_print.Reads as check-and-print-reads
 use Rattle.printer.proofs.refuse.Reads as refuse-reads
 use Rattle.site_reader.proofs.read.Reads as read-reads
 
@@ -40,26 +40,26 @@ same-length-2 c = search needs
 returns-2 : tie.Need-returns-2
 returns-2 c = text-refused _ _ refl (c .before .before .before .before .before .before .before .before .before .before .if1 .left) _ _ (c .before .before .before .before .before .before .before .before .read .ensures) _ (c .before .before .before .before .enum-told2 .given .1) _ _ _ (c .before .before .refuse2 .ensures)
 
-mul-print-table : tie.Need-mul-print-table
-mul-print-table c = let h = count-few _ _ refl (c .before .before .before .before .before .before .before .before .before .before .if1 .left) _ _ (c .before .before .before .before .before .before .before .before .read .ensures) (c .before .before .before .before .enum-told .given .1) in omega arith
+mul-check-and-print : tie.Need-mul-check-and-print
+mul-check-and-print c = let h = count-few _ _ refl (c .before .before .before .before .before .before .before .before .before .before .if1 .left) _ _ (c .before .before .before .before .before .before .before .before .read .ensures) (c .before .before .before .before .enum-told .given .1) in omega arith
 
-sub-print-table : tie.Need-sub-print-table
-sub-print-table c = search needs
+sub-check-and-print : tie.Need-sub-check-and-print
+sub-check-and-print c = search needs
 
-part-print-table-start : tie.Need-part-print-table-start
-part-print-table-start c = search needs
+part-check-and-print-start : tie.Need-part-check-and-print-start
+part-check-and-print-start c = search needs
 
-part-print-table-end : tie.Need-part-print-table-end
-part-print-table-end c = count-end _ _ refl (c .before .before .before .before .before .before .before .before .before .before .before .if1 .left) _ _ (c .before .before .before .before .before .before .before .before .before .read .ensures) (c .before .before .before .before .before .enum-told .given .1)
+part-check-and-print-end : tie.Need-part-check-and-print-end
+part-check-and-print-end c = count-end _ _ refl (c .before .before .before .before .before .before .before .before .before .before .before .if1 .left) _ _ (c .before .before .before .before .before .before .before .before .before .read .ensures) (c .before .before .before .before .before .enum-told .given .1)
 
-print-table-requires : tie.Need-print-table-requires
-print-table-requires c κs = (asks-few _ _ refl (c .before .before .before .before .before .before .before .before .before .before .before .before .if1 .left) _ _ (c .before .before .before .before .before .before .before .before .before .before .read .ensures) (c .before .before .before .before .before .before .enum-told .given .1), part-flat _ _ refl (c .before .before .before .before .before .before .before .before .before .before .before .before .if1 .left) _ _ (c .before .before .before .before .before .before .before .before .before .before .read .ensures) (c .before .before .before .before .before .before .enum-told .given .1), part-few _ _ refl (c .before .before .before .before .before .before .before .before .before .before .before .before .if1 .left) _ _ (c .before .before .before .before .before .before .before .before .before .before .read .ensures) (c .before .before .before .before .before .before .enum-told .given .1))
+check-and-print-requires : tie.Need-check-and-print-requires
+check-and-print-requires c κs = (asks-few _ _ refl (c .before .before .before .before .before .before .before .before .before .before .before .before .if1 .left) _ _ (c .before .before .before .before .before .before .before .before .before .before .read .ensures) (c .before .before .before .before .before .before .enum-told .given .1), part-flat _ _ refl (c .before .before .before .before .before .before .before .before .before .before .before .before .if1 .left) _ _ (c .before .before .before .before .before .before .before .before .before .before .read .ensures) (c .before .before .before .before .before .before .enum-told .given .1), part-few _ _ refl (c .before .before .before .before .before .before .before .before .before .before .before .before .if1 .left) _ _ (c .before .before .before .before .before .before .before .before .before .before .read .ensures) (c .before .before .before .before .before .before .enum-told .given .1))
 
 same-length-3 : tie.Need-same-length-3
 same-length-3 c = search needs
 
 returns-3 : tie.Need-returns-3
-returns-3 c = text-put _ _ refl (c .before .before .before .before .before .before .before .before .before .before .before .before .before .before .before .if1 .left) _ _ (c .before .before .before .before .before .before .before .before .before .before .before .before .before .read .ensures) (c .before .before .before .before .before .before .before .before .before .enum-told .given .1) _ _ _ (c .before .before .print-table .ensures)
+returns-3 c = text-put _ _ refl (c .before .before .before .before .before .before .before .before .before .before .before .before .before .before .before .if1 .left) _ _ (c .before .before .before .before .before .before .before .before .before .before .before .before .before .read .ensures) (c .before .before .before .before .before .before .before .before .before .enum-told .given .1) _ _ _ (c .before .before .check-and-print .ensures)
 
 pub print-site-spec : {M : Type 1} → statement M
 print-site-spec =
@@ -75,10 +75,10 @@ print-site-spec =
     refuse-requires-2
     same-length-2
     returns-2
-    mul-print-table
-    sub-print-table
-    part-print-table-start
-    part-print-table-end
-    print-table-requires
+    mul-check-and-print
+    sub-check-and-print
+    part-check-and-print-start
+    part-check-and-print-end
+    check-and-print-requires
     same-length-3
     returns-3)

@@ -6,7 +6,7 @@ use Rattle.site_parts.proofs.next_pattern.Statement.{statement}
 use Rattle.site_parts.proofs.next_pattern.Tie as tie
 use Rattle.site_parts.proofs.next_pattern.Reads as reads
 use Rattle.site_parts.proofs.next_pattern.Lts as lts
-use Rattle.site_parts.proofs.pattern.Reads as pattern-reads
+use Rattle.site_parts.proofs.pattern_form.Reads as pattern-form-reads
 use Rattle.site_parts.proofs.word.Reads as word-reads
 
 slice-aggregate-word : tie.Need-slice-aggregate-word
@@ -24,11 +24,11 @@ enum-told c = search needs
 returns : tie.Need-returns
 returns c = sym (next-bad _ _ (sym (c .before .before .word .ensures) ∙ ap wordStep (c .enum-told .given .1)))
 
-pattern-requires : tie.Need-pattern-requires
-pattern-requires c κs = search needs
+pattern-form-requires : tie.Need-pattern-form-requires
+pattern-form-requires c κs = search needs
 
 returns-2 : tie.Need-returns-2
-returns-2 c = c .pattern .ensures ∙ sym (next-is _ _ _ _ (sym (c .before .before .before .before .word .ensures) ∙ ap wordStep (c .before .before .next .given .1)))
+returns-2 c = c .pattern-form .ensures ∙ sym (next-is _ _ _ _ (sym (c .before .before .before .before .word .ensures) ∙ ap wordStep (c .before .before .next .given .1)))
 
 pub next-pattern-spec : {M : Type 1} → statement M
 next-pattern-spec =
@@ -39,5 +39,5 @@ next-pattern-spec =
     enum-known-next
     enum-told
     returns
-    pattern-requires
+    pattern-form-requires
     returns-2)

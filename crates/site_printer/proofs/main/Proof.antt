@@ -16,6 +16,9 @@ large-buffer-requires c κs = search needs
 large-buffer-requires-2 : tie.Need-large-buffer-requires-2
 large-buffer-requires-2 c κs = search needs
 
+add-read-full : tie.Need-add-read-full
+add-read-full c = search needs
+
 sub-read-full : tie.Need-sub-read-full
 sub-read-full c = search needs
 
@@ -64,6 +67,7 @@ main-spec =
     (tie.spec
     large-buffer-requires
     large-buffer-requires-2
+    add-read-full
     sub-read-full
     part-input-start
     part-input-end

@@ -1,5 +1,5 @@
 use mathlib.Core.Path.{sym, _∙_, ap}
-use Rattle.site_parts.specs.Steps.{numberStep}
+use Rattle.site_parts.specs.Steps.{numberStep, wordStep}
 use Rattle.site_reader.proofs.Whole.{read-no-site, read-not-ended, read-no-slots, read-all, lines-fit}
 use borrow.Author.Needs.{needs}
 use Rattle.site_reader.proofs.read.Statement.{statement}
@@ -8,6 +8,7 @@ use Rattle.site_reader.proofs.read.Reads as reads
 use Rattle.site_reader.proofs.read.Lts as lts
 use Rattle.lists.proofs.clear.Reads as clear-reads
 use Rattle.site_parts.proofs.site_line.Reads as site-line-reads
+use Rattle.site_parts.proofs.text_end.Reads as text-end-reads
 use Rattle.site_reader.proofs.ask_lines.Reads as ask-lines-reads
 use Rattle.site_reader.proofs.refuse.Reads as refuse-reads
 use Rattle.site_reader.proofs.some_words.Reads as some-words-reads
@@ -40,6 +41,15 @@ triple-lines-requires c κs = search needs
 ask-lines-requires : tie.Need-ask-lines-requires
 ask-lines-requires c κs = search needs
 
+text-end-requires : tie.Need-text-end-requires
+text-end-requires c κs = search needs
+
+enum-told-2 : tie.Need-enum-told-2
+enum-told-2 c = search needs
+
+enum-told-3 : tie.Need-enum-told-3
+enum-told-3 c = search needs
+
 refuse-requires-2 : tie.Need-refuse-requires-2
 refuse-requires-2 c κs = search needs
 
@@ -47,7 +57,16 @@ same-length-2 : tie.Need-same-length-2
 same-length-2 c = search needs
 
 returns-2 : tie.Need-returns-2
-returns-2 c = read-not-ended _ _ _ _ (sym (c .before .before .before .before .before .before .before .before .before .before .before .before .before .before .before .site-line .ensures) ∙ ap numberStep (c .before .before .before .before .before .before .before .before .before .before .before .before .before .size .given .1)) (c .before .before .before .before .before .before .before .before .before .before .before .some-words .result) (c .before .before .before .before .before .before .before .before .before .before .before .some-words .ensures) _ (c .before .before .before .before .before .before .before .before .before .triple-lines .result) (c .before .before .before .before .before .before .before .before .before .triple-lines .ensures) (c .before .before .before .before .before .before .ask-lines .result) (c .before .before .before .before .before .before .ask-lines .ensures) (c .before .before .before .before .if1 .taken) _ _ (c .before .before .refuse2 .ensures)
+returns-2 c =
+    let at-told = c .before .before .before .before in
+    let at-end = at-told .before .before in
+    let at-asks = at-end .before in
+    let at-lines = at-asks .before .before .before in
+    let at-words = at-lines .before .before in
+    let at-size = at-words .before .before in
+    let at-site = at-size .before .before in
+    read-not-ended _ _ _ _ (sym (at-site .site-line .ensures) ∙ ap numberStep (at-size .size .given .1)) (at-words .some-words .result) (at-words .some-words .ensures) _ (at-lines .triple-lines .result) (at-lines .triple-lines .ensures) (at-asks .ask-lines .result) (at-asks .ask-lines .ensures)
+    (sym (at-end .text-end .ensures) ∙ ap wordStep (at-told .enum-told3 .given .1)) _ _ (c .before .before .refuse2 .ensures)
 
 refuse-requires-3 : tie.Need-refuse-requires-3
 refuse-requires-3 c κs = search needs
@@ -56,10 +75,20 @@ same-length-3 : tie.Need-same-length-3
 same-length-3 c = search needs
 
 returns-3 : tie.Need-returns-3
-returns-3 c = read-no-slots _ _ _ _ (sym (c .before .before .before .before .before .before .before .before .before .before .before .before .before .before .before .before .before .site-line .ensures) ∙ ap numberStep (c .before .before .before .before .before .before .before .before .before .before .before .before .before .before .before .size .given .1)) (c .before .before .before .before .before .before .before .before .before .before .before .before .before .some-words .result) (c .before .before .before .before .before .before .before .before .before .before .before .before .before .some-words .ensures) _ (c .before .before .before .before .before .before .before .before .before .before .before .triple-lines .result) (c .before .before .before .before .before .before .before .before .before .before .before .triple-lines .ensures) (c .before .before .before .before .before .before .before .before .ask-lines .result) (c .before .before .before .before .before .before .before .before .ask-lines .ensures) (c .before .before .before .before .before .before .if1 .left) (c .before .before .before .before .if2 .taken) _ _ (c .before .before .refuse3 .ensures)
+returns-3 c =
+    let at-test = c .before .before .before .before in
+    let at-told = at-test .before .before in
+    let at-end = at-told .before .before in
+    let at-asks = at-end .before in
+    let at-lines = at-asks .before .before .before in
+    let at-words = at-lines .before .before in
+    let at-size = at-words .before .before in
+    let at-site = at-size .before .before in
+    read-no-slots _ _ _ _ (sym (at-site .site-line .ensures) ∙ ap numberStep (at-size .size .given .1)) (at-words .some-words .result) (at-words .some-words .ensures) _ (at-lines .triple-lines .result) (at-lines .triple-lines .ensures) (at-asks .ask-lines .result) (at-asks .ask-lines .ensures)
+    _ _ (sym (at-end .text-end .ensures) ∙ ap wordStep (at-told .enum-told2 .given .1)) (at-test .if1 .taken) _ _ (c .before .before .refuse3 .ensures)
 
 mul-clear : tie.Need-mul-clear
-mul-clear c = record { fits = lines-fit _ _ _ _ _ (c .before .before .before .before .before .before .before .before .before .triple-lines .ensures) }
+mul-clear c = record { fits = lines-fit _ _ _ _ _ (c .before .before .before .before .before .before .before .before .before .before .triple-lines .ensures) }
 
 clear-requires : tie.Need-clear-requires
 clear-requires c κs = search needs
@@ -68,7 +97,18 @@ same-length-4 : tie.Need-same-length-4
 same-length-4 c = search needs
 
 returns-4 : tie.Need-returns-4
-returns-4 c = read-all _ _ _ _ (sym (c .before .before .before .before .before .before .before .before .before .before .before .before .before .before .before .before .before .before .before .before .site-line .ensures) ∙ ap numberStep (c .before .before .before .before .before .before .before .before .before .before .before .before .before .before .before .before .before .before .size .given .1)) (c .before .before .before .before .before .before .before .before .before .before .before .before .before .before .before .before .some-words .result) (c .before .before .before .before .before .before .before .before .before .before .before .before .before .before .before .before .some-words .ensures) _ (c .before .before .before .before .before .before .before .before .before .before .before .before .before .before .triple-lines .result) (c .before .before .before .before .before .before .before .before .before .before .before .before .before .before .triple-lines .ensures) (c .before .before .before .before .before .before .before .before .before .before .before .ask-lines .result) (c .before .before .before .before .before .before .before .before .before .before .before .ask-lines .ensures) (c .before .before .before .before .before .before .before .before .before .if1 .left) (c .before .before .before .before .before .before .before .if2 .left) _ (c .before .before .before .before .clear .ensures)
+returns-4 c =
+    let at-clear = c .before .before .before .before in
+    let at-test = at-clear .before .before .before in
+    let at-told = at-test .before .before in
+    let at-end = at-told .before .before in
+    let at-asks = at-end .before in
+    let at-lines = at-asks .before .before .before in
+    let at-words = at-lines .before .before in
+    let at-size = at-words .before .before in
+    let at-site = at-size .before .before in
+    read-all _ _ _ _ (sym (at-site .site-line .ensures) ∙ ap numberStep (at-size .size .given .1)) (at-words .some-words .result) (at-words .some-words .ensures) _ (at-lines .triple-lines .result) (at-lines .triple-lines .ensures) (at-asks .ask-lines .result) (at-asks .ask-lines .ensures)
+    _ _ (sym (at-end .text-end .ensures) ∙ ap wordStep (at-told .enum-told2 .given .1)) (at-test .if1 .left) _ (at-clear .clear .ensures)
 
 pub read-spec : {M : Type 1} → statement M
 read-spec =
@@ -83,6 +123,9 @@ read-spec =
     some-words-requires
     triple-lines-requires
     ask-lines-requires
+    text-end-requires
+    enum-told-2
+    enum-told-3
     refuse-requires-2
     same-length-2
     returns-2

@@ -6,7 +6,7 @@ use Rattle.site_texts.proofs.show_texts.Tie as tie
 use Rattle.site_texts.proofs.show_texts.Reads as reads
 use Rattle.site_texts.proofs.show_texts.Lts as lts
 use Rattle.site_texts.proofs.show_text.Reads as show-text-reads
-use Rattle.site_texts.proofs.text_end.Reads as text-end-reads
+use Rattle.site_texts.proofs.next_mark.Reads as next-mark-reads
 
 abbrev Inv-loop : tie.InvT-loop
 Inv-loop input i₀ k₀ i k = k ≤ i + 1
@@ -17,8 +17,8 @@ abbrev μ-loop : tie.MeasureT-loop
 loop-holds : tie.Need-loop-holds Inv-loop μ-loop
 loop-holds c = search needs
 
-text-end-requires : tie.Need-text-end-requires Inv-loop μ-loop
-text-end-requires c κs = search needs
+next-mark-requires : tie.Need-next-mark-requires Inv-loop μ-loop
+next-mark-requires c κs = search needs
 
 sub-show-text : tie.Need-sub-show-text Inv-loop μ-loop
 sub-show-text c = search needs
@@ -54,7 +54,7 @@ show-texts-spec =
     Inv-loop
     μ-loop
     loop-holds
-    text-end-requires
+    next-mark-requires
     sub-show-text
     part-show-text-start
     part-show-text-end

@@ -1,8 +1,9 @@
 -- `weak_summary::query_of` meets its contract.
 -- Assumes nothing.
 use Prim.Native.Nat.{_-_}
-use mathlib.Core.Path.{refl}
+use mathlib.Core.Path.{ap}
 use native.Mathlib.Omega.{arith}
+use lib.ListN.{replicate}
 use borrow.Author.Needs.{needs}
 use Rattle.weak_summary.proofs.Queries.{Patterns, patterns-start, patterns-step, patterns-end}
 use Rattle.weak_summary.proofs.query_of.Statement.{statement}
@@ -14,11 +15,14 @@ Inv-loop query patterns₀ k₀ patterns k = Patterns query patterns k
 abbrev μ-loop : tie.MeasureT-loop
 μ-loop query patterns₀ k₀ patterns k = 8 - k
 
-loop-holds : tie.Need-loop-holds Inv-loop μ-loop
-loop-holds c = patterns-start _ _ refl
+blank-pattern-requires : tie.Need-blank-pattern-requires Inv-loop μ-loop
+blank-pattern-requires c κs = search needs
 
-pattern-at-requires : tie.Need-pattern-at-requires Inv-loop μ-loop
-pattern-at-requires c κs = search needs
+loop-holds : tie.Need-loop-holds Inv-loop μ-loop
+loop-holds c = patterns-start _ _ (ap (replicate 8) (c .blank-pattern .ensures))
+
+flat-pattern-requires : tie.Need-flat-pattern-requires Inv-loop μ-loop
+flat-pattern-requires c κs = search needs
 
 mul-patterns : tie.Need-mul-patterns Inv-loop μ-loop
 mul-patterns c = search needs
@@ -33,7 +37,7 @@ loop-less : tie.Need-loop-less Inv-loop μ-loop
 loop-less c = omega arith
 
 loop-again : tie.Need-loop-again Inv-loop μ-loop
-loop-again c = patterns-step _ _ _ (c .before .before .loop .inv) (c .before .loop-test .taken) _ (c .pattern-at .ensures)
+loop-again c = patterns-step _ _ _ (c .before .before .loop .inv) (c .before .loop-test .taken) _ (c .flat-pattern .ensures)
 
 shared-slice-read-count : tie.Need-shared-slice-read-count Inv-loop μ-loop
 shared-slice-read-count c = search needs
@@ -47,8 +51,9 @@ query-of-spec =
     (tie.spec
     Inv-loop
     μ-loop
+    blank-pattern-requires
     loop-holds
-    pattern-at-requires
+    flat-pattern-requires
     mul-patterns
     array-set-from-patterns
     add-k

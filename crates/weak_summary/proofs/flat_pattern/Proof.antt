@@ -1,9 +1,9 @@
--- `weak_summary::pattern_at` meets its contract.
+-- `weak_summary::flat_pattern` meets its contract.
 -- Assumes nothing.
 use borrow.Author.Needs.{needs}
 use Rattle.weak_summary.proofs.Queries.{pattern-made}
-use Rattle.weak_summary.proofs.pattern_at.Statement.{statement}
-use Rattle.weak_summary.proofs.pattern_at.Tie as tie
+use Rattle.weak_summary.proofs.flat_pattern.Statement.{statement}
+use Rattle.weak_summary.proofs.flat_pattern.Tie as tie
 
 mul-i : tie.Need-mul-i
 mul-i c = search needs
@@ -62,8 +62,8 @@ end-of-requires-2 c κs = search needs
 returns : tie.Need-returns
 returns c = pattern-made _ _ _ _ (c .before .before .before .before .end-of .ensures) (c .end-of2 .ensures)
 
-pub pattern-at-spec : {M : Type 1} → statement M
-pattern-at-spec =
+pub flat-pattern-spec : {M : Type 1} → statement M
+flat-pattern-spec =
     tie.close
     (tie.spec
     mul-i

@@ -1,15 +1,15 @@
 use mathlib.Core.Path.{sym, _∙_}
 use Rattle.printer.proofs.Reports.{shows}
-use Rattle.printer.proofs.Parts.{site-small, site-large, site-words, site-codes, site-valid, is-valid}
+use Rattle.printer.proofs.Parts.{site-small, site-large, site-words, site-codes, site-checked, is-checked}
 use borrow.Author.Needs.{needs}
-use Rattle.printer.proofs.print_table.Statement.{statement}
-use Rattle.printer.proofs.print_table.Tie as tie
-use Rattle.printer.proofs.print_table.Reads as reads
-use Rattle.printer.proofs.print_table.Lts as lts
+use Rattle.printer.proofs.check_and_print.Statement.{statement}
+use Rattle.printer.proofs.check_and_print.Tie as tie
+use Rattle.printer.proofs.check_and_print.Reads as reads
+use Rattle.printer.proofs.check_and_print.Lts as lts
 use Rattle.checks.proofs.codes_wrong.Reads as codes-wrong-reads
 use Rattle.checks.proofs.size_wrong.Reads as size-wrong-reads
 use Rattle.checks.proofs.words_wrong.Reads as words-wrong-reads
-use Rattle.printer.proofs.print_valid.Reads as print-valid-reads
+use Rattle.printer.proofs.print_checked_table.Reads as print-checked-table-reads
 use Rattle.printer.proofs.refuse.Reads as refuse-reads
 use Rattle.lists.proofs.wide.Reads as wide-reads
 
@@ -61,17 +61,17 @@ same-length-4 c = search needs
 returns-4 : tie.Need-returns-4
 returns-4 c = shows _ _ _ (site-codes _ _ _ (c .before .before .before .before .before .before .before .before .before .before .before .wide .ensures) _ _ _ (sym (c .before .before .before .before .before .before .before .before .before .before .size-wrong .ensures) ∙ c .before .before .before .before .before .before .before .before .before .if1 .left) (c .before .before .before .before .before .before .before .before .if2 .left) (sym (c .before .before .before .before .before .before .before .words-wrong .ensures) ∙ c .before .before .before .before .before .before .if3 .left) (sym (c .before .before .before .before .before .codes-wrong .ensures) ∙ c .before .before .before .before .if4 .taken)) _ _ (c .before .before .refuse4 .ensures)
 
-print-valid-requires : tie.Need-print-valid-requires
-print-valid-requires c κs = (c .before .before .before .before .before .before .before .before .before .before .before .pre .0, is-valid _ (c .before .before .before .before .before .before .before .before .before .before .before .args .size) _ (c .before .before .before .before .before .before .before .before .wide .ensures) _ (c .before .before .before .before .before .before .before .before .before .before .before .args .queries) (c .before .before .before .before .before .before .before .before .before .before .before .args .count) (sym (c .before .before .before .before .before .before .before .size-wrong .ensures) ∙ c .before .before .before .before .before .before .if1 .left) (c .before .before .before .before .before .if2 .left) (sym (c .before .before .before .before .words-wrong .ensures) ∙ c .before .before .before .if3 .left) (sym (c .before .before .codes-wrong .ensures) ∙ c .before .if4 .left) (c .before .before .before .before .before .before .before .before .before .before .before .pre .1) (c .before .before .before .before .before .before .before .before .before .before .before .pre .2))
+print-checked-table-requires : tie.Need-print-checked-table-requires
+print-checked-table-requires c κs = (c .before .before .before .before .before .before .before .before .before .before .before .pre .0, is-checked _ (c .before .before .before .before .before .before .before .before .before .before .before .args .size) _ (c .before .before .before .before .before .before .before .before .wide .ensures) _ (c .before .before .before .before .before .before .before .before .before .before .before .args .queries) (c .before .before .before .before .before .before .before .before .before .before .before .args .count) (sym (c .before .before .before .before .before .before .before .size-wrong .ensures) ∙ c .before .before .before .before .before .before .if1 .left) (c .before .before .before .before .before .if2 .left) (sym (c .before .before .before .before .words-wrong .ensures) ∙ c .before .before .before .if3 .left) (sym (c .before .before .codes-wrong .ensures) ∙ c .before .if4 .left) (c .before .before .before .before .before .before .before .before .before .before .before .pre .1) (c .before .before .before .before .before .before .before .before .before .before .before .pre .2))
 
 same-length-5 : tie.Need-same-length-5
 same-length-5 c = search needs
 
 returns-5 : tie.Need-returns-5
-returns-5 c = shows _ _ _ (site-valid _ _ _ (c .before .before .before .before .before .before .before .before .before .before .before .wide .ensures) _ _ _ (sym (c .before .before .before .before .before .before .before .before .before .before .size-wrong .ensures) ∙ c .before .before .before .before .before .before .before .before .before .if1 .left) (c .before .before .before .before .before .before .before .before .if2 .left) (sym (c .before .before .before .before .before .before .before .words-wrong .ensures) ∙ c .before .before .before .before .before .before .if3 .left) (sym (c .before .before .before .before .before .codes-wrong .ensures) ∙ c .before .before .before .before .if4 .left)) _ _ (c .before .before .print-valid .ensures)
+returns-5 c = shows _ _ _ (site-checked _ _ _ (c .before .before .before .before .before .before .before .before .before .before .before .wide .ensures) _ _ _ (sym (c .before .before .before .before .before .before .before .before .before .before .size-wrong .ensures) ∙ c .before .before .before .before .before .before .before .before .before .if1 .left) (c .before .before .before .before .before .before .before .before .if2 .left) (sym (c .before .before .before .before .before .before .before .words-wrong .ensures) ∙ c .before .before .before .before .before .before .if3 .left) (sym (c .before .before .before .before .before .codes-wrong .ensures) ∙ c .before .before .before .before .if4 .left)) _ _ (c .before .before .print-checked-table .ensures)
 
-pub print-table-spec : {M : Type 1} → statement M
-print-table-spec =
+pub check-and-print-spec : {M : Type 1} → statement M
+check-and-print-spec =
     tie.close
     (tie.spec
     wide-requires
@@ -90,6 +90,6 @@ print-table-spec =
     refuse-requires-4
     same-length-4
     returns-4
-    print-valid-requires
+    print-checked-table-requires
     same-length-5
     returns-5)

@@ -1,10 +1,10 @@
 use mathlib.Core.Path.{sym, _∙_}
 use Rattle.printer.proofs.Reports.{room-found, asks-refused, asks-accepted}
 use borrow.Author.Needs.{needs}
-use Rattle.printer.proofs.print_answers.Statement.{statement}
-use Rattle.printer.proofs.print_answers.Tie as tie
-use Rattle.printer.proofs.print_answers.Reads as reads
-use Rattle.printer.proofs.print_answers.Lts as lts
+use Rattle.printer.proofs.ask_and_print.Statement.{statement}
+use Rattle.printer.proofs.ask_and_print.Tie as tie
+use Rattle.printer.proofs.ask_and_print.Reads as reads
+use Rattle.printer.proofs.ask_and_print.Lts as lts
 use Rattle.printer.proofs.any_refused.Reads as any-refused-reads
 use Rattle.printer.proofs.ask_all.Reads as ask-all-reads
 use Rattle.printer.proofs.put_report.Reads as put-report-reads
@@ -34,8 +34,8 @@ same-length-2 c = search needs
 returns-2 : tie.Need-returns-2
 returns-2 c = asks-accepted _ _ _ _ (c .before .before .before .before .before .before .ask-all .ensures) _ _ _ (sym (c .before .before .before .before .before .any-refused .ensures) ∙ c .before .before .before .before .if1 .left) (c .before .before .put-report .ensures)
 
-pub print-answers-spec : {M : Type 1} → statement M
-print-answers-spec =
+pub ask-and-print-spec : {M : Type 1} → statement M
+ask-and-print-spec =
     tie.close
     (tie.spec
     ask-all-requires

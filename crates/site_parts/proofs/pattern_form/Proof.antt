@@ -2,10 +2,10 @@ use mathlib.Core.Path.{sym, _∙_, ap}
 use Rattle.site_parts.specs.Steps.{numberStep, wordStep, endStep}
 use Rattle.site_parts.proofs.Forms.{pattern-bad-subject, pattern-bad-property, pattern-bad-object, pattern-open, pattern-got}
 use borrow.Author.Needs.{needs}
-use Rattle.site_parts.proofs.pattern.Statement.{statement}
-use Rattle.site_parts.proofs.pattern.Tie as tie
-use Rattle.site_parts.proofs.pattern.Reads as reads
-use Rattle.site_parts.proofs.pattern.Lts as lts
+use Rattle.site_parts.proofs.pattern_form.Statement.{statement}
+use Rattle.site_parts.proofs.pattern_form.Tie as tie
+use Rattle.site_parts.proofs.pattern_form.Reads as reads
+use Rattle.site_parts.proofs.pattern_form.Lts as lts
 use Rattle.site_parts.proofs.end_after.Reads as end-after-reads
 use Rattle.site_parts.proofs.number_after.Reads as number-after-reads
 use Rattle.site_parts.proofs.word.Reads as word-reads
@@ -73,8 +73,8 @@ returns-4 c = sym (pattern-open _ _ _ _ (sym (c .before .before .before .before 
 returns-5 : tie.Need-returns-5
 returns-5 c = sym (pattern-got _ _ _ _ (sym (c .before .before .before .before .before .before .before .before .before .before .before .before .before .before .before .before .before .before .end-after .ensures) ∙ ap endStep (c .before .before .before .before .before .before .before .before .before .before .before .before .before .before .before .before .subject .given .1)) _ _ (sym (c .before .before .before .before .before .before .before .before .before .before .before .before .before .number-after .ensures) ∙ ap numberStep (c .before .before .before .before .before .before .before .before .before .before .before .property .given .1)) _ _ (sym (c .before .before .before .before .before .before .before .before .end-after2 .ensures) ∙ ap endStep (c .before .before .before .before .before .before .object .given .1)) _ _ (sym (c .before .before .before .word .ensures) ∙ ap wordStep (c .before .next .given .1)))
 
-pub pattern-spec : {M : Type 1} → statement M
-pattern-spec =
+pub pattern-form-spec : {M : Type 1} → statement M
+pattern-form-spec =
     tie.close
     (tie.spec
     slice-aggregate-end-after

@@ -1,10 +1,10 @@
 use Prim.Native.Nat.{_-_, _≤_}
 use lib.ListN.{length}
 use borrow.Author.Needs.{needs}
-use Rattle.site_texts.proofs.text_end.Statement.{statement}
-use Rattle.site_texts.proofs.text_end.Tie as tie
-use Rattle.site_texts.proofs.text_end.Reads as reads
-use Rattle.site_texts.proofs.text_end.Lts as lts
+use Rattle.site_texts.proofs.next_mark.Statement.{statement}
+use Rattle.site_texts.proofs.next_mark.Tie as tie
+use Rattle.site_texts.proofs.next_mark.Reads as reads
+use Rattle.site_texts.proofs.next_mark.Lts as lts
 
 abbrev Inv-loop : tie.InvT-loop
 Inv-loop input from i₀ i = (from ≤ i) × (i ≤ length input)
@@ -33,8 +33,8 @@ loop-again c = search needs
 returns-2 : tie.Need-returns-2 Inv-loop μ-loop
 returns-2 c = search needs
 
-pub text-end-spec : {M : Type 1} → statement M
-text-end-spec =
+pub next-mark-spec : {M : Type 1} → statement M
+next-mark-spec =
     tie.close
     (tie.spec
     Inv-loop

@@ -1,0 +1,69 @@
+// Opening and feeding with the record of counts by value, for the test programs: through these they run `intake::open` and
+// `intake::feed`, the form that the scope paper names. The checker does not write the proof of a function that lends a local record
+// by `&mut`, and so it stands here once for each call.
+
+ghost use Rattle.model.specs.Triples.{triple};
+ghost use Rattle.model.specs.Outcomes.{done, found};
+ghost use Rattle.model.specs.Intake.{Fed};
+ghost use Rattle.intake.specs.Opening.{stateWith, Opens};
+use intake::Counts;
+use intake::FedCounts;
+use intake::OpenedCounts;
+use model::Vocabulary;
+
+// Opens an intake whose record is `counts`.
+pub fn open_by_value(
+    counts: Counts,
+    words: Vocabulary,
+    roster: &[u8],
+    triples: &mut [u32],
+    summary: &mut [u32],
+    map: &mut [u32],
+) -> OpenedCounts
+    ensures { λ r. ⌜ Opens words (now (roster .entry))
+        (stateWith (now (triples .entry)) (now (summary .entry)) (now (map .entry)) (counts .held) (counts .summarised)) (done (r .answer))
+        (stateWith (now (triples .exit)) (now (summary .exit)) (now (map .exit)) (r .counts .held) (r .counts .summarised)) ⌝ }
+{
+    let mut record = counts;
+    let answer = intake::open(&mut record, words, roster, triples, summary, map);
+    OpenedCounts {
+        answer,
+        counts: record,
+    }
+}
+
+// Feeds a triple to an intake whose record is `counts`.
+pub fn feed_by_value(
+    counts: Counts,
+    words: Vocabulary,
+    roster: &[u8],
+    triples: &mut [u32],
+    summary: &mut [u32],
+    map: &mut [u32],
+    work: &mut [u32],
+    s: u32,
+    p: u32,
+    o: u32,
+) -> FedCounts
+    ensures { λ r. ⌜ Fed words (now (roster .entry))
+        (stateWith (now (triples .entry)) (now (summary .entry)) (now (map .entry)) (counts .held) (counts .summarised)) (now (work .entry)) (triple s p o) (found (r .answer))
+        (stateWith (now (triples .exit)) (now (summary .exit)) (now (map .exit)) (r .counts .held) (r .counts .summarised)) (now (work .exit)) ⌝ }
+{
+    let mut record = counts;
+    let answer = intake::feed(
+        &mut record,
+        words,
+        roster,
+        triples,
+        summary,
+        map,
+        work,
+        s,
+        p,
+        o,
+    );
+    FedCounts {
+        answer,
+        counts: record,
+    }
+}
