@@ -1,7 +1,8 @@
 /*
  * The weak summary of a site graph: the calls of the proved engine, for C.
  *
- * Link with libweak_summary.a (rt staticlib weak_summary writes it to target/staticlib/). x86-64 Linux.
+ * Link with libweak_summary.a (rt staticlib weak_summary writes it to target/staticlib/). x86-64 Linux. Of other libraries it
+ * uses only memcpy and memset.
  *
  * Each name begins with ws, for weak summary.
  *
@@ -12,12 +13,34 @@
  *   property; a triple whose property is no word is a data triple.
  *   A triple is three codes: subject, property, object. A table is a list of triples, three numbers each, at most
  *   WS_MAX_TRIPLES; repeats count once.
- *   A roster has one byte for each code: 0 unmarked, 1 class, 2 property, 3 both; the words are unmarked. N is its length.
+ *   A roster has one byte for each code: 0 unmarked, 1 class, 2 property, 3 both; the words are unmarked. N is its length. It
+ *   covers a table if it marks each of these roles, and may mark more:
+ *     property of the triple    marked as class     marked as property
+ *     type                      object
+ *     subclass                  subject, object
+ *     subproperty                                   subject, object
+ *     domain, range             object              subject
+ *     no word                                       the property
+ *   A node is a code that is subject or object of a triple. A marked node represents itself; only unmarked nodes are put
+ *   together.
  *   Slots are a list's length divided by 3, rounded down.
  *
+ * What a controller does
+ *   1  ws_own_roster of its table, or a roster of its own that covers the table.
+ *   2  ws_saturate the table with that roster. The list has to be long enough for what the rules give; 5 says that it is not.
+ *   3  ws_summarise the 3 * *count numbers of the saturation with that roster, into as many numbers: a summary never has more
+ *      triples than its table. This gives the summary and its map, which belong together.
+ *   4  ws_ask the summary by its map. "none" means that the saturated table has no match; see at ws_ask what that needs.
+ *   The words are the same in each call.
+ *
  * Lists
- *   A list is a pointer and a length in elements, not in bytes. The pointer is never null, also where the length is 0.
+ *   A list is a pointer and a length in elements, not in bytes; the bytes of a text are counted without a closing zero.
+ *   Where the length is 0 the pointer may be NULL; nothing is read or written through it. No other pointer is NULL.
  *   The lists that a call may alter overlap with no other argument. The engine keeps no pointer and allocates nothing.
+ *
+ * Threads
+ *   The library has no variables of its own. Calls may run at the same time, where nothing that one of them may alter is lent
+ *   to another.
  *
  * Answers
  *   Each call returns WS_OK or the number of a refusal. The checks run in the order that stands at the call, each over all
@@ -49,6 +72,7 @@ extern "C" {
 #define WS_MAX_TEXT_TRIPLES 1000 /* the most triples of a text */
 #define WS_MAX_ASKS 16          /* the most queries of a text */
 #define WS_MAX_PATTERNS 8       /* the most patterns of a query */
+#define WS_MAX_WRITTEN 22051    /* the most bytes that ws_write writes */
 
 /* The numbers of a list of words, of a flat query, and of the sixteen flat queries of a text. */
 #define WS_WORDS_NUMBERS 5
@@ -74,6 +98,17 @@ extern "C" {
 /* Kinds of an end in a flat query. */
 #define WS_VARIABLE 0
 #define WS_CODE 1
+
+/*
+ * The stack that a call uses, in bytes, with its arguments. Measured and rounded up, not proved: bindings/c/stack.c does it,
+ * with 65,536 codes and 1,048,576 triples, with the numbers and the queries that go deepest. ws_ask uses less for fewer
+ * patterns or triples: with p patterns and t triples at most 2,000 + 928 * p * (1 + log2 t). A dynamic linker that binds
+ * memcpy and memset when they are first called uses more at that time.
+ */
+#define WS_STACK_ASK 163840    /* ws_ask */
+#define WS_STACK_READ 10240    /* ws_read */
+#define WS_STACK_SORTING 8192  /* ws_saturate, ws_summarise, ws_summarise_strong, ws_feed */
+#define WS_STACK_OTHERS 512    /* each other call */
 
 /* Answers. */
 #define WS_OK 0
@@ -103,7 +138,7 @@ uint32_t ws_own_roster(const uint32_t *words, size_t words_length, const uint32_
  *   a subproperty b, b domain c  give  a domain c        a domain c, c subclass d  give  a domain d
  *   a subproperty b, b range c   give  a range c         a range c, c subclass d   give  a range d
  *   result  any length; takes the triples, the rest is zero.
- *   *count  the number of triples.
+ *   *count  the number of triples. They may be more than WS_MAX_TRIPLES, and are then no table for another call.
  * Refusals, in order
  *   1  the words not five; N out of range; the table not a multiple of 3, or over WS_MAX_TRIPLES triples
  *   10, 2, 3, 4
@@ -130,7 +165,7 @@ uint32_t ws_cliques(const uint32_t *words, size_t words_length, const uint32_t *
 
 /*
  * Summarise, weakly: the table's triples with each subject and object replaced by its representative.
- *   result  any length; takes the summary, the rest is zero.
+ *   result  any length; takes the summary, the rest is zero. As many numbers as the table has are always enough.
  *   map     N numbers: each node's representative, WS_ABSENT for a code that is no node, so for each word.
  *   work    2 * N numbers with any content; zero afterwards.
  *   *count  the number of triples of the summary.
@@ -183,6 +218,13 @@ uint32_t ws_look_up(const uint32_t *list, size_t list_length, uint32_t subject, 
  *   10, 3
  *   6  a count of 0 or over 8; in a counted pattern a kind over 1, a variable over 7, or a code or property not below N
  * They alter nothing.
+ * "none" is safe only on the summary of a saturated table, asked by the map that came with that summary: then the saturated
+ * table has no match, which is a choice of nodes that puts every pattern, its codes as they are, in it.
+ *   The plain summary, of a table that was not saturated, lacks what the rules give. Of the six triples
+ *     5 subproperty 7     6 subproperty 7     7 domain 8     8 subclass 9     10 5 12     11 6 13
+ *   it says "none" to ((v 0) 7 (v 1)), though 10 7 12 is in their saturation. An intake's summary is a plain one.
+ *   By another map a code stands for another node, or for none. In the summary of that saturation 10 represents 11; by the
+ *   plain summary's map, in which 11 is itself, it says "none" to ((c 11) 6 (v 0)), though 11 6 13 is one of the six.
  */
 uint32_t ws_ask(const uint32_t *words, size_t words_length, const uint32_t *table, size_t table_length,
                 const uint32_t *map, size_t map_length, const uint32_t *query, size_t query_length, uint32_t *maybe);
@@ -219,9 +261,12 @@ uint32_t ws_open(const uint32_t *words, size_t words_length, const uint8_t *rost
  *   4  of the fed triple
  *   7  the triple is new and every slot holds one; a triple that is held passes
  * They alter nothing, not even the work list.
- * If lists or counts were altered between calls, the call ends safely, refusals 1, 10, 2, 3 and 4 hold as above, any other
- * answer is acceptance or 7, and the lists keep their lengths; their contents are open. Another roster or another word table
- * than at opening counts as altered state of an intake.
+ * If lists or counts were altered between calls, or the words or the roster are others than at opening, the call still ends
+ * safely, and this holds: refusals 1, 10, 2, 3 and 4 are as above; after 7 nothing is altered; after "not new" the work list
+ * is zero and all else stays as it is; after "new" the work list is zero, *held is one more, and *held and *summarised are at
+ * most the slots. Open are which of "new", "not new" and 7 is answered and, after "new", what triples, summary and map hold
+ * and what *summarised is. Counts that were altered stay so after 7 and "not new": compare them with the slots before they
+ * are used as lengths.
  */
 uint32_t ws_feed(const uint32_t *words, size_t words_length, const uint8_t *roster, size_t roster_length,
                  uint32_t *triples, size_t triples_length, uint32_t *summary, size_t summary_length, uint32_t *map,
@@ -232,7 +277,8 @@ uint32_t ws_feed(const uint32_t *words, size_t words_length, const uint8_t *rost
  * Write the site form: the line (site N), then, unless the words are 0, 1, 2, 3, 4 in this sequence, the line
  * (words A B C D E), then a line (t S P O) for each triple of the table in its order.
  *   n       the site size N.
- *   out     any length; takes the bytes, the rest is zero. There is no closing zero byte of its own.
+ *   out     any length; takes the bytes, the rest is zero. WS_MAX_WRITTEN bytes are always enough: 13 for (site 65536), 38 for
+ *           the words, 22 for each of 1,000 triples. No closing zero is written.
  *   *count  the number of bytes.
  * Refusals, in order
  *   1  the words not five; n out of range; the table not a multiple of 3, or over WS_MAX_TEXT_TRIPLES triples
@@ -244,7 +290,17 @@ uint32_t ws_write(const uint32_t *words, size_t words_length, uint32_t n, const 
                   uint8_t *out, size_t out_length, size_t *count);
 
 /*
- * Read the site form: the line (site N), a line (words A B C D E) or none, lines (t S P O), lines (ask PATTERN ...).
+ * Read the site form. LF is byte 10, each space is one byte 32, and nothing else stands before, between or behind the lines:
+ *   text     SITE, WORDS or nothing, 0 to 1,000 TRIPLE, 0 to 16 ASK
+ *   SITE     (site NUMBER)LF
+ *   WORDS    (words NUMBER NUMBER NUMBER NUMBER NUMBER)LF
+ *   TRIPLE   (t NUMBER NUMBER NUMBER)LF
+ *   ASK      (ask PATTERN)LF, with one to eight patterns and a space before each
+ *   PATTERN  (END NUMBER END)
+ *   END      (v NUMBER), a variable, or (c NUMBER), a code
+ *   NUMBER   0 to 4294967295 in base ten, without leading zeros
+ * Lent are
+ *   text     its bytes, without the closing zero of a C string.
  *   list     any length; takes the triples as they stand in the text, repeats too; the rest is zero.
  *   queries  WS_QUERIES_NUMBERS numbers: sixteen flat queries. Those past *asks, and patterns past a count, are zero.
  *   words    WS_WORDS_NUMBERS numbers: the words as they stand in the text, 0 to 4 where it has no such line.

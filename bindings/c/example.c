@@ -1,6 +1,6 @@
-/* The papers' example through the C interface: read, own roster, saturate, summarise, the same two on the summary, ask, and an
-   intake; then all of it with other words than 0 to 4, and the two summaries of a chain. Each result is checked against the
-   papers'. */
+/* The papers' example through the C interface, in the header's sequence: read, own roster, saturate, summarise, ask; also the
+   same on the summary, what ask says where the sequence is not kept, and an intake. Then all of it with other words than 0 to
+   4, and the two summaries of a chain. Each result is checked against the papers'. */
 #include <stdio.h>
 #include <string.h>
 
@@ -109,6 +109,38 @@ static void ask_both(uint32_t n, size_t count) {
     }
 }
 
+/* Asks whether a subject has a property, by a map. */
+static uint32_t ask_one(const uint32_t *list, size_t count, const uint32_t *by, uint32_t kind, uint32_t subject,
+                        uint32_t property) {
+    const uint32_t query[WS_QUERY_NUMBERS] = {1, kind, subject, property, WS_VARIABLE, 1};
+    uint32_t maybe = 2;
+    check(ws_ask(words, WS_WORDS_NUMBERS, list, 3 * count, by, N, query, WS_QUERY_NUMBERS, &maybe) == WS_OK, "query accepted");
+    return maybe;
+}
+
+static int saturation_has(size_t all, uint32_t subject, uint32_t property, uint32_t object) {
+    uint32_t found = 2;
+    return ws_look_up(saturated, 3 * all, subject, property, object, &found) == WS_OK && found == 1;
+}
+
+/* "none" is safe only of the summary of the saturated table, asked by that summary's own map. Property 7 has triples in the
+   saturation only, so the plain summary wrongly says "none" of it; and 11, represented by 10, is no node of the summary, so by
+   the plain map, in which 11 is itself, the summary wrongly says "none" of 11. */
+static void wrong_none(size_t count) {
+    static uint32_t plain[18], plain_map[N];
+    size_t all = 0, plain_count = 0;
+    uint32_t status =
+        ws_summarise(words, WS_WORDS_NUMBERS, table, 18, roster, N, plain, 18, plain_map, N, work, 2 * N, &plain_count);
+    check(status == WS_OK && plain_count == 6, "plain summary has 6 triples");
+    check(saturate(N, saturated, 3 * SLOTS, &all) == WS_OK, "saturation accepted");
+    check(saturation_has(all, 10, 7, 12), "10 7 12 is in the saturation");
+    check(ask_one(plain, plain_count, plain_map, WS_VARIABLE, 0, 7) == 0, "plain summary: none has 7, which is wrong");
+    check(ask_one(summary, count, map, WS_VARIABLE, 0, 7) == 1, "summary of the saturation: maybe");
+    check(saturation_has(all, 11, 6, 13), "11 6 13 is in the saturation");
+    check(ask_one(summary, count, plain_map, WS_CODE, 11, 6) == 0, "by another map: none, which is wrong");
+    check(ask_one(summary, count, map, WS_CODE, 11, 6) == 1, "by its own map: maybe");
+}
+
 /* Feeds the six triples, last first, each twice, to an intake of six slots. */
 static void feed_all(uint32_t n) {
     static uint32_t held_triples[18], held_summary[18], held_map[OTHER_N];
@@ -136,6 +168,7 @@ static void the_papers_words(void) {
     check(memcmp(map, MAP, sizeof MAP) == 0, "map");
     rework(N, count);
     ask_both(N, count);
+    wrong_none(count);
     feed_all(N);
 }
 

@@ -194,16 +194,38 @@ pub fn chain(random: &mut Random, report: &mut Report, mistake: Mistake, [n, amo
     }
 }
 
-/// A feed to an altered state, which another word table than at opening is too. It must end; refusals 1, 10, 2, 3 and 4 hold as
-/// ever, any other answer is acceptance or 7, and what the lists then hold is open.
+/// What must hold after a feed to an altered state. Refusals 1, 10, 2, 3 and 4 are as ever, and any other answer is "new", "not new"
+/// or 7. After 7 nothing is altered, after "not new" only the work list, which is zero. After "new" the work list is zero, one more
+/// is held and both counts are at most the slots; what the lists and the map then hold, and what the count of the summary is, is open.
+fn expect_altered(before: &Lent, ours: &Outcome<Lent>) -> Outcome<Lent> {
+    let mut expected = run(before, |l| plain::feed_refusal(&l.words, &l.roster, l.fed));
+    if expected.status != plain::OK {
+        return expected;
+    }
+    if ours.status == plain::FULL {
+        expected.status = plain::FULL;
+        return expected;
+    }
+    let lent = &mut expected.lent;
+    lent.work.fill(0);
+    lent.is_new = ours.lent.is_new.min(1);
+    if lent.is_new == 1 {
+        let slots = before.triples.len() / 3;
+        lent.triples.clone_from(&ours.lent.triples);
+        lent.summary.clone_from(&ours.lent.summary);
+        lent.map.clone_from(&ours.lent.map);
+        lent.held = before.held.wrapping_add(1).min(slots);
+        lent.summarised = ours.lent.summarised.min(slots);
+    }
+    expected
+}
+
+/// A feed to an altered state, which another word table than at opening is too.
 fn compare_altered(report: &mut Report, before: &Lent) {
     let ours = run(before, feed);
-    let mut expected = run(before, |l| plain::feed_refusal(&l.words, &l.roster, l.fed));
-    if expected.status == plain::OK && [plain::OK, plain::FULL].contains(&ours.status) {
-        let lent = Lent { words: before.words.clone(), roster: before.roster.clone(), ..ours.lent.clone() };
-        expected = Outcome { status: ours.status, lent };
-    }
-    report.compare(Call::FeedAltered, before, ours, expected, true);
+    let expected = expect_altered(before, &ours);
+    let new = ours.lent.is_new == 1;
+    report.compare(Call::FeedAltered, before, ours, expected, new);
 }
 
 /// A feed to lists and counts altered by hand.

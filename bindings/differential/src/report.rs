@@ -47,7 +47,7 @@ impl Call {
         match self {
             Call::LookUp => Some(["found", "not found"]),
             Call::Ask => Some(["maybe", "none"]),
-            Call::Feed => Some(["new", "not new"]),
+            Call::Feed | Call::FeedAltered => Some(["new", "not new"]),
             _ => None,
         }
     }

@@ -66,7 +66,7 @@ impl Intake {
         &self.triples[..3 * self.held]
     }
 
-    /// Their summary.
+    /// Their summary: the plain one, so [`ask`](crate::ask) may say "none" of it where their saturation has a match.
     pub fn summary(&self) -> &[u32] {
         &self.summary[..3 * self.summarised]
     }

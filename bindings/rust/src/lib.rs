@@ -3,6 +3,9 @@
 //! Lists are slices, a refusal is an error, and an accepted call gives its values. The calls that judge codes take the reserved
 //! ones, [`Words`], first. What a call leaves in each slice is said in `include/weak_summary.h`; [`calls`] has the same calls with
 //! the status and the lent numbers as they are.
+//!
+//! A controller takes the [`own_roster`] of its table, [`saturate`]s the table, [`summarise`]s the saturation, and [`ask`]s that
+//! summary by its own map.
 
 pub mod calls;
 pub mod ffi;
@@ -56,7 +59,8 @@ pub fn cliques(
     accepted(calls::cliques(&words.0, table, roster, sources, targets))
 }
 
-/// Puts the summary and the map and gives the number of triples. The work list has 2 × N numbers.
+/// Puts the summary and the map and gives the number of triples. The work list has 2 × N numbers. A result as long as the table is
+/// always long enough.
 pub fn summarise(
     words: Words,
     table: &[u32],

@@ -92,6 +92,9 @@ impl Query {
 }
 
 /// Whether some choice of nodes for the variables puts every pattern in the table; N is the map's length.
+///
+/// [`Answer::None`] is safe only on the summary of a saturated table, asked by the map that came with that summary: then the saturated
+/// table has no match. The plain summary of another table, an [`Intake`](crate::Intake)'s too, lacks what the rules give.
 pub fn ask(words: Words, table: &[u32], map: &[u32], query: &Query) -> Result<Answer, Refusal> {
     let mut maybe = 0;
     accepted(calls::ask(&words.0, table, map, &query.flat(), &mut maybe))?;

@@ -15,7 +15,7 @@ pub struct Site {
     pub queries: Vec<Query>,
 }
 
-/// Reads a text in the site form; its triples go into the list.
+/// Reads a text in the site form, whose grammar is in `include/weak_summary.h`; its triples go into the list.
 pub fn read(text: &[u8], list: &mut [u32]) -> Result<Site, Refusal> {
     let mut flat = [0; QUERIES_NUMBERS];
     let mut words = Words::default();
@@ -26,7 +26,7 @@ pub fn read(text: &[u8], list: &mut [u32]) -> Result<Site, Refusal> {
 }
 
 /// Writes the site line, the words unless they are 0 to 4 in this sequence, and the table's triples, and gives the number of
-/// bytes.
+/// bytes. 22,051 bytes are always enough.
 pub fn write(words: Words, n: u32, table: &[u32], out: &mut [u8]) -> Result<usize, Refusal> {
     let mut count = 0;
     accepted(calls::write(&words.0, n, table, out, &mut count)).map(|()| count)

@@ -1,0 +1,263 @@
+/* The edges of the C interface: the most bytes that are written, a summary as long as its table, lists of length 0, and
+   intakes that were altered between calls. The last line says how many checks failed. */
+#include <stdio.h>
+#include <string.h>
+
+#include "weak_summary.h"
+
+#define N 12
+#define SLOTS 2
+#define FIVE RDFS, WS_WORDS_NUMBERS
+#define NONE NULL, 0
+
+static const uint32_t RDFS[WS_WORDS_NUMBERS] = WS_RDFS_WORDS;
+static const uint32_t ONE[3] = {10, 5, 11};
+
+/* The own roster of that triple. */
+static const uint8_t ROSTER[N] = {0, 0, 0, 0, 0, WS_PROPERTY};
+
+/* Whether something has property 5. */
+static const uint32_t QUERY[WS_QUERY_NUMBERS] = {1, WS_VARIABLE, 0, 5, WS_VARIABLE, 1};
+
+static uint32_t queries[WS_QUERIES_NUMBERS], words[WS_WORDS_NUMBERS], map[N], work[2 * N], number;
+static size_t count, held, summarised, asks;
+static int checks, failures;
+
+static void check(int holds, const char *what) {
+    checks++;
+    if (!holds && failures++ < 20) {
+        printf("C edges: NOT SO: %s\n", what);
+    }
+}
+
+/* Whether each of so many numbers is this one. */
+static int all(const uint32_t *list, size_t length, uint32_t value) {
+    for (size_t i = 0; i < length; i++) {
+        if (list[i] != value) {
+            return 0;
+        }
+    }
+    return 1;
+}
+
+/* Sets map, work and all that takes an answer to 9. */
+static void spoil(void) {
+    for (size_t i = 0; i < 2 * N; i++) {
+        map[i / 2] = work[i] = 9;
+    }
+    count = held = summarised = asks = number = 9;
+}
+
+/* Writes 1,000 triples of five digits each into just this many bytes, then into one less. */
+static void written(const uint32_t *by, size_t bytes) {
+    static uint32_t table[3 * WS_MAX_TEXT_TRIPLES + 3];
+    static uint8_t out[WS_MAX_WRITTEN + 1];
+    for (size_t i = 0; i < sizeof table / sizeof *table; i++) {
+        table[i] = i % 3 == 1 ? 65535 : 10000;
+    }
+    memset(out, 1, sizeof out);
+    uint32_t status = ws_write(by, WS_WORDS_NUMBERS, WS_MAX_SIZE, table, 3 * WS_MAX_TEXT_TRIPLES, out, bytes, &count);
+    check(status == WS_OK && count == bytes && out[bytes - 1] == '\n' && out[bytes] == 1, "the longest text fills its list");
+    count = 9;
+    status = ws_write(by, WS_WORDS_NUMBERS, WS_MAX_SIZE, table, 3 * WS_MAX_TEXT_TRIPLES, out, bytes - 1, &count);
+    check(status == WS_REFUSED_SLOTS && count == 9, "one byte less is refused with 5");
+    check(out[0] == 0 && memcmp(out, out + 1, bytes - 2) == 0 && out[bytes] == 1, "after 5 the list is zero");
+    status = ws_write(by, WS_WORDS_NUMBERS, WS_MAX_SIZE, table, 3 * WS_MAX_TEXT_TRIPLES + 3, out, sizeof out, &count);
+    check(status == WS_REFUSED_LENGTH, "1,001 triples are refused with 1");
+}
+
+static void longest_texts(void) {
+    static const uint32_t high[WS_WORDS_NUMBERS] = {65531, 65532, 65533, 65534, 65535};
+    written(RDFS, 22013);
+    written(high, WS_MAX_WRITTEN);
+}
+
+/* A summary has at most as many triples as its table, and may have as many. */
+static void longest_summaries(void) {
+    static const uint32_t table[6] = {10, 5, 11, 10, 6, 5};
+    static const uint8_t roster[N] = {0, 0, 0, 0, 0, WS_PROPERTY, WS_PROPERTY};
+    uint32_t result[6];
+    spoil();
+    uint32_t status = ws_summarise(FIVE, table, 6, roster, N, result, 6, map, N, work, 2 * N, &count);
+    check(status == WS_OK && count == 2 && memcmp(result, table, sizeof table) == 0, "as many triples as the table");
+    status = ws_summarise_strong(FIVE, table, 6, roster, N, result, 6, map, N, work, 2 * N, &count);
+    check(status == WS_OK && count == 2, "as many triples as the table, strongly");
+    status = ws_summarise(FIVE, table, 6, roster, N, result, 5, map, N, work, 2 * N, &count);
+    check(status == WS_REFUSED_SLOTS && all(result, 5, 0), "one slot less is refused with 5");
+}
+
+/* A table of length 0 has no triples. */
+static void no_table(void) {
+    uint8_t roster[N];
+    memset(roster, 9, N);
+    spoil();
+    check(ws_own_roster(FIVE, NONE, roster, N) == WS_OK && roster[0] == 0 && memcmp(roster, roster + 1, N - 1) == 0,
+          "the own roster of nothing marks nothing");
+    check(ws_saturate(FIVE, NONE, roster, N, NONE, &count) == WS_OK && count == 0, "nothing saturated in no list");
+    check(ws_cliques(FIVE, NONE, roster, N, map, N, work, N) == WS_OK && all(map, N, WS_ABSENT) && all(work, N, WS_ABSENT),
+          "no cliques");
+    spoil();
+    check(ws_summarise(FIVE, NONE, roster, N, NONE, map, N, work, 2 * N, &count) == WS_OK && count == 0, "no summary");
+    check(all(map, N, WS_ABSENT) && all(work, 2 * N, 0), "no node");
+    spoil();
+    check(ws_summarise_strong(FIVE, NONE, roster, N, NONE, map, N, work, 2 * N, &count) == WS_OK && count == 0, "nor strongly");
+    check(all(map, N, WS_ABSENT) && all(work, 2 * N, 0), "no node, strongly");
+    check(ws_look_up(NONE, 1, 2, 3, &number) == WS_OK && number == 0, "nothing is found in nothing");
+    number = 9;
+    check(ws_ask(FIVE, NONE, map, N, QUERY, WS_QUERY_NUMBERS, &number) == WS_OK && number == 0, "nothing is known of nothing");
+}
+
+/* A result list of length 0 has no slots. */
+static void no_slots(void) {
+    spoil();
+    check(ws_saturate(FIVE, ONE, 3, ROSTER, N, NONE, &count) == WS_REFUSED_SLOTS && count == 9, "no slots to saturate");
+    check(ws_summarise(FIVE, ONE, 3, ROSTER, N, NONE, map, N, work, 2 * N, &count) == WS_REFUSED_SLOTS, "no summary slots");
+    check(count == 9 && all(map, N, 0) && all(work, 2 * N, 0), "after 5 map and work are zero");
+    spoil();
+    check(ws_summarise_strong(FIVE, ONE, 3, ROSTER, N, NONE, map, N, work, 2 * N, &count) == WS_REFUSED_SLOTS, "nor strongly");
+    check(count == 9 && all(map, N, 0) && all(work, 2 * N, 0), "after 5 map and work are zero, strongly");
+    spoil();
+    check(ws_open(FIVE, ROSTER, N, NONE, NONE, map, N, &held, &summarised) == WS_OK, "an intake without slots is opened");
+    check(held == 0 && summarised == 0 && all(map, N, WS_ABSENT), "and holds nothing");
+    uint32_t status =
+        ws_feed(FIVE, ROSTER, N, NONE, NONE, map, N, work, 2 * N, 10, 5, 11, &held, &summarised, &number);
+    check(status == WS_REFUSED_FULL && held == 0 && number == 9 && all(work, 2 * N, 9), "and is full");
+}
+
+/* A roster that is missing, the other lists being right. */
+static void no_rosters(void) {
+    check(ws_own_roster(FIVE, ONE, 3, NONE) == WS_REFUSED_LENGTH, "roster of own roster");
+    check(ws_saturate(FIVE, ONE, 3, NONE, NONE, &count) == WS_REFUSED_LENGTH, "roster of saturate");
+    check(ws_cliques(FIVE, ONE, 3, NONE, map, N, work, N) == WS_REFUSED_LENGTH, "roster of cliques");
+    check(ws_summarise(FIVE, ONE, 3, NONE, NONE, map, N, work, 2 * N, &count) == WS_REFUSED_LENGTH, "roster of summarise");
+    check(ws_summarise_strong(FIVE, ONE, 3, NONE, NONE, map, N, work, 2 * N, &count) == WS_REFUSED_LENGTH, "roster, strongly");
+    check(ws_open(FIVE, NONE, NONE, NONE, map, N, &held, &summarised) == WS_REFUSED_LENGTH, "roster of opening");
+    uint32_t status = ws_feed(FIVE, NONE, NONE, NONE, map, N, work, 2 * N, 10, 5, 11, &held, &summarised, &number);
+    check(status == WS_REFUSED_LENGTH, "roster of feeding");
+}
+
+/* Another list that is missing, the others being right. */
+static void one_list_missing(void) {
+    check(ws_open(FIVE, ROSTER, N, NONE, NONE, NONE, &held, &summarised) == WS_REFUSED_LENGTH, "map of opening");
+    uint32_t status = ws_feed(FIVE, ROSTER, N, NONE, NONE, NONE, work, 2 * N, 10, 5, 11, &held, &summarised, &number);
+    check(status == WS_REFUSED_LENGTH, "map of feeding");
+    status = ws_feed(FIVE, ROSTER, N, NONE, NONE, map, N, NONE, 10, 5, 11, &held, &summarised, &number);
+    check(status == WS_REFUSED_LENGTH, "work list of feeding");
+    status = ws_read(NONE, NONE, NONE, words, WS_WORDS_NUMBERS, &number, &count, &asks);
+    check(status == WS_REFUSED_LENGTH, "queries of reading");
+    status = ws_read(NONE, NONE, queries, WS_QUERIES_NUMBERS, NONE, &number, &count, &asks);
+    check(status == WS_REFUSED_LENGTH, "words of reading");
+}
+
+/* Every list that must have a length is refused without one, and nothing is altered. */
+static void no_lists(void) {
+    spoil();
+    no_rosters();
+    one_list_missing();
+    check(ws_own_roster(NONE, NONE, NONE) == WS_REFUSED_LENGTH, "own roster");
+    check(ws_saturate(NONE, NONE, NONE, NONE, &count) == WS_REFUSED_LENGTH, "saturate");
+    check(ws_cliques(NONE, NONE, NONE, NONE, NONE) == WS_REFUSED_LENGTH, "cliques");
+    check(ws_cliques(FIVE, ONE, 3, ROSTER, N, NONE, NONE) == WS_REFUSED_LENGTH, "clique lists");
+    check(ws_summarise(NONE, NONE, NONE, NONE, NONE, NONE, &count) == WS_REFUSED_LENGTH, "summarise");
+    check(ws_summarise(FIVE, ONE, 3, ROSTER, N, NONE, NONE, NONE, &count) == WS_REFUSED_LENGTH, "map and work");
+    check(ws_summarise_strong(NONE, NONE, NONE, NONE, NONE, NONE, &count) == WS_REFUSED_LENGTH, "summarise strongly");
+    check(ws_summarise_strong(FIVE, ONE, 3, ROSTER, N, NONE, NONE, NONE, &count) == WS_REFUSED_LENGTH, "strongly");
+    check(ws_ask(NONE, NONE, NONE, NONE, &number) == WS_REFUSED_LENGTH, "ask");
+    check(ws_ask(FIVE, ONE, 3, NONE, QUERY, WS_QUERY_NUMBERS, &number) == WS_REFUSED_LENGTH, "map of ask");
+    check(ws_ask(FIVE, ONE, 3, map, N, NONE, &number) == WS_REFUSED_LENGTH, "query");
+    check(ws_open(NONE, NONE, NONE, NONE, NONE, &held, &summarised) == WS_REFUSED_LENGTH, "opening");
+    check(ws_feed(NONE, NONE, NONE, NONE, NONE, NONE, 10, 5, 11, &held, &summarised, &number) == WS_REFUSED_LENGTH, "feeding");
+    check(ws_write(NONE, N, NONE, NONE, &count) == WS_REFUSED_LENGTH, "writing");
+    check(ws_read(NONE, NONE, NONE, NONE, &number, &count, &asks) == WS_REFUSED_LENGTH, "reading");
+    check(count == 9 && held == 9 && summarised == 9 && asks == 9 && number == 9, "no number is altered");
+    check(all(map, N, 9) && all(work, 2 * N, 9), "no list is altered");
+}
+
+/* Reads a text into a list of length 0. */
+static uint32_t read_nowhere(const char *text, size_t length) {
+    spoil();
+    return ws_read((const uint8_t *)text, length, NONE, queries, WS_QUERIES_NUMBERS, words, WS_WORDS_NUMBERS, &number, &count,
+                   &asks);
+}
+
+static void no_text(void) {
+    static uint8_t out[9];
+    check(read_nowhere(NONE) == WS_REFUSED_FORM && number == 0 && count == 0 && asks == 0, "no text is in no form");
+    check(read_nowhere("(site 5)\n", 9) == WS_OK && number == 5 && count == 0 && asks == 0, "a text without triples");
+    check(read_nowhere("(site 5)\n", 10) == WS_REFUSED_FORM, "a closing zero is a byte too many");
+    check(read_nowhere("(site 5)\n(t 1 2 3)\n", 19) == WS_REFUSED_SLOTS && number == 0 && count == 0, "no slots to read into");
+    check(ws_write(FIVE, 5, NONE, out, 9, &count) == WS_OK && count == 9 && memcmp(out, "(site 5)\n", 9) == 0, "a text of none");
+    count = 7;
+    check(ws_write(FIVE, 5, NONE, NONE, &count) == WS_REFUSED_SLOTS && count == 7, "no bytes to write into");
+}
+
+/* What is lent to a feed and may be altered by it. */
+struct intake {
+    uint32_t triples[3 * SLOTS], summary[3 * SLOTS], map[N], work[2 * N], is_new;
+    size_t held, summarised;
+};
+
+static uint32_t random_below(uint32_t bound) {
+    static uint64_t seed = 1;
+    seed = seed * UINT64_C(6364136223846793005) + UINT64_C(1442695040888963407);
+    return (uint32_t)(seed >> 33) % bound;
+}
+
+/* An intake in which every number is any small one, sometimes the absent mark. */
+static struct intake altered(void) {
+    struct intake x;
+    for (size_t i = 0; i < 3 * SLOTS; i++) {
+        x.triples[i] = i % 3 == 1 ? 5 : 9 + random_below(4);
+        x.summary[i] = i % 3 == 1 ? 5 : 9 + random_below(4);
+    }
+    for (size_t i = 0; i < N; i++) {
+        x.map[i] = random_below(4) == 0 ? WS_ABSENT : 9 + random_below(4);
+        x.work[i] = x.work[N + i] = 1 + random_below(9);
+    }
+    x.is_new = 9;
+    x.held = random_below(SLOTS + 2);
+    x.summarised = random_below(SLOTS + 2);
+    return x;
+}
+
+static int same_but_work(const struct intake *x, const struct intake *y) {
+    return memcmp(x->triples, y->triples, sizeof x->triples) == 0 && memcmp(x->summary, y->summary, sizeof x->summary) == 0 &&
+           memcmp(x->map, y->map, sizeof x->map) == 0 && x->held == y->held && x->summarised == y->summarised;
+}
+
+/* What holds after a feed of an intake in any state; gives the answer: 0 not new, 1 new, 7. */
+static uint32_t feed_altered(void) {
+    struct intake x = altered(), before = x;
+    uint32_t status = ws_feed(FIVE, ROSTER, N, x.triples, 3 * SLOTS, x.summary, 3 * SLOTS, x.map, N, x.work, 2 * N, 10, 5, 11,
+                              &x.held, &x.summarised, &x.is_new);
+    if (status == WS_REFUSED_FULL) {
+        check(same_but_work(&x, &before) && memcmp(x.work, before.work, sizeof x.work) == 0 && x.is_new == 9,
+              "after 7 nothing is altered, the work list included");
+        return status;
+    }
+    check(status == WS_OK && all(x.work, 2 * N, 0), "after another answer the work list is zero");
+    check(x.is_new == 1 || (x.is_new == 0 && same_but_work(&x, &before)), "after \"not new\" all else is as it was");
+    check(x.is_new != 1 || (x.held == before.held + 1 && x.held <= SLOTS && x.summarised <= SLOTS),
+          "after \"new\" one more is held, and the counts fit");
+    return x.is_new;
+}
+
+static void altered_intakes(void) {
+    size_t answers[8] = {0};
+    for (int k = 0; k < 10000; k++) {
+        answers[feed_altered() % 8]++;
+    }
+    check(answers[0] > 100 && answers[1] > 100 && answers[7] > 100, "each answer is given");
+}
+
+int main(void) {
+    longest_texts();
+    longest_summaries();
+    no_table();
+    no_slots();
+    no_lists();
+    no_text();
+    altered_intakes();
+    printf("C edges: %d checks, %d failed\n", checks, failures);
+    return failures != 0;
+}

@@ -1,0 +1,362 @@
+/* Measures the stack that each call uses. The call runs on a painted stack of its own, and what counts is how far down the
+   paint is gone, with the call's arguments. The lists are the largest: 65,536 codes and 1,048,576 triples. Their numbers send
+   the sort down as far as it goes, 16 halvings for each of three places, and the queries send ask down in each pattern as far
+   as the table can be halved. A number over the header's is a failure. */
+#define _XOPEN_SOURCE 700
+#include <stdio.h>
+#include <string.h>
+#include <ucontext.h>
+
+#include "weak_summary.h"
+
+#define N WS_MAX_SIZE
+#define MOST WS_MAX_TRIPLES
+#define FIVE WORDS, WS_WORDS_NUMBERS
+#define STACK_BYTES 1048576
+#define PAINT 165
+
+struct call {
+    const char *name;
+    size_t said; /* the header's number */
+    size_t most; /* the largest that was measured */
+};
+
+static struct call own_roster = {"ws_own_roster", WS_STACK_OTHERS, 0};
+static struct call saturate = {"ws_saturate", WS_STACK_SORTING, 0};
+static struct call cliques = {"ws_cliques", WS_STACK_OTHERS, 0};
+static struct call summarise = {"ws_summarise", WS_STACK_SORTING, 0};
+static struct call summarise_strong = {"ws_summarise_strong", WS_STACK_SORTING, 0};
+static struct call look_up = {"ws_look_up", WS_STACK_OTHERS, 0};
+static struct call ask = {"ws_ask", WS_STACK_ASK, 0};
+static struct call opening = {"ws_open", WS_STACK_OTHERS, 0};
+static struct call feed = {"ws_feed", WS_STACK_SORTING, 0};
+static struct call writing = {"ws_write", WS_STACK_OTHERS, 0};
+static struct call reading = {"ws_read", WS_STACK_READ, 0};
+
+static const uint32_t WORDS[WS_WORDS_NUMBERS] = {100, 101, 102, 103, 104};
+
+/* Triples that stay together until the sort has halved each of the three places down to one number. One is a repeat. 30 is
+   represented by 20, and 25 between them by itself, so two images are equal and those of a rising table are out of order. */
+static const uint32_t CORNERS[][3] = {{65535, 0, 0}, {0, 65535, 0},  {0, 0, 65535},  {0, 0, 0},  {0, 0, 0},
+                                      {20, 0, 0},    {20, 65535, 0}, {20, 0, 65535}, {25, 0, 0}, {30, 0, 0}};
+#define CORNER_COUNT (sizeof CORNERS / sizeof *CORNERS)
+
+static unsigned char stack[STACK_BYTES];
+static ucontext_t outside, inside;
+
+static uint32_t table[3 * MOST], result[3 * MOST], summary[3 * MOST], map[N], work[2 * N];
+static uint32_t query[WS_QUERY_NUMBERS], queries[WS_QUERIES_NUMBERS], words[WS_WORDS_NUMBERS];
+static uint8_t roster[N], own[N], text[65536];
+static size_t given, slots, count, held, summarised, text_length;
+static uint32_t status, answer, fed_object;
+static uint64_t seed = 1;
+static int failures;
+
+static void fail(const char *name, const char *what) {
+    printf("%s: %s\n", name, what);
+    failures++;
+}
+
+static void nothing(void) {
+}
+
+/* How many bytes of the painted stack a job reaches. */
+static size_t depth(void (*job)(void)) {
+    size_t untouched = 0;
+    memset(stack, PAINT, sizeof stack);
+    getcontext(&inside);
+    inside.uc_stack.ss_sp = stack;
+    inside.uc_stack.ss_size = sizeof stack;
+    inside.uc_link = &outside;
+    makecontext(&inside, job, 0);
+    swapcontext(&outside, &inside);
+    while (untouched < sizeof stack && stack[untouched] == PAINT) {
+        untouched++;
+    }
+    return sizeof stack - untouched;
+}
+
+/* Measures a job that makes one call, which must answer as expected. */
+static void measure(struct call *call, void (*job)(void), uint32_t expected) {
+    size_t used = depth(job) - depth(nothing);
+    if (status != expected) {
+        fail(call->name, "answered something else than expected");
+    }
+    if (call->most < used) {
+        call->most = used;
+    }
+}
+
+static void run_own_roster(void) {
+    status = ws_own_roster(FIVE, table, 3 * given, own, N);
+}
+
+static void run_saturate(void) {
+    status = ws_saturate(FIVE, table, 3 * given, roster, N, result, 3 * slots, &count);
+}
+
+static void run_cliques(void) {
+    status = ws_cliques(FIVE, table, 3 * given, roster, N, map, N, work, N);
+}
+
+static void run_summarise(void) {
+    status = ws_summarise(FIVE, table, 3 * given, roster, N, result, 3 * slots, map, N, work, 2 * N, &count);
+}
+
+static void run_summarise_strong(void) {
+    status = ws_summarise_strong(FIVE, table, 3 * given, roster, N, result, 3 * slots, map, N, work, 2 * N, &count);
+}
+
+static void run_look_up(void) {
+    status = ws_look_up(table, 3 * given, 1, 2, 3, &answer);
+}
+
+static void run_ask(void) {
+    status = ws_ask(FIVE, table, 3 * given, map, N, query, WS_QUERY_NUMBERS, &answer);
+}
+
+static void run_open(void) {
+    status = ws_open(FIVE, roster, N, table, 3 * MOST, summary, 3 * MOST, map, N, &held, &summarised);
+}
+
+static void run_feed(void) {
+    status = ws_feed(FIVE, roster, N, table, 3 * MOST, summary, 3 * MOST, map, N, work, 2 * N, 30, 14, fed_object, &held,
+                     &summarised, &answer);
+}
+
+static void run_write(void) {
+    status = ws_write(FIVE, N, table, 3 * given, text, sizeof text, &count);
+}
+
+static void run_read(void) {
+    status = ws_read(text, text_length, result, 3 * slots, queries, WS_QUERIES_NUMBERS, words, WS_WORDS_NUMBERS, &answer,
+                     &count, &held);
+}
+
+static void put(uint32_t subject, uint32_t property, uint32_t object) {
+    uint32_t *t = table + 3 * given;
+    t[0] = subject;
+    t[1] = property;
+    t[2] = object;
+    given++;
+}
+
+static uint32_t random_below(uint32_t bound) {
+    seed = seed * UINT64_C(6364136223846793005) + UINT64_C(1442695040888963407);
+    return (uint32_t)(seed >> 33) % bound;
+}
+
+/* A code that is no word. */
+static uint32_t random_node(void) {
+    uint32_t c = random_below(N);
+    return c < 100 || c > 104 ? c : 99;
+}
+
+/* Random triples with the properties 7 to 14 until the table has so many. */
+static void fill(size_t triples) {
+    while (given < triples) {
+        put(random_node(), 7 + random_below(8), random_node());
+    }
+}
+
+/* The corners, random triples, and the corners again. */
+static void fill_with_corners(void) {
+    given = 0;
+    for (size_t i = 0; i < CORNER_COUNT; i++) {
+        put(CORNERS[i][0], CORNERS[i][1], CORNERS[i][2]);
+    }
+    fill(MOST - CORNER_COUNT - 4);
+    for (size_t i = 0; i < CORNER_COUNT; i++) {
+        put(CORNERS[i][0], CORNERS[i][1], CORNERS[i][2]);
+    }
+}
+
+/* Random triples, and 15 under 0 and 65,535 and 16 under 0. The rules give one of eight triples twice, so a list that is just
+   long enough is sorted before the last. */
+static void fill_with_schema(void) {
+    static const uint32_t lines[][3] = {{15, 102, 0},   {15, 102, 65535}, {16, 102, 0},   {0, 15, 0},
+                                        {0, 15, 65535}, {0, 16, 0},       {65535, 15, 0}, {65535, 15, 65535}};
+    given = 0;
+    for (size_t i = 0; i < sizeof lines / sizeof *lines; i++) {
+        put(lines[i][0], lines[i][1], lines[i][2]);
+    }
+    fill(MOST - 64);
+}
+
+/* Every code is marked, so that it represents itself, but for the words, 20 and 30. */
+static void mark_nearly_all(void) {
+    memset(roster, WS_BOTH, N);
+    for (size_t i = 0; i < WS_WORDS_NUMBERS; i++) {
+        roster[WORDS[i]] = WS_UNMARKED;
+    }
+    roster[20] = roster[30] = WS_UNMARKED;
+}
+
+/* A call with a result: in a list with slots to spare, in one that is just long enough, and in one that is too short. */
+static void measure_result(struct call *call, void (*job)(void)) {
+    slots = MOST;
+    measure(call, job, WS_OK);
+    slots = count;
+    measure(call, job, WS_OK);
+    slots = count - 1;
+    measure(call, job, WS_REFUSED_SLOTS);
+}
+
+/* Nearly all codes marked, then the own roster, then the rules at work. */
+static void measure_tables(void) {
+    mark_nearly_all();
+    fill_with_corners();
+    measure(&own_roster, run_own_roster, WS_OK);
+    measure(&look_up, run_look_up, WS_OK);
+    measure(&cliques, run_cliques, WS_OK);
+    measure_result(&saturate, run_saturate);
+    measure_result(&summarise, run_summarise);
+    measure_result(&summarise_strong, run_summarise_strong);
+    memcpy(roster, own, N);
+    measure(&cliques, run_cliques, WS_OK);
+    measure_result(&summarise, run_summarise);
+    measure_result(&summarise_strong, run_summarise_strong);
+    mark_nearly_all();
+    fill_with_schema();
+    measure_result(&saturate, run_saturate);
+}
+
+/* An intake with room for a few triples more. Its lists are as feeds leave them: a rising table, its summary and its map. */
+static void measure_intake(void) {
+    mark_nearly_all();
+    fill_with_corners();
+    slots = MOST;
+    run_saturate();
+    measure(&opening, run_open, WS_OK);
+    held = count;
+    memcpy(table, result, sizeof table);
+    given = held;
+    run_summarise();
+    memcpy(summary, result, sizeof summary);
+    summarised = count;
+    for (fed_object = 20; fed_object < 23; fed_object++) {
+        answer = 0;
+        measure(&feed, run_feed, WS_OK);
+        if (answer != 1) {
+            fail("ws_feed", "the triple was not new");
+        }
+    }
+}
+
+/* So many patterns that only the triple at a place fits, with its subject as a code or as a variable; perhaps a last one that
+   fits nothing. */
+static void make_query(size_t place, uint32_t patterns, int by_variable, int fits) {
+    const uint32_t *t = table + 3 * place;
+    query[0] = patterns;
+    for (uint32_t k = 0; k < patterns; k++) {
+        uint32_t *pattern = query + 1 + 5 * k;
+        pattern[0] = by_variable ? WS_VARIABLE : WS_CODE;
+        pattern[1] = by_variable ? k : t[0];
+        pattern[2] = t[1];
+        pattern[3] = WS_CODE;
+        pattern[4] = fits || k + 1 < patterns ? t[2] : 199;
+    }
+}
+
+/* The table's halvings, rounded down. */
+static size_t halvings(size_t triples) {
+    return triples < 2 ? 0 : 1 + halvings(triples / 2);
+}
+
+/* Asks for the last triple and for the first ones; the header says how the stack depends on patterns and triples. */
+static void measure_queries(uint32_t patterns) {
+    struct call these = {"ws_ask", 2000 + 928 * patterns * (1 + halvings(given)), 0};
+    for (size_t k = 0; k < 12; k++) {
+        size_t place = k < 4 ? given - 1 : (k / 4 == 1 ? halvings(given) - 1 : 0);
+        make_query(place, patterns, k % 4 / 2, k % 2);
+        measure(&these, run_ask, WS_OK);
+        if (answer != k % 2) {
+            fail("ws_ask", "answered something else than expected");
+        }
+    }
+    if (these.said < these.most) {
+        fail("ws_ask", "more stack than the header's formula");
+    }
+    if (ask.most < these.most) {
+        ask.most = these.most;
+    }
+}
+
+/* A rising table, 64 triples to a subject, in which each object of the first subject and the last object stand once. */
+static void measure_rising(size_t triples, uint32_t patterns) {
+    given = 0;
+    while (given < triples - 1) {
+        uint32_t i = (uint32_t)given;
+        put(200 + i / 64, 7, (i < 64 ? 200 : 300) + i % 64);
+    }
+    put(200 + (uint32_t)given / 64, 7, 400);
+    measure_queries(patterns);
+    table[0] = 65535;
+    measure_queries(patterns);
+}
+
+/* Tables in rising order, and out of it. */
+static void measure_ask(void) {
+    for (uint32_t c = 0; c < N; c++) {
+        map[c] = c;
+    }
+    measure_rising(1000, 1);
+    measure_rising(1024, 2);
+    measure_rising(40000, 8);
+    measure_rising(MOST, 8);
+}
+
+static void append(const char *form, int times) {
+    for (int k = 0; k < times; k++) {
+        memcpy(text + text_length, form, strlen(form));
+        text_length += strlen(form);
+    }
+}
+
+/* The longest text: each number has ten digits. */
+static void make_text(void) {
+    text_length = 0;
+    append("(site 4294967295)\n(words 4294967295 4294967295 4294967295 4294967295 4294967295)\n", 1);
+    append("(t 4294967295 4294967295 4294967295)\n", WS_MAX_TEXT_TRIPLES);
+    for (int k = 0; k < WS_MAX_ASKS; k++) {
+        append("(ask", 1);
+        append(" ((c 4294967295) 4294967295 (v 4294967295))", WS_MAX_PATTERNS);
+        append(")\n", 1);
+    }
+}
+
+static void measure_texts(void) {
+    given = 0;
+    while (given < WS_MAX_TEXT_TRIPLES) {
+        put(65535, 65535, 65535);
+    }
+    measure(&writing, run_write, WS_OK);
+    make_text();
+    slots = WS_MAX_TEXT_TRIPLES;
+    measure(&reading, run_read, WS_OK);
+    slots = 1;
+    measure(&reading, run_read, WS_REFUSED_SLOTS);
+    text_length--;
+    measure(&reading, run_read, WS_REFUSED_FORM);
+}
+
+static void report(const struct call *call) {
+    printf("%-20s %6zu bytes of stack, in the header %6zu\n", call->name, call->most, call->said);
+    if (call->most == 0 || call->said < call->most) {
+        fail(call->name, "not the header's number");
+    }
+}
+
+int main(void) {
+    static const struct call *const all[] = {&own_roster, &saturate, &cliques, &summarise, &summarise_strong, &look_up,
+                                             &ask,        &opening,  &feed,    &writing,   &reading};
+    measure_tables();
+    measure_intake();
+    measure_ask();
+    measure_texts();
+    for (size_t i = 0; i < sizeof all / sizeof *all; i++) {
+        report(all[i]);
+    }
+    printf("C stack: %d failures\n", failures);
+    return failures != 0;
+}
