@@ -183,7 +183,9 @@ module _ (l l′ : List ℕ) (b b′ : Builder) (r : ℕ) (B : Built l b) (D : D
 
       ahead : (s : Stands (at l) 0 (0 + b .filled) u) → b .base ≤ s .place → Mem u (first l′ end)
       ahead s x =
-          let w = stands (at l′) (b .base) r u (run-from u (member (at l) (b .base) (b .filled - b .base) u (record { place = s .place; low = x; high = omega (arith, s .high, B .base-end, B .sorted-end); is = s .is }))) in
+          let w = stands (at l′) (b .base) r u (run-from u
+          (member (at l) (b .base) (b .filled - b .base) u
+          (record { place = s .place; low = x; high = omega (arith, s .high, B .base-end, B .sorted-end); is = s .is }))) in
           member (at l′) 0 end u (record { place = w .place; low = omega arith; high = omega (arith, w .high); is = w .is })
 
       from : (s : Stands (at l) 0 (0 + b .filled) u) → Cmp (s .place) (b .base) → Mem u (first l′ end)

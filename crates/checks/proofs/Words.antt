@@ -63,7 +63,18 @@ module _ (v : Vocabulary) where
                   module _ (n8 : v .subproperty ≡ v .range → ⊥) where
                     pub equal-last : eqb (v .domain) (v .range) ≡ repeats v
                     unfolding repeats repeated any
-                    equal-last = rw (ne-eqb _ _ n0, ne-eqb _ _ n1, ne-eqb _ _ n2, ne-eqb _ _ n3, ne-eqb _ _ n4, ne-eqb _ _ n5, ne-eqb _ _ n6, ne-eqb _ _ n7, ne-eqb _ _ n8) (last (eqb (v .domain) (v .range)))
+                    equal-last = rw (
+                      ne-eqb _ _ n0,
+                      ne-eqb _ _ n1,
+                      ne-eqb _ _ n2,
+                      ne-eqb _ _ n3,
+                      ne-eqb _ _ n4,
+                      ne-eqb _ _ n5,
+                      ne-eqb _ _ n6,
+                      ne-eqb
+                          _ _ n7,
+                      ne-eqb _ _ n8,
+                    ) (last (eqb (v .domain) (v .range)))
 
 -- one is not below n
 module _ (v : Vocabulary) (n : ℕ) where

@@ -14,8 +14,9 @@ use model::Vocabulary;
 pub const SMALLEST_SIZE: usize = 5;
 
 pub const LARGEST_SIZE: usize = 65536;
-// The numbers of a table's 1,048,576 triples.
-pub const LONGEST_TABLE: usize = 3145728;
+
+// The most triples of a table, and the most slots of an intake's lists.
+pub const MOST_TRIPLES: usize = 1048576;
 
 pub fn size_wrong(n: usize) -> bool
     ensures { λ r. ⌜ r ≡ wrongSize n ⌝ }
@@ -33,7 +34,7 @@ pub fn length_wrong(l: usize) -> bool
     if l % 3 != 0 {
         return true;
     }
-    LONGEST_TABLE < l
+    3 * MOST_TRIPLES < l
 }
 
 // Whether the work list has not two numbers for each code.

@@ -15,7 +15,7 @@ use Rattle.model.specs.Cliques.{source, target, cliques}
 use Rattle.model.specs.Outcomes.{Outcome, refused, accepted, refusalNumber, done, checked, left}
 use Rattle.model.specs.Calls.{tableChecks, cliquesOutcome, cliquesLeave}
 use Rattle.theory.proofs.Tests.{or-false}
-use Rattle.theory.proofs.Accepted.{Right}
+use Rattle.theory.specs.Tables.{Right}
 use Rattle.table_checks.specs.declared.Verdict.{Verdict}
 use Rattle.table_checks.specs.declared.Verdict.the-variants.{Passed, Refused}
 use Rattle.table_checks.specs.Verdicts.{verdict}

@@ -1,6 +1,2 @@
-pub mod Sides
-pub mod Entries
-pub mod Steps
-pub mod Places
-pub mod Ends
+pub mod Lengths
 pub mod Call

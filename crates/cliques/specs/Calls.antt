@@ -2,18 +2,12 @@
 -- Assumes nothing.
 use Prim.Native.Nat.{ℕ}
 use mathlib.Core.Path.{_≡_}
-use mathlib.Core.Bool.{Bool, true, false}
 use mathlib.Core.List.{List}
 use Rattle.model.specs.declared.Done.{Done}
 use Rattle.model.specs.declared.Vocabulary.{Vocabulary}
-use Rattle.model.specs.Cliques.{Side, source, target}
+use Rattle.model.specs.Cliques.{source, target}
 use Rattle.model.specs.Outcomes.{done}
 use Rattle.model.specs.Calls.{cliquesOutcome, cliquesLeave}
-
--- the side that a flag stands for
-abbrev pub sideOf : Bool → Side
-sideOf true = source
-sideOf false = target
 
 module _ (v : Vocabulary) where
   -- what cliques returns, and what it leaves in the two lent lists

@@ -1,21 +1,20 @@
 // Compares the engine with the naive one in own roster, saturate, cliques, both summaries, look up and ask: every refusal and small
-// graph of the papers, then many random sites. After every call both answers and the contents of every lent list are compared.
+// graph of the papers, which standard input has, then many random sites. After every call both answers and a digest of every lent list are compared.
 // Prints the small cases, each difference, and the counts.
 mod cases;
-mod loaded;
 mod queries;
+mod script;
+mod sites;
 mod sizes;
-mod small;
-mod strong;
 
-use comparison::report;
-use comparison::sites;
+use comparison_report::report;
+use libc::STDIN_FILENO;
 
 fn main() {
     let mut tally = [0u64; 145];
-    small::all(&mut tally);
-    loaded::all(&mut tally);
-    strong::all(&mut tally);
+    let mut text = [0u8; 8192];
+    let n = io::read_full(STDIN_FILENO, &mut text);
+    cases::all(&mut tally, &text[0..n]);
     sizes::all(&mut tally);
     sites::all(&mut tally);
     queries::all(&mut tally);

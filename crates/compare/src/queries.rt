@@ -2,16 +2,16 @@
 ghost use Prim.Native.Nat.{_≤_};
 ghost use lib.ListN.{length};
 use comparison::calls;
-use comparison::random::at_most;
-use comparison::random::chance;
-use comparison::random::get;
-use comparison::random::mix;
-use comparison::random::pick;
-use comparison::random::set;
-use comparison::random::triples_end;
-use comparison::sites;
-use comparison::words;
 use model::Vocabulary;
+use random_sites::random::at_most;
+use random_sites::random::chance;
+use random_sites::random::get;
+use random_sites::random::mix;
+use random_sites::random::pick;
+use random_sites::random::set;
+use random_sites::random::triples_end;
+use random_sites::sites;
+use random_sites::words;
 
 // How many patterns: mostly 1 to 3.
 fn count_of(seed: u64) -> u32 {
@@ -80,7 +80,7 @@ fn fill_query(query: &mut [u32], seed: u64, list: &[u32]) {
 }
 
 // Each code stands for itself.
-fn identity(map: &mut [u32]) {
+pub fn identity(map: &mut [u32]) {
     let mut i = 0;
     let mut code = 0;
     while i < map.len() {
@@ -90,34 +90,6 @@ fn identity(map: &mut [u32]) {
     }
 }
 
-// Two queries on a list and on its summary, with its map.
-fn ask_both(
-    tally: &mut [u64; 145],
-    seed: u64,
-    given: Vocabulary,
-    list: &[u32],
-    summary: &[u32],
-    map: &[u32],
-    query: &[u32],
-) {
-    calls::ask(tally, seed, given, list, map, query);
-    calls::ask(tally, seed, given, summary, map, query);
-}
-
-// A query with the codes as they are.
-fn ask_plain(
-    tally: &mut [u64; 145],
-    seed: u64,
-    given: Vocabulary,
-    list: &[u32],
-    map: &mut [u32],
-    query: &mut [u32],
-) {
-    identity(map);
-    fill_query(query, mix(seed, 62), list);
-    calls::ask(tally, seed, given, list, map, query);
-}
-
 // Summarises; the numbers of the summary.
 fn summary_end(
     right: Vocabulary,
@@ -125,87 +97,67 @@ fn summary_end(
     roster: &[u8],
     summary: &mut [u32],
     map: &mut [u32],
-    work: &mut [u32],
 ) -> usize
     ensures { λ r. ⌜ r ≤ length (now (summary .exit)) ⌝ }
 {
-    let answer = naive::summarise(
-        calls::plain_words(right),
+    let mut work = [0u32; 50];
+    let w = at_most(2 * at_most(roster.len(), 24), 50);
+    let answer = naive_summary::summarise(
+        words::plain_words(right),
         false,
         list,
         roster,
         summary,
         map,
-        work,
+        &mut work[0..w],
     );
     triples_end(answer.count, summary.len())
 }
 
-fn ask_list(
-    tally: &mut [u64; 145],
-    seed: u64,
-    list: &[u32],
-    roster: &[u8],
-    summary: &mut [u32],
-    map: &mut [u32],
-    work: &mut [u32],
-    query: &mut [u32],
-) {
+// A query on a list and on its summary, with its map of that length.
+fn ask_both(tally: &mut [u64; 145], seed: u64, list: &[u32], roster: &[u8], length: usize) {
+    let mut summary_space = [0u32; 240];
+    let mut map_space = [0u32; 50];
+    let mut query_space = [0u32; 41];
+    let m = at_most(length, 50);
+    let summary: &mut [u32] = &mut summary_space;
+    let map: &mut [u32] = &mut map_space[0..m];
+    let query: &mut [u32] = &mut query_space;
     let right = words::right(seed, roster.len());
     let given = words::given(seed, roster.len());
-    let end = summary_end(right, list, roster, summary, map, work);
+    let end = summary_end(right, list, roster, summary, map);
     fill_query(query, mix(seed, 61), list);
-    ask_both(tally, seed, given, list, &summary[0..end], map, query);
-    ask_plain(tally, seed, given, list, map, query);
+    calls::ask(tally, seed, given, list, map, query);
+    let whole = &summary[..];
+    calls::ask(tally, seed, given, &whole[0..end], map, query);
 }
 
-fn ask_site(
-    tally: &mut [u64; 145],
-    seed: u64,
-    table: &mut [u32],
-    roster: &mut [u8],
-    closed: &mut [u32],
-    summary: &mut [u32],
-    map: &mut [u32],
-    work: &mut [u32],
-    query: &mut [u32],
-) {
-    let end = sites::base(seed, table, roster, closed);
-    ask_list(
-        tally,
-        seed,
-        &closed[0..end],
-        roster,
-        summary,
-        map,
-        work,
-        query,
-    );
+// A query with the codes as they are.
+fn ask_plain(tally: &mut [u64; 145], seed: u64, given: Vocabulary, list: &[u32], length: usize) {
+    let mut map_space = [0u32; 50];
+    let mut query_space = [0u32; 41];
+    let m = at_most(length, 50);
+    let map: &mut [u32] = &mut map_space[0..m];
+    let query: &mut [u32] = &mut query_space;
+    identity(map);
+    fill_query(query, mix(seed, 62), list);
+    calls::ask(tally, seed, given, list, map, query);
 }
 
 fn ask_case(tally: &mut [u64; 145], seed: u64) {
     let mut table = [0u32; 62];
-    let mut roster = [0u8; 24];
-    let mut closed = [0u32; 240];
-    let mut summary = [0u32; 240];
-    let mut map = [0u32; 50];
-    let mut work = [0u32; 50];
-    let mut query = [0u32; 41];
+    let mut roster_space = [0u8; 24];
+    let mut closed_space = [0u32; 240];
     let n = sites::size(seed);
     let t = sites::table_length(seed);
     let m = sites::near(seed, 63, n);
-    let w = at_most(2 * n, 50);
-    ask_site(
-        tally,
-        seed,
-        &mut table[0..t],
-        &mut roster[0..n],
-        &mut closed,
-        &mut summary,
-        &mut map[0..m],
-        &mut work[0..w],
-        &mut query,
-    );
+    let roster: &mut [u8] = &mut roster_space[0..n];
+    let closed: &mut [u32] = &mut closed_space;
+    let end = sites::base(seed, &mut table[0..t], roster, closed);
+    let whole = &closed[..];
+    let list = &whole[0..end];
+    ask_both(tally, seed, list, roster, m);
+    ask_plain(tally, seed, words::given(seed, n), list, m);
 }
 
 pub fn all(tally: &mut [u64; 145]) {

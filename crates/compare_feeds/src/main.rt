@@ -1,10 +1,11 @@
 // Compares opening and feeding with the plain intake: every refusal, and many lists of feeds to random sites. After every call the
-// answers, the contents of every lent list and both counts are compared. Prints the small cases, each difference, and the counts.
+// answer, the contents of every lent list and both counts are folded into a digest, and the digests of both engines are compared.
+// Prints the small cases, each difference, and the counts.
 mod feeds;
 mod sizes;
 mod small;
 
-use comparison::report;
+use comparison_report::report;
 
 fn main() {
     let mut tally = [0u64; 145];

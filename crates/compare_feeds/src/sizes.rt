@@ -1,139 +1,81 @@
-// Every call that has a site size, at the sizes 4, 5, 65,536 and 65,537.
-use super::feeds;
-use comparison::calls;
-use comparison::random::at_most;
-use comparison::report::FEED;
-use comparison::report::OPEN;
-use comparison::report::sized;
+// Opening and feeding at the sizes 4, 5, 65,536 and 65,537.
+use comparison_report::report::FEED;
+use comparison_report::report::OPEN;
+use comparison_report::report::sized;
+use fed_intakes::both::compare_small;
+use fed_intakes::both::record_last;
+use fed_intakes::both::record_open;
+use fed_intakes::inputs::Case;
+use fed_intakes::inputs::feed_of;
+use fed_intakes::inputs::put_feed;
+use fed_intakes::intakes::State;
 use lists::rdfs_words;
-use model::Vocabulary;
+use random_sites::random::at_most;
 
-fn open(tally: &mut [u64; 145], n: usize) -> u32 {
-    let roster = [0u8; 65537];
-    let mut map = [0u32; 65537];
-    let mut plain_map = [0u32; 65537];
-    let mut a = [0u32; 6];
-    let mut b = [0u32; 6];
-    let mut c = [0u32; 6];
-    let mut d = [0u32; 6];
+// The mark of property 5: it covers the feed of an opened intake.
+fn mark(opens: bool, feeds: usize) -> u8 {
+    if !opens {
+        return 0;
+    }
+    if feeds == 0 {
+        return 0;
+    }
+    2
+}
+
+fn run(
+    tally: &mut [u64; 145],
+    n: usize,
+    opens: bool,
+    feeds: usize,
+    s: u32,
+    p: u32,
+    o: u32,
+) -> State {
+    let mut roster = [0u8; 65537];
+    let mut list = [0u32; 10];
     let m = at_most(n, 65537);
-    calls::open(
-        tally,
-        0,
-        rdfs_words(),
-        &roster[0..m],
-        &mut a,
-        &mut b,
-        &mut map[0..m],
-        &mut c,
-        &mut d,
-        &mut plain_map[0..m],
-    )
+    roster[5] = mark(opens, feeds);
+    put_feed(&mut list, 0, feed_of(rdfs_words(), 2 * m, s, p, o));
+    let case = Case {
+        words: rdfs_words(),
+        opens: opens,
+        feeds: feeds,
+        triples: 6,
+        summary: 6,
+        map: m,
+    };
+    compare_small(tally, case, &list, &roster[0..m])
+}
+
+fn open(tally: &mut [u64; 145], n: usize, expected: u32) {
+    let state = run(tally, n, true, 0, 0, 0, 0);
+    record_open(tally, state);
+    sized(OPEN, n, expected, state.opened);
 }
 
 // An opened intake is fed 65535 5 65534.
-fn feed_in(
-    tally: &mut [u64; 145],
-    words: Vocabulary,
-    roster: &[u8],
-    map: &mut [u32],
-    work: &mut [u32],
-    left: &mut [u32],
-    plain_map: &mut [u32],
-) -> u32 {
-    let mut triples = [0u32; 6];
-    let mut summary = [0u32; 6];
-    let mut h = [0u32; 6];
-    let mut plain_triples = [0u32; 6];
-    let mut plain_summary = [0u32; 6];
-    calls::open(
-        tally,
-        0,
-        words,
-        roster,
-        &mut triples,
-        &mut summary,
-        map,
-        &mut plain_triples,
-        &mut plain_summary,
-        plain_map,
-    );
-    feeds::feed_with(
-        tally,
-        0,
-        feeds::opened(words),
-        roster,
-        &mut triples,
-        &mut summary,
-        map,
-        &mut h,
-        work,
-        left,
-        &mut plain_triples,
-        &mut plain_summary,
-        plain_map,
-        65535,
-        5,
-        65534,
-    )
-}
-
-fn feed(tally: &mut [u64; 145], n: usize) -> u32 {
-    let mut roster = [0u8; 65537];
-    let mut map = [0u32; 65537];
-    let mut work = [0u32; 131074];
-    let mut left = [0u32; 131074];
-    let mut plain_map = [0u32; 65537];
-    let m = at_most(n, 65537);
-    let w = at_most(2 * m, 131074);
-    roster[5] = 2;
-    feed_in(
-        tally,
-        rdfs_words(),
-        &roster[0..m],
-        &mut map[0..m],
-        &mut work[0..w],
-        &mut left[0..w],
-        &mut plain_map[0..m],
-    )
+fn feed(tally: &mut [u64; 145], n: usize, expected: u32) {
+    let state = run(tally, n, true, 1, 65535, 5, 65534);
+    record_open(tally, state);
+    record_last(tally, state);
+    sized(FEED, n, expected, state.seen.refused);
 }
 
 // A size that is refused.
-fn feed_refused(tally: &mut [u64; 145], n: usize) -> u32 {
-    let roster = [0u8; 65537];
-    let mut a = [0u32; 6];
-    let mut b = [0u32; 6];
-    let mut map = [0u32; 65537];
-    let mut work = [0u32; 131074];
-    let mut d = [0u32; 6];
-    let mut e = [0u32; 6];
-    let mut left_map = [0u32; 65537];
-    let mut left_work = [0u32; 131074];
-    let m = at_most(n, 65537);
-    let w = at_most(2 * m, 131074);
-    feeds::feed_refused(
-        tally,
-        1,
-        rdfs_words(),
-        &roster[0..m],
-        &mut a,
-        &mut b,
-        &mut map[0..m],
-        &mut work[0..w],
-        &mut d,
-        &mut e,
-        &mut left_map[0..m],
-        &mut left_work[0..w],
-    )
+fn feed_refused(tally: &mut [u64; 145], n: usize, expected: u32) {
+    let state = run(tally, n, false, 1, 10, 5, 12);
+    record_last(tally, state);
+    sized(FEED, n, expected, state.seen.refused);
 }
 
 pub fn all(tally: &mut [u64; 145]) {
-    sized(OPEN, 4, 1, open(tally, 4));
-    sized(OPEN, 5, 0, open(tally, 5));
-    sized(OPEN, 65536, 0, open(tally, 65536));
-    sized(OPEN, 65537, 1, open(tally, 65537));
-    sized(FEED, 4, 1, feed_refused(tally, 4));
-    sized(FEED, 5, 3, feed(tally, 5));
-    sized(FEED, 65536, 0, feed(tally, 65536));
-    sized(FEED, 65537, 1, feed_refused(tally, 65537));
+    open(tally, 4, 1);
+    open(tally, 5, 0);
+    open(tally, 65536, 0);
+    open(tally, 65537, 1);
+    feed_refused(tally, 4, 1);
+    feed(tally, 5, 3);
+    feed(tally, 65536, 0);
+    feed_refused(tally, 65537, 1);
 }

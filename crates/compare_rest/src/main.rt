@@ -6,7 +6,7 @@ mod rework;
 mod sites;
 mod small;
 
-use comparison::report;
+use comparison_report::report;
 
 fn main() {
     let mut tally = [0u64; 145];

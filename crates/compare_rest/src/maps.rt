@@ -1,6 +1,6 @@
 // What the second map must hold.
-use comparison::random::at_most;
-use comparison::random::get;
+use random_sites::random::at_most;
+use random_sites::random::get;
 
 pub const ABSENT: u32 = 4294967295;
 
@@ -33,17 +33,15 @@ fn own_entry(summary: &[u32], code: u32) -> u32 {
     ABSENT
 }
 
-// Whether a map gives each node of a summary itself, and absent for all other codes.
-pub fn maps_own_nodes(map: &[u32], summary: &[u32]) -> bool {
-    let n = at_most(map.len(), 1000) as u32;
+// Fills a map as a summary at rest has it: each of its nodes itself, and absent for all other codes.
+pub fn own_map(summary: &[u32], map: &mut [u32]) {
+    let mut i = 0;
     let mut code = 0;
-    while code < n {
-        if entry(map, code) != own_entry(summary, code) {
-            return false;
-        }
-        code += 1;
+    while i < map.len() {
+        map[i] = own_entry(summary, code);
+        code = std::num::wrapping_add_u32(code, 1);
+        i += 1;
     }
-    true
 }
 
 // Whether the second map leads on from the first to the same representatives.

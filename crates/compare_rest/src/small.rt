@@ -1,19 +1,42 @@
 // The example of the papers and a chain of three nodes: their summaries, and what the second map holds.
 use super::maps::ABSENT;
+use super::rework::closure;
+use super::rework::left_condensed;
 use super::rework::ship;
-use comparison::calls;
-use comparison::calls::check_list;
-use comparison::calls::plain_words;
-use comparison::random::at_most;
-use comparison::random::triples_end;
-use comparison::report::STRONG;
-use comparison::report::SUMMARISE;
-use comparison::report::small;
-use comparison::sites::SIX;
+use comparison::calls::table_call;
+use comparison::engines::after;
+use comparison::engines::of_lengths;
+use comparison_report::digest::Run;
+use comparison_report::digest::same;
+use comparison_report::report::SATURATE;
+use comparison_report::report::STRONG;
+use comparison_report::report::SUMMARISE;
+use comparison_report::report::check;
+use comparison_report::report::small;
 use lists::rdfs_words;
+use random_sites::random::at_most;
+use random_sites::words::plain_words;
 
-// The summary of their saturation, weak and strong.
-const SIX_SUMMARY: [u32; 42] = [
+// The six triples; the 14 of the summary of their saturation, weak and strong; the second map: 11 and 13 are represented by others.
+const SIX: [u32; 74] = [
+    5,
+    2,
+    7,
+    6,
+    2,
+    7,
+    7,
+    3,
+    8,
+    8,
+    1,
+    9,
+    10,
+    5,
+    12,
+    11,
+    6,
+    13,
     5,
     2,
     7,
@@ -56,10 +79,6 @@ const SIX_SUMMARY: [u32; 42] = [
     10,
     7,
     12,
-];
-
-// 11 and 13 are represented by others.
-const SIX_SECOND: [u32; 14] = [
     ABSENT,
     ABSENT,
     ABSENT,
@@ -76,10 +95,17 @@ const SIX_SECOND: [u32; 14] = [
     ABSENT,
 ];
 
-const CHAIN: [u32; 6] = [10, 5, 11, 11, 5, 12];
-
-// Weakly 10 represents all three.
-const CHAIN_SECOND: [u32; 13] = [
+// Two triples; their weak summary; the second map: 10 represents all three.
+const CHAIN: [u32; 22] = [
+    10,
+    5,
+    11,
+    11,
+    5,
+    12,
+    10,
+    5,
+    10,
     ABSENT,
     ABSENT,
     ABSENT,
@@ -95,8 +121,20 @@ const CHAIN_SECOND: [u32; 13] = [
     ABSENT,
 ];
 
-// Strongly each is apart.
-const CHAIN_APART: [u32; 13] = [
+// The same strongly: each is apart.
+const APART: [u32; 25] = [
+    10,
+    5,
+    11,
+    11,
+    5,
+    12,
+    10,
+    5,
+    11,
+    11,
+    5,
+    12,
     ABSENT,
     ABSENT,
     ABSENT,
@@ -112,25 +150,19 @@ const CHAIN_APART: [u32; 13] = [
     12,
 ];
 
-// Ships the summary of a saturated table, and checks it and the second map.
-fn expect_lists(
-    tally: &mut [u64; 145],
-    call: usize,
-    name: &[u8],
-    table: &[u32],
-    roster: &[u8],
-    summary: &[u32],
-    map: &[u32],
-    result: &mut [u32],
-    second: &mut [u32],
-) {
-    let numbers = ship(tally, call, 0, rdfs_words(), table, roster, result, second);
-    let wanted = at_most(summary.len() / 3, 100) as u32;
-    small(call, name, wanted, at_most(numbers / 3, 100) as u32);
-    check_list(tally, call, 0, name, &result[0..numbers], summary);
-    check_list(tally, call, 0, name, second, map);
+// Whether the engine, summarising a summary again, keeps it and leaves that map.
+fn keeps(call: usize, roster: &[u8], summary: &[u32], map: &[u32]) -> bool {
+    let n = at_most(map.len(), 24);
+    let run = Run {
+        plain: false,
+        show: false,
+    };
+    let wanted = of_lengths(summary.len(), n, 2 * n);
+    let got = after(run, call, rdfs_words(), summary, roster, wanted);
+    same(got, left_condensed(summary, map))
 }
 
+// Ships the summary of a saturated table, and checks it and the second map.
 fn expect_shipped(
     tally: &mut [u64; 145],
     call: usize,
@@ -140,38 +172,21 @@ fn expect_shipped(
     summary: &[u32],
     map: &[u32],
 ) {
-    let mut result = [0u32; 60];
-    let mut second = [0u32; 24];
-    let n = at_most(map.len(), 24);
-    expect_lists(
+    let mut space = [0u32; 60];
+    let result: &mut [u32] = &mut space;
+    let numbers = ship(tally, call, 0, rdfs_words(), table, roster, result);
+    let wanted = at_most(summary.len() / 3, 100) as u32;
+    small(call, name, wanted, at_most(numbers / 3, 100) as u32);
+    let whole = &result[..];
+    let got = left_condensed(&whole[0..numbers], map);
+    check(
         tally,
         call,
+        0,
         name,
-        table,
-        roster,
-        summary,
-        map,
-        &mut result,
-        &mut second[0..n],
+        same(got, left_condensed(summary, map)),
     );
-}
-
-// Saturates a table with its own roster first.
-fn expect_closed(
-    tally: &mut [u64; 145],
-    call: usize,
-    name: &[u8],
-    table: &[u32],
-    roster: &mut [u8],
-    closed: &mut [u32],
-    plain: &mut [u32],
-    summary: &[u32],
-    map: &[u32],
-) {
-    naive::own_roster(plain_words(rdfs_words()), table, roster);
-    let got = calls::saturate(tally, 0, rdfs_words(), table, roster, closed, plain);
-    let end = triples_end(got.count, closed.len());
-    expect_shipped(tally, call, name, &closed[0..end], roster, summary, map);
+    check(tally, call, 0, name, keeps(call, roster, summary, map));
 }
 
 // A table, the summary of its saturation, and the map when that is summarised again; N is the map's length.
@@ -183,40 +198,41 @@ fn expect(
     summary: &[u32],
     map: &[u32],
 ) {
-    let mut roster = [0u8; 24];
-    let mut closed = [0u32; 60];
-    let mut plain = [0u32; 60];
+    let mut roster_space = [0u8; 24];
+    let mut closed_space = [0u32; 60];
     let n = at_most(map.len(), 24);
-    expect_closed(
-        tally,
-        call,
-        name,
-        table,
-        &mut roster[0..n],
-        &mut closed,
-        &mut plain,
-        summary,
-        map,
-    );
+    let roster: &mut [u8] = &mut roster_space[0..n];
+    let closed: &mut [u32] = &mut closed_space;
+    naive_checks::own_roster(plain_words(rdfs_words()), table, roster);
+    let wanted = of_lengths(60, 0, 0);
+    table_call(tally, SATURATE, 0, rdfs_words(), table, roster, wanted);
+    let end = closure(rdfs_words(), table, roster, closed);
+    let whole = &closed[..];
+    expect_shipped(tally, call, name, &whole[0..end], roster, summary, map);
+}
+
+// The same of a list with a table that ends at one place and a summary that ends at another, and then the map.
+fn expect_in(
+    tally: &mut [u64; 145],
+    call: usize,
+    name: &[u8],
+    list: &[u32],
+    table_end: usize,
+    summary_end: usize,
+) {
+    let s = at_most(summary_end, list.len());
+    let t = at_most(table_end, s);
+    let end = list.len();
+    expect(tally, call, name, &list[0..t], &list[t..s], &list[s..end]);
+}
+
+fn both_sixes(tally: &mut [u64; 145], list: &[u32]) {
+    expect_in(tally, SUMMARISE, b"six-again", list, 18, 60);
+    expect_in(tally, STRONG, b"six-again", list, 18, 60);
 }
 
 pub fn all(tally: &mut [u64; 145]) {
-    expect(
-        tally,
-        SUMMARISE,
-        b"six-again",
-        &SIX,
-        &SIX_SUMMARY,
-        &SIX_SECOND,
-    );
-    expect(tally, STRONG, b"six-again", &SIX, &SIX_SUMMARY, &SIX_SECOND);
-    expect(
-        tally,
-        SUMMARISE,
-        b"chain-again",
-        &CHAIN,
-        &[10, 5, 10],
-        &CHAIN_SECOND,
-    );
-    expect(tally, STRONG, b"chain-again", &CHAIN, &CHAIN, &CHAIN_APART);
+    both_sixes(tally, &SIX);
+    expect_in(tally, SUMMARISE, b"chain-again", &CHAIN, 6, 9);
+    expect_in(tally, STRONG, b"chain-again", &APART, 6, 12);
 }

@@ -11,7 +11,9 @@ use Rattle.site_form.proofs.Example.{sign-bytes, prints-example}
 use Rattle.demands.specs.Demands.{GraphsRight, StrongGraphsRight, ClosuresRight, Demand2, Demand3, AtRest, SiteForms}
 use Rattle.demands.proofs.NoneMeansNone.{none-means-none}
 use Rattle.demands.proofs.Feeds.{list-of-calls}
-use Rattle.demands.proofs.Routes.{accepted-calls, routes-of-calls, strong-routes-of-calls, shortcut-of-calls, strong-shortcut-of-calls, weak-of-strong-calls, at-rest-of-calls, strong-at-rest-of-calls, leaves-saturated, none-of-calls, ask-refuses-six}
+use Rattle.demands.proofs.Routes.{accepted-calls, routes-of-calls, strong-routes-of-calls, shortcut-of-calls, strong-shortcut-of-calls}
+use Rattle.demands.proofs.Routes.{weak-of-strong-calls, at-rest-of-calls, strong-at-rest-of-calls, leaves-saturated, none-of-calls}
+use Rattle.demands.proofs.Routes.{ask-refuses-six}
 
 pub graphs-right : GraphsRight
 graphs-right = graphs.graphs-right

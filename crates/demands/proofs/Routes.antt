@@ -28,8 +28,10 @@ use Rattle.theory.proofs.Checks.{decided-passes, passed, passed-all, first-pass
 use Rattle.table_checks.proofs.Laws.{enough}
 use Rattle.theory.proofs.Flat.{triples-flat, length-flat}
 use Rattle.theory.specs.Theorems.{sumBy, ShortcutBy, RoutesBy, Saturated, AtRestBy}
-use Rattle.theory.proofs.Theorems.{shortcut-holds, routes-accepted, strong-shortcut-holds, strong-routes-accepted, weak-of-strong-holds, at-rest-holds, strong-at-rest-holds, saturation-saturated, own-roster-least}
-use Rattle.theory.proofs.Accepted.{Right, accepted-right, saturation-right, summary-right, right-accepted}
+use Rattle.theory.proofs.Theorems.{shortcut-holds, routes-accepted, strong-shortcut-holds, strong-routes-accepted, weak-of-strong-holds}
+use Rattle.theory.proofs.Theorems.{at-rest-holds, strong-at-rest-holds, saturation-saturated, own-roster-least}
+use Rattle.theory.specs.Tables.{Right}
+use Rattle.theory.proofs.Accepted.{accepted-right, saturation-right, summary-right, right-accepted}
 use Rattle.theory.proofs.Summaries.{condensed-length}
 use Rattle.theory.proofs.Mapped.{length-map-of, length-strong-map}
 use Rattle.demands.proofs.NoneMeansNone.{none-means-none}
@@ -37,7 +39,10 @@ use Rattle.model.specs.Roster.{ownRoster, wrongCodes}
 use Rattle.query.specs.declared.Query.{Query}
 use Rattle.query.specs.Ask.{unbound, search, wrongQuery, askOutcome, askChecks}
 use Rattle.query.specs.Match.{Match}
-use Rattle.demands.specs.Routes.{tableIn, Lent, LongEnough, SummarisesBy, AcceptsSummarise, Saturates, Asks, AcceptedCalls, RoutesOfCallsBy, RoutesOfCalls, StrongRoutesOfCalls, ShortcutOfCallsBy, ShortcutOfCalls, StrongShortcutOfCalls, WeakOfStrongCalls, AtRestOfCallsBy, AtRestOfCalls, StrongAtRestOfCalls, LeavesSaturated, NoneOfCallsBy, AskRefusesSix}
+use Rattle.demands.specs.Routes.{tableIn, Lent, LongEnough, SummarisesBy, AcceptsSummarise, Saturates, Asks, AcceptedCalls, RoutesOfCallsBy}
+use Rattle.demands.specs.Routes.{RoutesOfCalls, StrongRoutesOfCalls, ShortcutOfCallsBy, ShortcutOfCalls, StrongShortcutOfCalls}
+use Rattle.demands.specs.Routes.{WeakOfStrongCalls, AtRestOfCallsBy, AtRestOfCalls, StrongAtRestOfCalls, LeavesSaturated, NoneOfCallsBy}
+use Rattle.demands.specs.Routes.{AskRefusesSix}
 
 -- what a list that lists triples begins with
 listed-table : (n : ℕ) (ts : List Triple) (c : ℕ) → length ts ≡ c → tableIn c (listed n ts) ≡ flat ts
@@ -227,13 +232,15 @@ module _ (v : Vocabulary) where
       (first-passes _ _ (subst (λ (z : ℕ). wrongWords v z ≡ false) (sym e) (R .words))
       (first-passes _ _ (subst (λ (z : ℕ). wrongCodes v z (triples table) ≡ false) (sym e) (R .codes)) no-checks)))
 
-  accepts-cliques : (table roster sources targets : List ℕ) → Accepted v table roster → length sources ≡ length roster → length targets ≡ length roster → cliquesOutcome v table roster sources targets ≡ accepted tt
+  accepts-cliques : (table roster sources targets : List ℕ) → Accepted v table roster → length sources ≡ length roster
+      → length targets ≡ length roster → cliquesOutcome v table roster sources targets ≡ accepted tt
   unfolding cliquesOutcome
   accepts-cliques table roster sources targets h a b =
       ap (λ (x : Bool). checked (tableChecks v x table roster) tt) (or-neither (not (eqb (length sources) (length roster))) _ (ap not (eq-eqb _ _ a)) (ap not (eq-eqb _ _ b)))
       ∙ decided-passes (tableChecks v false table roster) (accepted tt) h
 
-  accepts-open : (table roster : List ℕ) (s : State) → Accepted v table roster → length (s .map) ≡ length roster → slots (s .triples) ≡ slots (s .summary) → slots (s .triples) ≤ mostTriples → openOutcome v roster s ≡ accepted tt
+  accepts-open : (table roster : List ℕ) (s : State) → Accepted v table roster → length (s .map) ≡ length roster
+      → slots (s .triples) ≡ slots (s .summary) → slots (s .triples) ≤ mostTriples → openOutcome v roster s ≡ accepted tt
   unfolding openOutcome wrongLists
   accepts-open table roster s h a b c =
       let R = accepted-right v table roster h in

@@ -6,7 +6,7 @@ use Prim.Native.Nat.{ℕ}
 use Rattle.model.specs.declared.Vocabulary.{Vocabulary}
 use Rattle.model.specs.Outcomes.{Outcome, accepted}
 use Rattle.model.specs.Intake.{State, Feed, Run}
-use Rattle.intake.specs.Opening.{Opens}
+use Rattle.intake_opening.specs.Opening.{Opens}
 use Rattle.theory.specs.Theorems.{Plain}
 
 module _ (v : Vocabulary) where

@@ -5,10 +5,10 @@
 ghost use Rattle.model.specs.Triples.{triple};
 ghost use Rattle.model.specs.Outcomes.{done, found};
 ghost use Rattle.model.specs.Intake.{Fed};
-ghost use Rattle.intake.specs.Opening.{stateWith, Opens};
-use intake::Counts;
-use intake::FedCounts;
-use intake::OpenedCounts;
+ghost use Rattle.intake_opening.specs.Opening.{atEntry, atExit, Opens};
+use intake_adding::FedCounts;
+use intake_opening::Counts;
+use intake_opening::OpenedCounts;
 use model::Vocabulary;
 
 // Opens an intake whose record is `counts`.
@@ -21,8 +21,8 @@ pub fn open_by_value(
     map: &mut [u32],
 ) -> OpenedCounts
     ensures { λ r. ⌜ Opens words (now (roster .entry))
-        (stateWith (now (triples .entry)) (now (summary .entry)) (now (map .entry)) (counts .held) (counts .summarised)) (done (r .answer))
-        (stateWith (now (triples .exit)) (now (summary .exit)) (now (map .exit)) (r .counts .held) (r .counts .summarised)) ⌝ }
+        (atEntry triples summary map (counts .held) (counts .summarised)) (done (r .answer))
+        (atExit triples summary map (r .counts .held) (r .counts .summarised)) ⌝ }
 {
     let mut record = counts;
     let answer = intake::open(&mut record, words, roster, triples, summary, map);
@@ -46,8 +46,8 @@ pub fn feed_by_value(
     o: u32,
 ) -> FedCounts
     ensures { λ r. ⌜ Fed words (now (roster .entry))
-        (stateWith (now (triples .entry)) (now (summary .entry)) (now (map .entry)) (counts .held) (counts .summarised)) (now (work .entry)) (triple s p o) (found (r .answer))
-        (stateWith (now (triples .exit)) (now (summary .exit)) (now (map .exit)) (r .counts .held) (r .counts .summarised)) (now (work .exit)) ⌝ }
+        (atEntry triples summary map (counts .held) (counts .summarised)) (now (work .entry)) (triple s p o) (found (r .answer))
+        (atExit triples summary map (r .counts .held) (r .counts .summarised)) (now (work .exit)) ⌝ }
 {
     let mut record = counts;
     let answer = intake::feed(

@@ -7,12 +7,19 @@ use mathlib.Core.List.{List}
 use lib.ListN.{length, getD, set}
 use Rattle.model.specs.declared.Triple.{Triple}
 use Rattle.model.specs.Codes.{absent}
+use Rattle.model.specs.Lists.{tabulate}
 use Rattle.model.specs.Triples.{triple, before}
 use Rattle.model.specs.Order.{Lt}
+use Rattle.model.specs.Cliques.{Graph}
+use Rattle.theory.specs.Tables.{In}
 
 -- the triple at place i
 unfoldable pub at : List ℕ → ℕ → Triple
 at l i = triple (getD l (3 * i) 0) (getD l (3 * i + 1) 0) (getD l (3 * i + 2) 0)
+
+-- the first i triples, as a set
+abbrev pub Before : List ℕ → ℕ → Graph
+Before table i = In (tabulate (at table) 0 i)
 
 -- the list with t at place i
 unfoldable pub putAt : List ℕ → ℕ → Triple → List ℕ

@@ -1,8 +1,6 @@
 // Look up: whether a triple is in a list, which may be in any order.
 
 ghost use mathlib.Core.Path.{_≡_};
-ghost use Prim.Native.Nat.{_*_, _≤_};
-ghost use lib.ListN.{length};
 ghost use Rattle.model.specs.Triples.{triples, holds};
 ghost use Rattle.model.specs.Outcomes.{found};
 ghost use Rattle.model.specs.Calls.{lookUpOutcome};

@@ -5,7 +5,8 @@ use Rattle.model.specs.Graphs.{graphs, allRight, right, equal, closures,
 use Rattle.model.specs.Codes.{kind, reserved, repeated, wrongWords}
 use Rattle.model.specs.Lists.{any, all, collect, among, tabulate}
 use Rattle.model.specs.Triples.{triples, flat, isData, before, same, insert, sorted}
-use Rattle.model.specs.Roster.{isClass, isProperty, unmarked, classRoles, propertyRoles, classIn, propertyIn, coversTriple, covers, ownRoster, wrongRoster, wrongEnd, wrongTriple, wrongCodes, isNode}
+use Rattle.model.specs.Roster.{isClass, isProperty, unmarked, classRoles, propertyRoles, classIn, propertyIn, coversTriple, covers, ownRoster}
+use Rattle.model.specs.Roster.{wrongRoster, wrongEnd, wrongTriple, wrongCodes, isNode}
 use Rattle.model.specs.Rules.{place, fits, gives}
 use Rattle.model.specs.Saturation.{conclusions, round, rounds, saturation}
 use Rattle.model.specs.Partition.{union, merged, pairs}

@@ -4,7 +4,7 @@
 -- Assumes nothing.
 use Prim.Native.Nat.{ℕ}
 use mathlib.Core.Path.{_≡_}
-use mathlib.Core.Bool.{Bool, true, cond, _&&_}
+use mathlib.Core.Bool.{Bool, true, false, cond, _&&_}
 use mathlib.Core.List.{List}
 use lib.Dec.{eqb}
 use lib.ListN.{length}
@@ -27,6 +27,11 @@ pub data Side : Type 0 where
 abbrev pub end : Side → Triple → ℕ
 end source t = t .subject
 end target t = t .object
+
+-- the side that a flag stands for
+abbrev pub sideOf : Bool → Side
+sideOf true = source
+sideOf false = target
 
 -- 01: "A node is a code that is subject or object of a triple."
 pub record Node (G : Graph) (n : ℕ) : Type 0 where

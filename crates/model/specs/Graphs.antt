@@ -64,7 +64,8 @@ graphs =
     (absent ∷ absent ∷ absent ∷ absent ∷ absent ∷ [])
     ∷ {- the six triples of the site form; 02: "the saturation of its six triples has 17" -}
     graph rdfs 14 (5 ∷ 2 ∷ 7 ∷ 6 ∷ 2 ∷ 7 ∷ 7 ∷ 3 ∷ 8 ∷ 8 ∷ 1 ∷ 9 ∷ 10 ∷ 5 ∷ 12 ∷ 11 ∷ 6 ∷ 13 ∷ [])
-    (5 ∷ 2 ∷ 7 ∷ 5 ∷ 3 ∷ 8 ∷ 5 ∷ 3 ∷ 9 ∷ 6 ∷ 2 ∷ 7 ∷ 6 ∷ 3 ∷ 8 ∷ 6 ∷ 3 ∷ 9 ∷ 7 ∷ 3 ∷ 8 ∷ 7 ∷ 3 ∷ 9 ∷ 8 ∷ 1 ∷ 9 ∷ 10 ∷ 0 ∷ 8 ∷ 10 ∷ 0 ∷ 9 ∷ 10 ∷ 5 ∷ 12 ∷ 10 ∷ 7 ∷ 12 ∷ 11 ∷ 0 ∷ 8 ∷ 11 ∷ 0 ∷ 9 ∷ 11 ∷ 6 ∷ 13 ∷ 11 ∷ 7 ∷ 13 ∷ [])
+    (5 ∷ 2 ∷ 7 ∷ 5 ∷ 3 ∷ 8 ∷ 5 ∷ 3 ∷ 9 ∷ 6 ∷ 2 ∷ 7 ∷ 6 ∷ 3 ∷ 8 ∷ 6 ∷ 3 ∷ 9 ∷ 7 ∷ 3 ∷ 8 ∷ 7 ∷ 3 ∷ 9 ∷ 8 ∷ 1 ∷ 9 ∷ 10 ∷ 0 ∷ 8 ∷ 10 ∷ 0 ∷ 9 ∷ 10 ∷ 5 ∷
+    12 ∷ 10 ∷ 7 ∷ 12 ∷ 11 ∷ 0 ∷ 8 ∷ 11 ∷ 0 ∷ 9 ∷ 11 ∷ 6 ∷ 13 ∷ 11 ∷ 7 ∷ 13 ∷ [])
     (5 ∷ 2 ∷ 7 ∷ 6 ∷ 2 ∷ 7 ∷ 7 ∷ 3 ∷ 8 ∷ 8 ∷ 1 ∷ 9 ∷ 10 ∷ 5 ∷ 12 ∷ 11 ∷ 6 ∷ 13 ∷ [])
     (absent ∷ absent ∷ absent ∷ absent ∷ absent ∷ 5 ∷ 6 ∷ 7 ∷ 8 ∷ 9 ∷ 10 ∷ 11 ∷ 12 ∷ 13 ∷ [])
     (absent ∷ absent ∷ absent ∷ absent ∷ absent ∷ 5 ∷ 6 ∷ absent ∷ absent ∷ absent ∷ absent ∷ absent ∷ absent ∷ absent ∷ [])
@@ -102,8 +103,10 @@ graphs =
     (10 ∷ 5 ∷ 20 ∷ 10 ∷ 6 ∷ 21 ∷ 11 ∷ 6 ∷ 22 ∷ 11 ∷ 7 ∷ 23 ∷ [])
     (10 ∷ 5 ∷ 20 ∷ 10 ∷ 6 ∷ 21 ∷ 10 ∷ 7 ∷ 23 ∷ [])
     (absent ∷ absent ∷ absent ∷ absent ∷ absent ∷ absent ∷ absent ∷ absent ∷ absent ∷ absent ∷ 10 ∷ 10 ∷ absent ∷ absent ∷ absent ∷ absent ∷ absent ∷ absent ∷ absent ∷ absent ∷ 20 ∷ 21 ∷ 21 ∷ 23 ∷ [])
-    (absent ∷ absent ∷ absent ∷ absent ∷ absent ∷ 5 ∷ 5 ∷ 5 ∷ absent ∷ absent ∷ absent ∷ absent ∷ absent ∷ absent ∷ absent ∷ absent ∷ absent ∷ absent ∷ absent ∷ absent ∷ absent ∷ absent ∷ absent ∷ absent ∷ [])
-    (absent ∷ absent ∷ absent ∷ absent ∷ absent ∷ 5 ∷ 6 ∷ 7 ∷ absent ∷ absent ∷ absent ∷ absent ∷ absent ∷ absent ∷ absent ∷ absent ∷ absent ∷ absent ∷ absent ∷ absent ∷ absent ∷ absent ∷ absent ∷ absent ∷ [])
+    (absent ∷ absent ∷ absent ∷ absent ∷ absent ∷ 5 ∷ 5 ∷ 5 ∷ absent ∷ absent ∷ absent ∷ absent ∷ absent ∷ absent ∷ absent ∷ absent ∷ absent ∷ absent
+    ∷ absent ∷ absent ∷ absent ∷ absent ∷ absent ∷ absent ∷ [])
+    (absent ∷ absent ∷ absent ∷ absent ∷ absent ∷ 5 ∷ 6 ∷ 7 ∷ absent ∷ absent ∷ absent ∷ absent ∷ absent ∷ absent ∷ absent ∷ absent ∷ absent ∷ absent
+    ∷ absent ∷ absent ∷ absent ∷ absent ∷ absent ∷ absent ∷ [])
     ∷ {- a class links nothing -}
     graph rdfs 14 (10 ∷ 0 ∷ 8 ∷ 8 ∷ 5 ∷ 12 ∷ 8 ∷ 6 ∷ 13 ∷ [])
     (8 ∷ 5 ∷ 12 ∷ 8 ∷ 6 ∷ 13 ∷ 10 ∷ 0 ∷ 8 ∷ [])
@@ -120,11 +123,14 @@ graphs =
     (absent ∷ absent ∷ absent ∷ absent ∷ absent ∷ absent ∷ absent ∷ absent ∷ absent ∷ absent ∷ [])
     ∷ {- 02: the same six triples under another word table, every code below 5 written 10 more and every other 5 less -}
     graph (vocabulary 10 11 12 13 14) 24 (0 ∷ 12 ∷ 2 ∷ 1 ∷ 12 ∷ 2 ∷ 2 ∷ 13 ∷ 3 ∷ 3 ∷ 11 ∷ 4 ∷ 5 ∷ 0 ∷ 7 ∷ 6 ∷ 1 ∷ 8 ∷ [])
-    (0 ∷ 12 ∷ 2 ∷ 0 ∷ 13 ∷ 3 ∷ 0 ∷ 13 ∷ 4 ∷ 1 ∷ 12 ∷ 2 ∷ 1 ∷ 13 ∷ 3 ∷ 1 ∷ 13 ∷ 4 ∷ 2 ∷ 13 ∷ 3 ∷ 2 ∷ 13 ∷ 4 ∷ 3 ∷ 11 ∷ 4 ∷ 5 ∷ 0 ∷ 7 ∷ 5 ∷ 2 ∷ 7 ∷ 5 ∷ 10 ∷ 3 ∷ 5 ∷ 10 ∷ 4 ∷ 6 ∷ 1 ∷ 8 ∷ 6 ∷ 2 ∷ 8 ∷ 6 ∷ 10 ∷ 3 ∷ 6 ∷ 10 ∷ 4 ∷ [])
+    (0 ∷ 12 ∷ 2 ∷ 0 ∷ 13 ∷ 3 ∷ 0 ∷ 13 ∷ 4 ∷ 1 ∷ 12 ∷ 2 ∷ 1 ∷ 13 ∷ 3 ∷ 1 ∷ 13 ∷ 4 ∷ 2 ∷ 13 ∷ 3 ∷ 2 ∷ 13 ∷ 4 ∷ 3 ∷ 11 ∷ 4 ∷ 5 ∷ 0 ∷ 7 ∷ 5 ∷ 2 ∷ 7 ∷ 5 ∷
+    10 ∷ 3 ∷ 5 ∷ 10 ∷ 4 ∷ 6 ∷ 1 ∷ 8 ∷ 6 ∷ 2 ∷ 8 ∷ 6 ∷ 10 ∷ 3 ∷ 6 ∷ 10 ∷ 4 ∷ [])
     (0 ∷ 12 ∷ 2 ∷ 1 ∷ 12 ∷ 2 ∷ 2 ∷ 13 ∷ 3 ∷ 3 ∷ 11 ∷ 4 ∷ 5 ∷ 0 ∷ 7 ∷ 6 ∷ 1 ∷ 8 ∷ [])
     (0 ∷ 1 ∷ 2 ∷ 3 ∷ 4 ∷ 5 ∷ 6 ∷ 7 ∷ 8 ∷ absent ∷ absent ∷ absent ∷ absent ∷ absent ∷ absent ∷ absent ∷ absent ∷ absent ∷ absent ∷ absent ∷ absent ∷ absent ∷ absent ∷ absent ∷ [])
-    (0 ∷ 1 ∷ absent ∷ absent ∷ absent ∷ absent ∷ absent ∷ absent ∷ absent ∷ absent ∷ absent ∷ absent ∷ absent ∷ absent ∷ absent ∷ absent ∷ absent ∷ absent ∷ absent ∷ absent ∷ absent ∷ absent ∷ absent ∷ absent ∷ [])
-    (0 ∷ 1 ∷ absent ∷ absent ∷ absent ∷ absent ∷ absent ∷ absent ∷ absent ∷ absent ∷ absent ∷ absent ∷ absent ∷ absent ∷ absent ∷ absent ∷ absent ∷ absent ∷ absent ∷ absent ∷ absent ∷ absent ∷ absent ∷ absent ∷ [])
+    (0 ∷ 1 ∷ absent ∷ absent ∷ absent ∷ absent ∷ absent ∷ absent ∷ absent ∷ absent ∷ absent ∷ absent ∷ absent ∷ absent ∷ absent ∷ absent ∷ absent ∷
+    absent ∷ absent ∷ absent ∷ absent ∷ absent ∷ absent ∷ absent ∷ [])
+    (0 ∷ 1 ∷ absent ∷ absent ∷ absent ∷ absent ∷ absent ∷ absent ∷ absent ∷ absent ∷ absent ∷ absent ∷ absent ∷ absent ∷ absent ∷ absent ∷ absent ∷
+    absent ∷ absent ∷ absent ∷ absent ∷ absent ∷ absent ∷ absent ∷ [])
     ∷ {- a word table that falls; codes below 5 are nodes, a class and a property, and 0 represents -}
     graph (vocabulary 9 8 7 6 5) 10 (3 ∷ 9 ∷ 1 ∷ 0 ∷ 2 ∷ 4 ∷ 4 ∷ 2 ∷ 3 ∷ [])
     (0 ∷ 2 ∷ 4 ∷ 3 ∷ 9 ∷ 1 ∷ 4 ∷ 2 ∷ 3 ∷ [])
@@ -240,7 +246,8 @@ strongGraphs =
     ∷ {- one source clique; no target clique, and two different ones -}
     strongGraph rdfs 32 (10 ∷ 5 ∷ 20 ∷ 10 ∷ 6 ∷ 21 ∷ 11 ∷ 6 ∷ 22 ∷ 12 ∷ 6 ∷ 23 ∷ 13 ∷ 5 ∷ 24 ∷ 30 ∷ 7 ∷ 12 ∷ 31 ∷ 8 ∷ 13 ∷ [])
     (10 ∷ 5 ∷ 20 ∷ 10 ∷ 6 ∷ 21 ∷ 12 ∷ 6 ∷ 21 ∷ 13 ∷ 5 ∷ 20 ∷ 30 ∷ 7 ∷ 12 ∷ 31 ∷ 8 ∷ 13 ∷ [])
-    (absent ∷ absent ∷ absent ∷ absent ∷ absent ∷ absent ∷ absent ∷ absent ∷ absent ∷ absent ∷ 10 ∷ 10 ∷ 12 ∷ 13 ∷ absent ∷ absent ∷ absent ∷ absent ∷ absent ∷ absent ∷ 20 ∷ 21 ∷ 21 ∷ 21 ∷ 20 ∷ absent ∷ absent ∷ absent ∷ absent ∷ absent ∷ 30 ∷ 31 ∷ [])
+    (absent ∷ absent ∷ absent ∷ absent ∷ absent ∷ absent ∷ absent ∷ absent ∷ absent ∷ absent ∷ 10 ∷ 10 ∷ 12 ∷ 13 ∷ absent ∷ absent ∷ absent ∷ absent
+    ∷ absent ∷ absent ∷ 20 ∷ 21 ∷ 21 ∷ 21 ∷ 20 ∷ absent ∷ absent ∷ absent ∷ absent ∷ absent ∷ 30 ∷ 31 ∷ [])
     (10 ∷ 5 ∷ 20 ∷ 10 ∷ 6 ∷ 21 ∷ 30 ∷ 7 ∷ 10 ∷ 31 ∷ 8 ∷ 10 ∷ [])
     ∷ {- one target clique, with and without a source clique -}
     strongGraph rdfs 15 (10 ∷ 5 ∷ 12 ∷ 11 ∷ 5 ∷ 13 ∷ 12 ∷ 6 ∷ 14 ∷ [])

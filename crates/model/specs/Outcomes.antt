@@ -70,9 +70,13 @@ checked cs x = decided cs (accepted x)
 abbrev pub Passes : List Check → Type 0
 Passes cs = any (λ (c : Check). c .fails) cs ≡ false
 
--- 01, the column "left behind": after 5 and 8 the lists are zero, after any other refusal nothing is altered
+-- 01, the column "left behind": after these refusals the lists are zero, after any other nothing is altered
+abbrev pub zeroing : List ℕ
+zeroing = 5 ∷ 8 ∷ []
+
+-- a refusal is one of them
 unfoldable pub zeroed : ℕ → Bool
-zeroed r = eqb r 5 || eqb r 8
+zeroed r = any (λ n. eqb r n) zeroing
 
 -- what a call leaves in a list: its contents at the call, and what it holds where the call is accepted
 unfoldable pub left : {A : Type 0} → Outcome A → List ℕ → List ℕ → List ℕ

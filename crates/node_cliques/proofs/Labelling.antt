@@ -19,15 +19,15 @@ use Rattle.model.specs.Cliques.{Side, Has, cliques}
 use Rattle.model.specs.Classes.{cliqueOf}
 use Rattle.theory.proofs.Tests.{not-both, bool-cases}
 use Rattle.theory.proofs.Lists.{length-tabulate, tabulate-at}
-use Rattle.theory.proofs.Saturated.{In}
+use Rattle.theory.specs.Tables.{In, Right}
 use Rattle.theory.proofs.Mapped.{has-label, has-named, none-label}
-use Rattle.theory.proofs.Accepted.{Right, room, below}
+use Rattle.theory.proofs.Accepted.{room, below}
 use Rattle.union_find.specs.Roots.{Forest, root}
 use Rattle.union_find.specs.Calls.{Active, RootFound}
 use Rattle.union_find.proofs.Laws.{root-le}
-use Rattle.cliques.specs.Grouping.{Grouping, Grouped}
-use Rattle.cliques.proofs.Entries.{forest-same, roots-same}
-use Rattle.cliques.proofs.Ends.{root-label, all-triples}
+use Rattle.property_groups.specs.Grouping.{Grouping, Grouped}
+use Rattle.property_groups.proofs.Entries.{forest-same, roots-same}
+use Rattle.property_groups.proofs.Ends.{root-label, all-triples}
 use Rattle.node_cliques.specs.Labels.{orNone, isLabel, nodeCliques}
 use Rattle.node_cliques.specs.Labelling.{EntriesFilled, FirstProperties, labelOf, NodesLabelled, Labelling, SomeProperties}
 use Rattle.node_cliques.proofs.Fills.{other-plain}

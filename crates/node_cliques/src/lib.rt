@@ -8,15 +8,15 @@ ghost use Prim.Native.Nat.{ℕ, _+_, _<_};
 ghost use lib.ListN.{length};
 ghost use Rattle.model.specs.Codes.{absent};
 ghost use Rattle.model.specs.Triples.{triples};
-ghost use Rattle.theory.proofs.Accepted.{Right};
-ghost use Rattle.cliques.specs.Calls.{sideOf};
+ghost use Rattle.theory.specs.Tables.{Right};
+ghost use Rattle.model.specs.Cliques.{sideOf};
 ghost use Rattle.node_cliques.specs.Labels.{isLabel, nodeCliques};
 ghost use Rattle.node_cliques.specs.Labelling.{EntriesFilled, FirstProperties, NodesLabelled, Labelling, SomeLabelling, SomeProperties};
-use cliques::group_side;
 use lists::Code;
 use lists::narrow;
 use lists::wide;
 use model::Vocabulary;
+use property_groups::group_side;
 use union_find::find;
 
 // An unmarked code gets its label: the root of its property, or `none` if it has no property.

@@ -24,11 +24,11 @@ use Rattle.site_form.specs.Reading.{Forms, readForms, siteOf, readOutcome, read
 use Rattle.site_form.specs.Printing.{mostBytes, printRead, printOutcome, printed, shown}
 use Rattle.site_form.proofs.Whole.{read-says}
 use Rattle.site_reader.specs.Calls.{ReadCall}
-use Rattle.site_writer.specs.Calls.{Put}
-use Rattle.printer.specs.Outcomes.{siteOutcome}
-use Rattle.printer.proofs.Lines.{put-as}
-use Rattle.printer.proofs.Fits.{forms-are}
-use Rattle.printer.proofs.Parts.{front, same-value}
+use Rattle.site_bytes.specs.Calls.{Put}
+use Rattle.table_printing.specs.Outcomes.{siteOutcome}
+use Rattle.site_report.proofs.Lines.{put-as}
+use Rattle.table_printing.proofs.Fits.{forms-are}
+use Rattle.table_printing.proofs.Parts.{front, same-value}
 
 module _ (text l out : List ℕ) (x : ℕ) where
   pub too-long : mostBytes < length text → Put l 0 (shown (refused (refusalNumber Form))) out x → Put l 0 (printed text) out x
@@ -54,7 +54,8 @@ module _ (text list : List ℕ) (size : length list ≡ 3 * mostLines) (short : 
   unfolding readOutcome slots
   some-is f e =
       ap (λ (o : Option Forms). outcomeOf o list) e
-      ∙ decided-skip (check 5 (ltb (length list / 3) (length (f .triples)))) [] (accepted (siteOf f)) (le-ltb (length list / 3) (length (f .triples)) (omega (arith, (read-says text f e) .few-triples)))
+      ∙ decided-skip (check 5 (ltb (length list / 3) (length (f .triples)))) [] (accepted (siteOf f))
+      (le-ltb (length list / 3) (length (f .triples)) (omega (arith, (read-says text f e) .few-triples)))
       ∙ decided-passes [] (accepted (siteOf f)) no-checks
 
   refused-by : (y : Refusal) → r .form ≡ Refused y → (o : Option Forms) → readForms text ≡ o → printed text ≡ shown (refused (refusalNumber Form))
@@ -129,7 +130,8 @@ module _ (text list : List ℕ) (size : length list ≡ 3 * mostLines) (short : 
     printed-as =
         printed-is text short (some f) (taken .1 .says)
         ∙ ap shown (forms-are f)
-        ∙ (λ i. shown (siteOutcome (sym (taken .1 .is-site) i .words) (sym (taken .1 .is-site) i .size) (sym (ap triples part-is ∙ triples-flat (f .triples)) i) (sym (taken .1 .is-site) i .queries) (sym (taken .1 .is-site) i .asks)))
+        ∙ (λ i. shown (siteOutcome (sym (taken .1 .is-site) i .words) (sym (taken .1 .is-site) i .size)
+        (sym (ap triples part-is ∙ triples-flat (f .triples)) i) (sym (taken .1 .is-site) i .queries) (sym (taken .1 .is-site) i .asks)))
 
     pub text-put : (l out : List ℕ) (x : ℕ) → Put l 0 (shown (siteOutcome (r .site .words) (r .site .size) (triples part) (r .site .queries) (r .site .asks))) out x → Put l 0 (printed text) out x
     text-put l out x p = put-as 0 printed-as l out x p

@@ -147,7 +147,8 @@ module _ (v : Vocabulary) (table map : List ℕ) (q : Query) (a : Passed v table
   found y =
       let g = good-query _ _ (a .query) in
       let w = some-triple ts map (q .patterns) (q .count) 0 unbound (g .some) y in
-      let r = search-sound ts map q g present (w .0 .subject) (record { by = w .0; held = w .1; side = source; is-end = refl }) (q .count) 0 unbound (omega arith) y (length-replicate 8 absent) (λ w l m. absurd (m (at-start w l))) in
+      let r = search-sound ts map q g present (w .0 .subject) (record { by = w .0; held = w .1; side = source; is-end = refl }) (q .count) 0 unbound
+      (omega arith) y (length-replicate 8 absent) (λ w l m. absurd (m (at-start w l))) in
       record { chosen = r .chosen; nodes = r .nodes; puts = λ j l. r .there j (omega arith) l }
 
   exact : Exact v table map q

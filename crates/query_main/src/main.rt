@@ -103,13 +103,13 @@ fn pair(a: Pattern, b: Pattern, count: u32) -> Query {
 fn example() {
     let a = Code::ABSENT;
     let map: [u32; 14] = [a, a, a, a, a, 5, 6, 7, 8, 9, 10, 10, 12, 12];
-    show(query::ask(
+    show(ask::ask(
         words(4),
         &SUMMARY,
         &map,
         pair(vars(0, 5, 1), vars(0, 6, 2), 2),
     ));
-    show(query::ask(
+    show(ask::ask(
         words(4),
         &SUMMARY,
         &map,
@@ -124,11 +124,11 @@ fn refusals() {
     let five = [0u32; 5];
     let table = [5u32, 5, 0];
     let q = pair(vars(0, 5, 1), vars(0, 5, 1), 0);
-    show(query::ask(words(4), &table, &four, q));
-    show(query::ask(words(3), &table, &five, q));
-    show(query::ask(words(5), &table, &five, q));
-    show(query::ask(words(4), &table, &five, q));
-    show(query::ask(words(4), &[], &five, q));
+    show(ask::ask(words(4), &table, &four, q));
+    show(ask::ask(words(3), &table, &five, q));
+    show(ask::ask(words(5), &table, &five, q));
+    show(ask::ask(words(4), &table, &five, q));
+    show(ask::ask(words(4), &[], &five, q));
 }
 
 // 100,000 triples 5 5 5, of which none has the object 6.
@@ -140,7 +140,7 @@ fn large() {
         property: 5,
         object: End::Code(6),
     };
-    show(query::ask(words(4), &table, &map, pair(p, p, 1)));
+    show(ask::ask(words(4), &table, &map, pair(p, p, 1)));
 }
 
 fn main() {

@@ -2,7 +2,7 @@
 -- Assumes nothing.
 use Prim.Native.Nat.{ℕ, zero, suc, _+_, _-_, _/_, _≤_, _<_}
 use mathlib.Core.Path.{_≡_, refl, sym, _∙_, ap}
-use mathlib.Core.Logic.{_⊎_, ⊎-elim}
+use mathlib.Core.Logic.{⊎-elim}
 use mathlib.Core.Bool.{Bool, true, false, cond, _||_}
 use mathlib.Core.List.{List, [], _∷_, List·Memᴰ as Mem, List·Memᴰ·head as here, List·Memᴰ·tail as there}
 use native.Mathlib.Omega.{arith}
@@ -20,7 +20,8 @@ use Rattle.model.specs.Triples.{triples}
 use Rattle.model.specs.Roster.{classRow, propertyRow, classRoles, propertyRoles, classIn, propertyIn, ownRoster}
 use Rattle.theory.proofs.Tests.{bool-cases}
 use Rattle.theory.proofs.Lists.{tabulate-at, length-tabulate}
-use Rattle.theory.proofs.Covered.{kind-top, Below, AllBelow}
+use Rattle.theory.specs.Tables.{Below, AllBelow}
+use Rattle.theory.proofs.Covered.{kind-top}
 use Rattle.theory.proofs.OwnRoster.{Role, as-subject, as-object, as-property, class-role, property-role}
 use Rattle.lists.specs.Flat.{at}
 use Rattle.lists.proofs.Places.{triples-table}
@@ -192,7 +193,8 @@ module _ (v : Vocabulary) where
       sub-zero : (n : ℕ) → n - 0 ≡ n
       sub-zero n = omega arith
 
-  pub left-step : (table roster : List ℕ) (n i : ℕ) (now next : List ℕ) (t : Triple) → i < n → t ≡ at table i → next ≡ rolesMarked v now t → Left table roster n i now → Left table roster n (i + 1) next
+  pub left-step : (table roster : List ℕ) (n i : ℕ) (now next : List ℕ) (t : Triple) → i < n → t ≡ at table i → next ≡ rolesMarked v now t
+      → Left table roster n i now → Left table roster n (i + 1) next
   unfolding tableMarked tabulate
   left-step table roster n i now next t h e q l =
       let m : n - i ≡ suc (n - (i + 1)) = omega arith in

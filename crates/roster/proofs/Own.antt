@@ -9,13 +9,14 @@ use Rattle.model.specs.declared.Done.the-variants.{Accepted, Refused}
 use Rattle.model.specs.declared.Refusal.the-variants.{Length, Code, Words}
 use Rattle.model.specs.declared.Vocabulary.{Vocabulary}
 use Rattle.model.specs.Codes.{wrongWords}
-use Rattle.model.specs.Lists.{zeros}
+use Rattle.model.specs.Lists.{any, zeros}
 use Rattle.model.specs.Triples.{triples}
 use Rattle.model.specs.Roster.{ownRoster, wrongCodes}
 use Rattle.model.specs.Outcomes.{Outcome, refused, accepted, refusalNumber, done, decided, left, zeroed, wrongSize, wrongLength}
 use Rattle.model.specs.Calls.{ownRosterOutcome, ownRosterLeaves}
 use Rattle.theory.proofs.Tests.{or-left, or-right, or-neither}
-use Rattle.theory.proofs.Covered.{AllBelow, all-codes}
+use Rattle.theory.specs.Tables.{AllBelow}
+use Rattle.theory.proofs.Covered.{all-codes}
 use Rattle.roster.specs.Calls.{OwnRosterCall}
 use Rattle.roster.specs.Marks.{tableMarked}
 use Rattle.roster.proofs.Marking.{marked-own}
@@ -28,7 +29,8 @@ module _ (v : Vocabulary) where
     abbrev third : Bool
     third = wrongCodes v (length roster) (triples table)
 
-    outcome-is : {a w b : Bool} → first ≡ a → wrongWords v (length roster) ≡ w → third ≡ b → ownRosterOutcome v table roster ≡ cond a (refused 1) (cond w (refused 10) (cond b (refused 3) (accepted tt)))
+    outcome-is : {a w b : Bool} → first ≡ a → wrongWords v (length roster) ≡ w → third ≡ b
+        → ownRosterOutcome v table roster ≡ cond a (refused 1) (cond w (refused 10) (cond b (refused 3) (accepted tt)))
     unfolding ownRosterOutcome decided
     outcome-is p w q = λ i. cond (p i) (refused 1) (cond (w i) (refused 10) (cond (q i) (refused 3) (accepted tt)))
 
@@ -37,7 +39,7 @@ module _ (v : Vocabulary) where
     leaves-is e = ap (λ (o : Outcome (Unit {0})). left o roster (ownRoster v (length roster) (triples table))) e
 
     by-length : first ≡ true → OwnRosterCall v table roster (Refused Length) roster
-    unfolding done refusalNumber left zeroed
+    unfolding done refusalNumber left zeroed any
     by-length p = let e = outcome-is p refl refl in record { answer = sym e; leaves = sym (leaves-is e) }
 
     pub by-size : wrongSize (length roster) ≡ true → OwnRosterCall v table roster (Refused Length) roster
@@ -51,11 +53,11 @@ module _ (v : Vocabulary) where
       passed = or-neither (wrongSize (length roster)) _ p q
 
       pub by-words : wrongWords v (length roster) ≡ true → OwnRosterCall v table roster (Refused Words) roster
-      unfolding done refusalNumber left zeroed
+      unfolding done refusalNumber left zeroed any
       by-words h = let e = outcome-is passed h refl in record { answer = sym e; leaves = sym (leaves-is e) }
 
       pub by-codes : wrongWords v (length roster) ≡ false → third ≡ true → OwnRosterCall v table roster (Refused Code) roster
-      unfolding done refusalNumber left zeroed
+      unfolding done refusalNumber left zeroed any
       by-codes w h = let e = outcome-is passed w h in record { answer = sym e; leaves = sym (leaves-is e) }
 
       pub by-marking : wrongWords v (length roster) ≡ false → third ≡ false → (a b : List ℕ) → a ≡ zeros (length roster) → b ≡ tableMarked v a (triples table) → OwnRosterCall v table roster Accepted b

@@ -1,22 +1,13 @@
 -- Marks and how they grow.
 -- Assumes nothing.
 use Prim.Native.Nat.{ℕ}
-use mathlib.Core.Bool.{Bool, cond, not}
+use mathlib.Core.Bool.{cond}
 use mathlib.Core.List.{List, [], _∷_}
-use lib.Dec.{eqb, ltb}
+use lib.Dec.{eqb}
 use lib.ListN.{getD, set}
 use Rattle.model.specs.declared.Triple.{Triple}
 use Rattle.model.specs.declared.Vocabulary.{Vocabulary}
-use Rattle.model.specs.Codes.{codes}
-use Rattle.model.specs.Lists.{any}
-use Rattle.model.specs.Roster.{unmarked, classRoles, propertyRoles}
-
--- the two halves of check 2
-unfoldable pub overThree : List ℕ → Bool
-overThree roster = any (λ m. ltb 3 m) roster
-
-unfoldable pub marked : Vocabulary → List ℕ → Bool
-marked v roster = any (λ c. not (unmarked roster c)) (codes v)
+use Rattle.model.specs.Roster.{classRoles, propertyRoles}
 
 -- a mark that also says class, or property
 unfoldable pub withClass : ℕ → ℕ

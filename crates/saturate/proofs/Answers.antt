@@ -18,8 +18,9 @@ use Rattle.model.specs.Outcomes.{accepted, refusalNumber, counted, checked, Pas
 use Rattle.model.specs.Calls.{tableChecks, saturated, saturateOutcome, saturateLeaves}
 use Rattle.theory.proofs.Order.{sorted-rising, sorted-mem, mem-sorted, sorted-length}
 use Rattle.theory.proofs.Lists.{length-tabulate}
-use Rattle.theory.proofs.Saturated.{In, saturation-exact, saturation-unique}
-use Rattle.theory.proofs.Accepted.{type-below, Right, below, in-codes}
+use Rattle.theory.specs.Tables.{In, Right}
+use Rattle.theory.proofs.Saturated.{saturation-exact, saturation-unique}
+use Rattle.theory.proofs.Accepted.{type-below, below, in-codes}
 use Rattle.table_checks.specs.declared.Verdict.{Verdict}
 use Rattle.table_checks.specs.declared.Verdict.the-variants.{Passed, Refused}
 use Rattle.table_checks.specs.Verdicts.{verdict}
@@ -28,7 +29,7 @@ use Rattle.lists.specs.Flat.{at, Cleared}
 use Rattle.lists.proofs.Search.{cleared-all}
 use Rattle.builder.specs.declared.Builder.{Builder}
 use Rattle.builder.specs.Builder.{first, Finished}
-use Rattle.saturate.specs.Rounds.{Closed, FreeEnds}
+use Rattle.strata.specs.Strata.{Closed, FreeEnds}
 
 module _ (v : Vocabulary) where
   -- what derive asks for

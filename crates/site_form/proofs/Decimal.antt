@@ -166,7 +166,8 @@ more-says text (b ∷ bs) v at w j e p u q =
     go (digit b) (ltb largest (v * 10 + (b - 48))) refl refl
     (λ n m. more-says text bs (v * 10 + (b - 48)) (suc at) w j (drop-next text at b bs e) m n)
   where
-    go : (s t : Bool) → digit b ≡ s → ltb largest (v * 10 + (b - 48)) ≡ t → (U32 (v * 10 + (b - 48)) → 1 ≤ v * 10 + (b - 48) → moreOf (v * 10 + (b - 48)) (suc at) bs ≡ got w j → Grows text (v * 10 + (b - 48)) bs w j) → Grows text v (b ∷ bs) w j
+    go : (s t : Bool) → digit b ≡ s → ltb largest (v * 10 + (b - 48)) ≡ t
+        → (U32 (v * 10 + (b - 48)) → 1 ≤ v * 10 + (b - 48) → moreOf (v * 10 + (b - 48)) (suc at) bs ≡ got w j → Grows text (v * 10 + (b - 48)) bs w j) → Grows text v (b ∷ bs) w j
     go false t d l ih = stop-says text (b ∷ bs) v at w j e u (sym (more-stop v at b bs d) ∙ q)
     go true true d l ih = not-bad (moreOf v at (b ∷ bs)) w j (more-over v at b bs d (ltb-true _ _ l)) q
     go true false d l ih = let h = ltb-false _ _ l in on-says text bs v b w j p d (ih h (omega arith) (sym (more-on v at b bs d h) ∙ q))

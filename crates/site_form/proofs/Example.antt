@@ -22,9 +22,12 @@ use Rattle.model.specs.Outcomes.{Outcome, accepted, decided, wrongSize, wrongLe
 use Rattle.query.specs.declared.Pattern.{Pattern}
 use Rattle.query.specs.Ask.{askOutcome, askChecks, wrongQuery, wrongPattern, wrongPatternEnd, countedPatterns, search, tried, fitTriple, fitEnd}
 use Rattle.site_form.specs.Text.{digits, numeral, tripleLine}
-use Rattle.site_form.specs.Reading.{_>>=_, give, _or_, optional, many, begins, word, textEnd, digit, digitFirst, moreOf, numberOf, number, lineEnd, siteReader, wordsReader, tripleReader, endIn, endReader, patternReader, nextReader, askReader, forms, formsReader, readForms, queryOf}
+use Rattle.site_form.specs.Reading.{_>>=_, give, _or_, optional, many, begins, word, textEnd, digit, digitFirst, moreOf, numberOf, number}
+use Rattle.site_form.specs.Reading.{lineEnd, siteReader, wordsReader, tripleReader, endIn, endReader, patternReader, nextReader, askReader}
+use Rattle.site_form.specs.Reading.{forms, formsReader, readForms, queryOf}
 use Rattle.site_form.specs.Printing.{summaryLine, pairLine, nodeLine, nodeLines, answerLine, report, shown, isRefused, printChecked, queryAnswers, printForms, printOutcome, printed}
-use Rattle.site_form.specs.Example.{SignBytes, lines, givenLines, givenQueries, printedLines, answerLines, exampleSummary, exampleMap, firstAsk, secondAsk, ExampleAnswers, PrintsGraph, PrintsExample}
+use Rattle.site_form.specs.Example.{SignBytes, lines, givenLines, givenQueries, printedLines, answerLines, exampleSummary, exampleMap, firstAsk}
+use Rattle.site_form.specs.Example.{secondAsk, ExampleAnswers, PrintsGraph, PrintsExample}
 
 pub sign-bytes : SignBytes
 sign-bytes = refl
@@ -79,7 +82,9 @@ forms-printed : (qs : List (List Pattern)) → printForms (forms 14 none given q
 unfolding printForms own saturated
 forms-printed qs = rw (summary-is, map-is)
 
-text-printed : (text : List ℕ) (qs : List (List Pattern)) (answers : List (Outcome Bool)) → ltb 32768 (length text) ≡ false → readForms text ≡ some (forms 14 none given qs) → queryAnswers rdfs summarised exampleMap qs ≡ answers → any isRefused answers ≡ false → printed text ≡ report summarised exampleMap answers
+text-printed : (text : List ℕ) (qs : List (List Pattern)) (answers : List (Outcome Bool)) → ltb 32768 (length text) ≡ false
+    → readForms text ≡ some (forms 14 none given qs) → queryAnswers rdfs summarised exampleMap qs ≡ answers → any isRefused answers ≡ false
+    → printed text ≡ report summarised exampleMap answers
 unfolding printed printOutcome shown
 text-printed text qs answers short r a e = rw (short, r, forms-printed qs, a, report-is answers e)
 

@@ -16,16 +16,21 @@ use Rattle.model.specs.Lists.{collect}
 use Rattle.query.specs.declared.End.{End}
 use Rattle.query.specs.declared.End.the-variants.{Var, Code}
 use Rattle.query.specs.declared.Pattern.{Pattern}
-use Rattle.site_form.specs.Text.{bytes, numeral, siteLine, wordsLine, wordsText, tripleLine, endText, patternText, nextPattern, askLine, U32, WordsU32, LineU32, TripleU32, EndU32, PatternU32, AskForm}
-use Rattle.site_form.specs.Reading.{bad, got, Reader, _>>=_, begins, word, digit, digitFirst, number, lineEnd, siteReader, optional, wordsReader, tripleReader, endIn, endReader, pattern, patternReader, nextReader, askReader}
-use Rattle.site_form.proofs.Readers.{from-both, from-give, Takes, in-turn, fails, give-takes, or-got, or-first, or-second, optional-some, optional-none, optional-got, word-says, word-takes, word-bad, Says, many-says, many-takes}
+use Rattle.site_form.specs.Text.{bytes, numeral, siteLine, wordsLine, wordsText, tripleLine, endText, patternText, nextPattern, askLine, U32}
+use Rattle.site_form.specs.Text.{WordsU32, LineU32, TripleU32, EndU32, PatternU32, AskForm}
+use Rattle.site_form.specs.Reading.{bad, got, Reader, _>>=_, begins, word, digit, digitFirst, number, lineEnd, siteReader, optional}
+use Rattle.site_form.specs.Reading.{wordsReader, tripleReader, endIn, endReader, pattern, patternReader, nextReader, askReader}
+use Rattle.site_form.proofs.Readers.{from-both, from-give, Takes, in-turn, fails, give-takes, or-got, or-first, or-second, optional-some}
+use Rattle.site_form.proofs.Readers.{optional-none, optional-got, word-says, word-takes, word-bad, Says, many-says, many-takes}
 use Rattle.site_form.proofs.Decimal.{number-takes, number-says}
 
 module _ {A P : Type 0} where
-  from-word : (w : List ℕ) (k : Unit {0} → Reader A) (text : List ℕ) (at : ℕ) (y : A) (j : ℕ) → (word w >>= k) text at ≡ got y j → ((i : ℕ) → drop at text ≡ w ++ drop i text → k tt text i ≡ got y j → P) → P
+  from-word : (w : List ℕ) (k : Unit {0} → Reader A) (text : List ℕ) (at : ℕ) (y : A) (j : ℕ) → (word w >>= k) text at ≡ got y j
+      → ((i : ℕ) → drop at text ≡ w ++ drop i text → k tt text i ≡ got y j → P) → P
   from-word w k text at y j e f = from-both (word w) k text at y j e λ u i p q. f i (word-says w text at u i p) q
 
-  from-number : (k : ℕ → Reader A) (text : List ℕ) (at : ℕ) (y : A) (j : ℕ) → (number >>= k) text at ≡ got y j → ((n i : ℕ) → U32 n → drop at text ≡ numeral n ++ drop i text → k n text i ≡ got y j → P) → P
+  from-number : (k : ℕ → Reader A) (text : List ℕ) (at : ℕ) (y : A) (j : ℕ) → (number >>= k) text at ≡ got y j
+      → ((n i : ℕ) → U32 n → drop at text ≡ numeral n ++ drop i text → k n text i ≡ got y j → P) → P
   from-number k text at y j e f = from-both number k text at y j e λ n i p q. let h = number-says text at n i p in f n i (h .right) (h .held) q
 
 -- ── the end of a line ──
@@ -38,7 +43,8 @@ module _ (text : List ℕ) (at : ℕ) where
   unfolding lineEnd
   line-takes = word-takes (bytes ")\n") text at
 
-from-line : {A P : Type 0} (k : Unit {0} → Reader A) (text : List ℕ) (at : ℕ) (y : A) (j : ℕ) → (lineEnd >>= k) text at ≡ got y j → ((i : ℕ) → drop at text ≡ bytes ")\n" ++ drop i text → k tt text i ≡ got y j → P) → P
+from-line : {A P : Type 0} (k : Unit {0} → Reader A) (text : List ℕ) (at : ℕ) (y : A) (j : ℕ) → (lineEnd >>= k) text at ≡ got y j
+    → ((i : ℕ) → drop at text ≡ bytes ")\n" ++ drop i text → k tt text i ≡ got y j → P) → P
 from-line k text at y j e f = from-both lineEnd k text at y j e λ u i p q. f i (line-says text at u i p) q
 
 -- ── the site line ──
@@ -162,7 +168,8 @@ module _ (opening : List ℕ) (make : ℕ → End) (text : List ℕ) (at : ℕ) 
       in-turn _ _ text b (word-takes (bytes ")") text b s eb) λ c ec.
       give-takes text c (make k) s ec
 
-  end-in-says : (texts : (k : ℕ) → endText (make k) ≡ opening ++ (numeral k ++ bytes ")")) (right : (k : ℕ) → U32 k → EndU32 (make k)) (x : End) (j : ℕ) → endIn opening make text at ≡ got x j → Says endText EndU32 text at x j
+  end-in-says : (texts : (k : ℕ) → endText (make k) ≡ opening ++ (numeral k ++ bytes ")")) (right : (k : ℕ) → U32 k
+      → EndU32 (make k)) (x : End) (j : ℕ) → endIn opening make text at ≡ got x j → Says endText EndU32 text at x j
   unfolding endIn
   end-in-says texts right x j e =
       from-word _ _ text at x j e λ a da ea.
@@ -192,7 +199,8 @@ module _ (text : List ℕ) (at : ℕ) where
       ]
 
 module _ {A P : Type 0} where
-  from-end : (k : End → Reader A) (text : List ℕ) (at : ℕ) (y : A) (j : ℕ) → (endReader >>= k) text at ≡ got y j → ((x : End) (i : ℕ) → EndU32 x → drop at text ≡ endText x ++ drop i text → k x text i ≡ got y j → P) → P
+  from-end : (k : End → Reader A) (text : List ℕ) (at : ℕ) (y : A) (j : ℕ) → (endReader >>= k) text at ≡ got y j
+      → ((x : End) (i : ℕ) → EndU32 x → drop at text ≡ endText x ++ drop i text → k x text i ≡ got y j → P) → P
   from-end k text at y j e f = from-both endReader k text at y j e λ x i p q. let h = end-says text at x i p in f x i (h .right) (h .held) q
 
 -- ── patterns ──
@@ -267,7 +275,8 @@ module _ (text : List ℕ) (at : ℕ) where
   ask-takes (x ∷ xs) s u e =
       in-turn _ _ text at (word-takes (bytes "(ask") text at _ (e ∙ simp append-assoc)) λ a ea.
       in-turn _ _ text a (next-takes text a x _ (u .numbers x (List·Memᴰ·head refl)) ea) λ b eb.
-      in-turn _ _ text b (many-takes nextPattern PatternU32 text nextReader (next-takes text) (bytes ")\n" ++ s) (λ i ei. next-bad text i _ ei refl) xs _ b (λ y m. u .numbers y (List·Memᴰ·tail m)) (let f = u .few in omega arith) eb) λ c ec.
+      in-turn _ _ text b (many-takes nextPattern PatternU32 text nextReader (next-takes text) (bytes ")\n" ++ s) (λ i ei. next-bad text i _ ei refl)
+      xs _ b (λ y m. u .numbers y (List·Memᴰ·tail m)) (let f = u .few in omega arith) eb) λ c ec.
       in-turn _ _ text c (line-takes text c s ec) λ d ed.
       give-takes text d (x ∷ xs) s ed
 

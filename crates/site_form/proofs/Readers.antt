@@ -181,11 +181,13 @@ module _ {A : Type 0} (bytes-of : A → List ℕ) where
       many-says zero at xs j e = subst₂ (λ ys i. Many Ok 0 text at ys i) (got-value e) (got-next e) (none-says 0 at)
       many-says (suc k) at xs j e = go (r text at) refl e (λ i ys n. many-says k i ys n)
         where
-          on : ((i : ℕ) (ys : List A) (n : ℕ) → many k r text i ≡ got ys n → Many Ok k text i ys n) → (x : A) (i : ℕ) → r text at ≡ got x i → (m : Step (List A)) → many k r text i ≡ m → andThen m (λ ys n. got (x ∷ ys) n) ≡ got xs j → Many Ok (suc k) text at xs j
+          on : ((i : ℕ) (ys : List A) (n : ℕ) → many k r text i ≡ got ys n → Many Ok k text i ys n) → (x : A) (i : ℕ) → r text at ≡ got x i
+              → (m : Step (List A)) → many k r text i ≡ m → andThen m (λ ys n. got (x ∷ ys) n) ≡ got xs j → Many Ok (suc k) text at xs j
           on ih x i p bad q f = not-bad bad xs j refl f
           on ih x i p (got ys n) q f = subst₂ (λ zs l. Many Ok (suc k) text at zs l) (got-value f) (got-next f) (more-says k at i n x ys (says at x i p) (ih i ys n q))
 
-          go : (s : Step A) → r text at ≡ s → whileGot s (λ x i. andThen (many k r text i) (λ ys n. got (x ∷ ys) n)) (got [] at) ≡ got xs j → ((i : ℕ) (ys : List A) (n : ℕ) → many k r text i ≡ got ys n → Many Ok k text i ys n) → Many Ok (suc k) text at xs j
+          go : (s : Step A) → r text at ≡ s → whileGot s (λ x i. andThen (many k r text i) (λ ys n. got (x ∷ ys) n)) (got [] at) ≡ got xs j
+              → ((i : ℕ) (ys : List A) (n : ℕ) → many k r text i ≡ got ys n → Many Ok k text i ys n) → Many Ok (suc k) text at xs j
           go bad p f ih = subst₂ (λ ys i. Many Ok (suc k) text at ys i) (got-value f) (got-next f) (none-says (suc k) at)
           go (got x i) p f ih = on ih x i p (many k r text i) refl f
 

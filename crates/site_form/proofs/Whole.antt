@@ -11,7 +11,7 @@ use Rattle.model.specs.declared.Vocabulary.{Vocabulary}
 use Rattle.model.specs.Lists.{collect}
 use Rattle.query.specs.declared.Pattern.{Pattern}
 use Rattle.site_form.specs.Text.{bytes, siteLine, wordsText, tripleLine, askLine, siteText, mostLines, mostAsks, TripleU32, AskForm, SiteForm}
-use Rattle.site_form.specs.Reading.{Step, bad, got, begins, Forms, forms, formsReader, optional, wordsReader, tripleReader, askReader, value, readForms, ReadsExactly}
+use Rattle.site_form.specs.Reading.{Step, bad, got, begins, Forms, forms, formsReader, tripleReader, askReader, value, readForms, ReadsExactly}
 use Rattle.site_form.proofs.Readers.{from-both, from-give, Takes, in-turn, give-takes, end-says, end-takes, many-says, many-takes}
 use Rattle.site_form.proofs.Forms.{site-takes, site-says, some-words-takes, some-words-says, triple-takes, triple-says, triple-bad, ask-takes, ask-says, ask-bad}
 
@@ -41,7 +41,8 @@ module _ (text : List ℕ) (n : ℕ) (w : Option Vocabulary) (ts : List Triple) 
       let e : text ≡ siteLine n ++ (wordsText w ++ (t ++ (q ++ []))) = h .says ∙ ap (λ l. siteLine n ++ (wordsText w ++ (t ++ l))) (sym (append-nil q)) in
       in-turn _ _ text 0 (site-takes text 0 n _ (h .size) e) λ k ek.
       in-turn _ _ text k (some-words-takes text k w _ (h .words) (triples-start ts qs) ek) λ a ea.
-      in-turn _ _ text a (many-takes tripleLine TripleU32 text tripleReader (triple-takes text) _ (λ i ei. triple-bad text i _ ei (queries-start qs)) ts mostLines a (h .triples) (h .few-triples) ea) λ b eb.
+      in-turn _ _ text a (many-takes tripleLine TripleU32 text tripleReader (triple-takes text) _ (λ i ei. triple-bad text i _ ei (queries-start qs))
+      ts mostLines a (h .triples) (h .few-triples) ea) λ b eb.
       in-turn _ _ text b (many-takes askLine AskForm text askReader (ask-takes text) _ (λ i ei. ask-bad text i _ ei no-more) qs mostAsks b (h .asks) (h .few-asks) eb) λ c ec.
       in-turn _ _ text c (end-takes text c ec) λ d ed.
       give-takes text d (forms n w ts qs) [] ed
@@ -64,7 +65,9 @@ forms-says text f j e =
     let z = end-says text c u d pd in
     from-give text d (Said text) (forms n w ts qs) f j ed
     (record {
-      says = h .held ∙ ap (λ l. siteLine n ++ l) (y .held ∙ ap (λ l. wordsText w ++ l) (m .held ∙ ap (λ l. collect tripleLine ts ++ l) (k .held ∙ ap (λ l. collect askLine qs ++ l) z ∙ append-nil (collect askLine qs))));
+      says = h .held ∙ ap (λ l. siteLine n ++ l)
+          (y .held ∙ ap (λ l. wordsText w ++ l) (m .held ∙ ap (λ l. collect tripleLine ts ++ l)
+          (k .held ∙ ap (λ l. collect askLine qs ++ l) z ∙ append-nil (collect askLine qs))));
       size = h .right;
       words = y .right;
       few-triples = m .few;

@@ -4,7 +4,7 @@ use model::Vocabulary;
 use query::Query;
 
 // The most triples of a text, and the most queries.
-pub const MOST_TRIPLES: usize = 1000;
+pub const MOST_LINES: usize = 1000;
 
 pub const MOST_ASKS: usize = 16;
 

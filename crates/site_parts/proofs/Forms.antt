@@ -1,29 +1,18 @@
 -- The readers of the forms, by what their parts answer.
 -- Assumes nothing.
-use Prim.Native.Nat.{ℕ, _<_, _≤_}
+use Prim.Native.Nat.{ℕ}
 use mathlib.Core.Path.{_≡_, refl, sym, _∙_, ap}
 use mathlib.Core.List.{List}
-use lib.ListN.{length}
-use borrow.Author.Tests.{lt-leb, le-leb}
 use Rattle.model.specs.declared.Triple.{Triple}
 use Rattle.model.specs.Codes.{vocabulary}
 use Rattle.model.specs.Triples.{triple}
 use Rattle.query.specs.declared.End.{End}
 use Rattle.query.specs.declared.End.the-variants.{Var, Code}
 use Rattle.site_form.specs.Text.{bytes}
-use Rattle.site_form.specs.Reading.{Step, bad, got, give, _or_, word, textEnd, lineEnd, siteReader, wordsReader, tripleReader, endIn, endReader, pattern, patternReader, nextReader}
+use Rattle.site_form.specs.Reading.{Step, bad, got, give, _or_, word, lineEnd, siteReader, wordsReader, tripleReader, endIn, endReader, pattern, patternReader, nextReader}
 use Rattle.site_form.proofs.Readers.{fails}
-use Rattle.site_parts.specs.Steps.{mapped, numberAfter, endAfter, threeIn}
-use Rattle.site_parts.proofs.Steps.{then-got, after-bad, after-got}
-
--- ── the text's end ──
-pub goes-on : (text : List ℕ) (at : ℕ) → at < length text → bad ≡ textEnd text at
-unfolding textEnd
-goes-on text at h = rw (lt-leb _ _ h)
-
-pub ended : (text : List ℕ) (at : ℕ) → length text ≤ at → got tt at ≡ textEnd text at
-unfolding textEnd
-ended text at h = rw (le-leb _ _ h)
+use Rattle.site_tokens.specs.Steps.{mapped, numberAfter, endAfter, threeIn}
+use Rattle.site_tokens.proofs.Steps.{then-got, after-bad, after-got}
 
 -- ── the site line ──
 module _ (text : List ℕ) (at : ℕ) where

@@ -1,4 +1,1 @@
-mod Numbers
-mod Words
-pub mod Steps
 mod Forms

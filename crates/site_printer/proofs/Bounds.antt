@@ -6,9 +6,9 @@ use mathlib.Core.List.{List, _++_}
 use native.Mathlib.Omega.{arith}
 use lib.ListN.{length, length-append}
 use Rattle.site_form.specs.Printing.{printed}
-use Rattle.site_writer.specs.Calls.{Put}
-use Rattle.site_writer.proofs.Stores.{put-length}
-use Rattle.printer.proofs.Fits.{printed-fits}
+use Rattle.site_bytes.specs.Calls.{Put}
+use Rattle.site_bytes.proofs.Stores.{put-length}
+use Rattle.table_printing.proofs.Fits.{printed-fits}
 
 pub read-end : (n : ℕ) (first rest : List ℕ) → n ≤ length first → n ≤ length (first ++ rest)
 read-end n first rest h = omega (arith, length-append first rest)

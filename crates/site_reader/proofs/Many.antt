@@ -8,7 +8,7 @@ use lib.ListN.{length, drop, replicate, length-replicate}
 use lib.Seq.{sets, sets-eq}
 use Rattle.site_form.specs.Reading.{Step, bad, got, Reader, andThen, many}
 use Rattle.site_form.proofs.Readers.{many-stop, many-on}
-use Rattle.site_parts.specs.Steps.{mapped, items, after}
+use Rattle.site_tokens.specs.Steps.{mapped, items, after}
 
 module _ {A : Type 0} (r : Reader A) (text : List ℕ) where
   -- they always give a list
@@ -17,7 +17,8 @@ module _ {A : Type 0} (r : Reader A) (text : List ℕ) where
   many-got zero at = refl
   many-got (suc k) at = go (r text at) refl (many-got k)
     where
-      go : (s : Step A) → r text at ≡ s → ((i : ℕ) → many k r text i ≡ got (items (many k r text i)) (after (many k r text i))) → many (suc k) r text at ≡ got (items (many (suc k) r text at)) (after (many (suc k) r text at))
+      go : (s : Step A) → r text at ≡ s → ((i : ℕ) → many k r text i ≡ got (items (many k r text i)) (after (many k r text i)))
+          → many (suc k) r text at ≡ got (items (many (suc k) r text at)) (after (many (suc k) r text at))
       go bad e ih = rw e
       go (got x i) e ih = rw (e, ih i)
 

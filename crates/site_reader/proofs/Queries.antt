@@ -15,9 +15,9 @@ use Rattle.site_form.specs.Reading.{Step, bad, got, _>>=_, give, many, word, li
 use Rattle.site_form.proofs.Readers.{fails}
 use Rattle.site_reader.specs.declared.PatternsRead.{PatternsRead}
 use Rattle.site_reader.specs.declared.AskRead.{AskRead}
-use Rattle.site_parts.specs.Steps.{mapped, items, after}
+use Rattle.site_tokens.specs.Steps.{mapped, items, after}
 use Rattle.site_reader.specs.Queries.{withPattern, morePatterns, PatternsFrom, askStep, askLines, AsksFrom}
-use Rattle.site_parts.proofs.Steps.{then-got}
+use Rattle.site_tokens.proofs.Steps.{then-got}
 use Rattle.site_reader.proofs.Many.{many-got, items-none, after-none, items-stop, after-stop, items-on, after-on, items-few, mapped-bad, mapped-got, sets-front}
 
 -- ── patterns ──
@@ -52,7 +52,8 @@ pub record Reading (text : List ℕ) (at : ℕ) (q₀ query : Query) (i : ℕ) :
   pub ends : after (many (8 - query .count) nextReader text i) ≡ after (morePatterns text at)
 
 module _ (text : List ℕ) (at : ℕ) (q₀ : Query) where
-  pub patterns-step : (query : Query) (i : ℕ) → Reading text at q₀ query i → query .count < 8 → (p : Pattern) (next : ℕ) → nextReader text i ≡ got p next → (longer : Query) → longer ≡ withPattern query p → Reading text at q₀ longer next
+  pub patterns-step : (query : Query) (i : ℕ) → Reading text at q₀ query i → query .count < 8 → (p : Pattern) (next : ℕ)
+      → nextReader text i ≡ got p next → (longer : Query) → longer ≡ withPattern query p → Reading text at q₀ longer next
   unfolding withAll
   patterns-step query i h l p next e longer f =
       let z : 8 - query .count ≡ suc (8 - (query .count + 1)) = omega arith in
@@ -178,7 +179,8 @@ module _ (text : List ℕ) (at : ℕ) where
         let b = mapped-bad queryOf (askReader text i) (f ∙ e) in
         done (items-stop askReader text i b (16 - count)) (after-stop askReader text i b (16 - count))
 
-    pub asks-step : count < 16 → (a : AskRead) → askStep a ≡ mapped queryOf (askReader text i) → (next : ℕ) → got (a .query) next ≡ askStep a → Asking text at (set queries count (a .query)) (count + 1) next
+    pub asks-step : count < 16 → (a : AskRead) → askStep a ≡ mapped queryOf (askReader text i) → (next : ℕ) → got (a .query) next ≡ askStep a
+        → Asking text at (set queries count (a .query)) (count + 1) next
     asks-step l a e next f =
         let g = mapped-got queryOf (askReader text i) (a .query) next (f ∙ e) in
         let z : 16 - count ≡ suc (16 - (count + 1)) = omega arith in

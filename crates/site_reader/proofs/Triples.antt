@@ -18,7 +18,7 @@ use Rattle.lists.proofs.Places.{put-length}
 use Rattle.site_form.specs.Text.{mostLines}
 use Rattle.site_form.specs.Reading.{bad, got, many, tripleReader}
 use Rattle.site_form.proofs.Filled.{filled}
-use Rattle.site_parts.specs.Steps.{items, after}
+use Rattle.site_tokens.specs.Steps.{items, after}
 use Rattle.site_reader.specs.Calls.{stored, storedAll, tripleLines, LinesFrom}
 use Rattle.site_reader.proofs.Many.{items-none, after-none, items-stop, after-stop, items-on, after-on}
 

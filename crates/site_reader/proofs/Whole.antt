@@ -11,7 +11,7 @@ use Rattle.model.specs.declared.Refusal.{Refusal}
 use Rattle.model.specs.declared.Refusal.the-variants.{Slots as slots-refusal, Form as form-refusal}
 use Rattle.model.specs.declared.Vocabulary.{Vocabulary}
 use Rattle.model.specs.Codes.{rdfs}
-use Rattle.model.specs.Lists.{zeros}
+use Rattle.model.specs.Lists.{any, zeros}
 use Rattle.model.specs.Triples.{slots, listed}
 use Rattle.model.specs.Outcomes.{refusalNumber, decided, left, zeroed}
 use Rattle.query.specs.declared.Query.{Query}
@@ -21,15 +21,17 @@ use Rattle.site_form.specs.declared.Site.{Site}
 use Rattle.site_form.specs.declared.ReadAnswer.{ReadAnswer}
 use Rattle.site_form.specs.declared.Form.the-variants.{Read, Refused}
 use Rattle.site_form.specs.Text.{mostLines, mostAsks}
-use Rattle.site_form.specs.Reading.{Step, bad, got, Reader, _>>=_, give, optional, many, textEnd, siteReader, wordsReader, tripleReader, askReader, Forms, forms, formsReader, value, readForms, queryOf, queriesOf, siteOf, outcomeOf, readOutcome, answered, readSite, readList}
+use Rattle.site_form.specs.Reading.{Step, bad, got, Reader, _>>=_, give, optional, many, textEnd, siteReader, wordsReader, tripleReader, askReader}
+use Rattle.site_form.specs.Reading.{Forms, forms, formsReader, value, readForms, queryOf, queriesOf, siteOf, outcomeOf, readOutcome, answered}
+use Rattle.site_form.specs.Reading.{readSite, readList}
 use Rattle.site_form.proofs.Readers.{fails}
 use Rattle.site_reader.specs.declared.LinesRead.{LinesRead}
 use Rattle.site_reader.specs.declared.WordsRead.{WordsRead}
 use Rattle.site_reader.specs.declared.AsksRead.{AsksRead}
-use Rattle.site_parts.specs.Steps.{items, standing, behind}
+use Rattle.site_tokens.specs.Steps.{items, standing, behind}
 use Rattle.site_reader.specs.Queries.{askLines, AsksFrom}
 use Rattle.site_reader.specs.Calls.{someWords, WordsFrom, tripleLines, LinesFrom, RefusedRead, ReadCall}
-use Rattle.site_parts.proofs.Steps.{then-got}
+use Rattle.site_tokens.proofs.Steps.{then-got}
 use Rattle.site_reader.proofs.Many.{many-got, items-few}
 use Rattle.site_reader.proofs.Triples.{all-length, all-listed}
 
@@ -69,7 +71,8 @@ module _ (text : List ℕ) where
   unfolding readForms formsReader
   no-site e = ap value (fails _ _ text 0 e)
 
-  module _ (n i : ℕ) (e : siteReader text 0 ≡ got n i) (r : WordsRead) (hw : WordsFrom text i r) (l l′ : List ℕ) (lines : LinesRead) (hl : LinesFrom text (r .next) l lines l′) (asks : AsksRead) (ha : AsksFrom text (lines .next) asks) where
+  module _ (n i : ℕ) (e : siteReader text 0 ≡ got n i) (r : WordsRead) (hw : WordsFrom text i r) (l l′ : List ℕ) (lines : LinesRead)
+      (hl : LinesFrom text (r .next) l lines l′) (asks : AsksRead) (ha : AsksFrom text (lines .next) asks) where
     abbrev said : Forms
     said = forms n (standing (someWords text i)) (items (tripleLines text (r .next))) (items (askLines text (lines .next)))
 
@@ -97,7 +100,7 @@ module _ (text : List ℕ) where
 -- ── the answers ──
 module _ (text l : List ℕ) where
   pub by-form : readForms text ≡ none → (l′ : List ℕ) → length l′ ≡ length l → (r : ReadAnswer) (m : List ℕ) → RefusedRead l′ form-refusal r m → ReadCall text l r m
-  unfolding readOutcome readSite readList left zeroed refusalNumber
+  unfolding readOutcome readSite readList left zeroed any refusalNumber
   by-form e l′ k r m h = record {
     outcome = ap answered (h .answer) ∙ sym (ap (λ (o : Option Forms). outcomeOf o l) e);
     site = ap (λ (x : ReadAnswer). x .site) (h .answer) ∙ rw e;
@@ -106,7 +109,7 @@ module _ (text l : List ℕ) where
 
   module _ (f : Forms) (e : readForms text ≡ some f) where
     pub by-slots : slots l < length (f .triples) → (l′ : List ℕ) → length l′ ≡ length l → (r : ReadAnswer) (m : List ℕ) → RefusedRead l′ slots-refusal r m → ReadCall text l r m
-    unfolding readOutcome readSite readList left zeroed refusalNumber decided
+    unfolding readOutcome readSite readList left zeroed any refusalNumber decided
     by-slots s l′ k r m h = record {
       outcome = ap answered (h .answer) ∙ rw (e, lt-ltb _ _ s);
       site = ap (λ (x : ReadAnswer). x .site) (h .answer) ∙ rw (e, lt-ltb _ _ s);
@@ -126,7 +129,8 @@ module _ (text l : List ℕ) where
   pub read-no-site : siteReader text 0 ≡ bad → (r : ReadAnswer) (m : List ℕ) → RefusedRead l form-refusal r m → ReadCall text l r m
   read-no-site e r m h = by-form text l (no-site text e) l refl r m h
 
-  module _ (n i : ℕ) (e : siteReader text 0 ≡ got n i) (w : WordsRead) (hw : WordsFrom text i w) (l′ : List ℕ) (lines : LinesRead) (hl : LinesFrom text (w .next) l lines l′) (asks : AsksRead) (ha : AsksFrom text (lines .next) asks) where
+  module _ (n i : ℕ) (e : siteReader text 0 ≡ got n i) (w : WordsRead) (hw : WordsFrom text i w) (l′ : List ℕ) (lines : LinesRead)
+      (hl : LinesFrom text (w .next) l lines l′) (asks : AsksRead) (ha : AsksFrom text (lines .next) asks) where
     same-size : length l′ ≡ length l
     same-size = ap length (hl .list) ∙ all-length l 0 (items (tripleLines text (w .next)))
 

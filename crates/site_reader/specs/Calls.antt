@@ -19,7 +19,7 @@ use Rattle.site_form.specs.Text.{mostLines}
 use Rattle.site_form.specs.Reading.{Step, many, optional, wordsReader, tripleReader, loaded, siteOf, noForms, readOutcome, answered, readSite, readList}
 use Rattle.site_reader.specs.declared.LinesRead.{LinesRead}
 use Rattle.site_reader.specs.declared.WordsRead.{WordsRead}
-use Rattle.site_parts.specs.Steps.{items, after, standing, behind}
+use Rattle.site_tokens.specs.Steps.{items, after, standing, behind}
 
 -- the line of the reserved codes, if it stands
 abbrev pub someWords : List ℕ → ℕ → Step (Option Vocabulary)

@@ -11,7 +11,7 @@ use Rattle.site_form.specs.Reading.{Step, many, nextReader, askReader, queryOf,
 use Rattle.site_reader.specs.declared.PatternsRead.{PatternsRead}
 use Rattle.site_reader.specs.declared.AskRead.{AskRead}
 use Rattle.site_reader.specs.declared.AsksRead.{AsksRead}
-use Rattle.site_parts.specs.Steps.{wordStep, mapped, items, after}
+use Rattle.site_tokens.specs.Steps.{wordStep, mapped, items, after}
 
 -- the query with one pattern more
 abbrev pub withPattern : Query → Pattern → Query

@@ -4,7 +4,7 @@ ghost use mathlib.Core.Path.{_≡_};
 ghost use Prim.Native.Nat.{_<_};
 ghost use mathlib.Core.List.{[]};
 ghost use Rattle.site_form.specs.Reading.{bad, askReader, queryOf};
-ghost use Rattle.site_parts.specs.Steps.{mapped};
+ghost use Rattle.site_tokens.specs.Steps.{mapped};
 ghost use Rattle.site_reader.specs.Queries.{withPattern, PatternsFrom, askStep, AsksFrom};
 ghost use Rattle.site_reader.specs.Calls.{WordsFrom, stored, LinesFrom, RefusedRead, ReadCall};
 use model::Refusal;
@@ -15,21 +15,21 @@ use query::Query;
 use query::blank_pattern;
 use site_form::Form;
 use site_form::MOST_ASKS;
-use site_form::MOST_TRIPLES;
+use site_form::MOST_LINES;
 use site_form::ReadAnswer;
 use site_form::Site;
-use site_parts::NumberForm;
-use site_parts::PatternForm;
-use site_parts::TripleForm;
-use site_parts::WordForm;
-use site_parts::WordsForm;
-use site_parts::line_end;
 use site_parts::next_pattern;
 use site_parts::site_line;
-use site_parts::text_end;
 use site_parts::triple_line;
-use site_parts::word;
 use site_parts::words_line;
+use site_tokens::NumberForm;
+use site_tokens::PatternForm;
+use site_tokens::TripleForm;
+use site_tokens::WordForm;
+use site_tokens::WordsForm;
+use site_tokens::line_end;
+use site_tokens::text_end;
+use site_tokens::word;
 
 // The reserved codes of the text, and the place after their line.
 pub struct WordsRead {
@@ -182,7 +182,7 @@ fn triple_lines(text: &[u8], at: usize, list: &mut [u32]) -> LinesRead
 {
     let mut count = 0;
     let mut i = at;
-    while count < MOST_TRIPLES {
+    while count < MOST_LINES {
         let TripleForm::Got { triple, next } = triple_line(text, i) else {
             return LinesRead { count, next: i };
         };

@@ -1,4 +1,2 @@
-pub mod Stores
-pub mod Numerals
-pub mod Lines
 pub mod Whole
+pub mod Lines

@@ -19,8 +19,8 @@ use Rattle.lists.specs.Flat.{at}
 use Rattle.lists.proofs.Places.{triples-table}
 use Rattle.site_form.specs.Text.{bytes, numeral, siteLine, wordsLine, wordsText, tripleLine}
 use Rattle.site_form.specs.Writing.{sameWords, lineOf}
-use Rattle.site_writer.specs.Calls.{Room, Put}
-use Rattle.site_writer.proofs.Stores.{sets-append, put-length, put-then-two, room-first-two, room-next-two}
+use Rattle.site_bytes.specs.Calls.{Room, Put}
+use Rattle.site_bytes.proofs.Stores.{sets-append, put-length, put-then-two, room-first-two, room-next-two}
 
 -- ── the site line ──
 module _ (l : List ℕ) (from n : ℕ) where
@@ -208,7 +208,8 @@ module _ (l₀ : List ℕ) (from : ℕ) (table : List ℕ) where
     module _ (k : i < length table / 3) (t : Triple) (e : t ≡ at table i) where
       pub room-line : Room from (collect tripleLine (triples table)) → Room next (tripleLine t)
       room-line r =
-          let n : length (left-lines table i) ≡ length (tripleLine t) + length (left-lines table (i + 1)) = ap length (lines-on table i t k e) ∙ length-append (tripleLine t) (left-lines table (i + 1)) in
+          let n : length (left-lines table i) ≡ length (tripleLine t) + length (left-lines table (i + 1)) = ap length (lines-on table i t k e) ∙
+          length-append (tripleLine t) (left-lines table (i + 1)) in
           omega (arith, h .ends)
 
       pub lines-step : (m : List ℕ) (next′ : ℕ) → Put l next (tripleLine t) m next′ → Lining l₀ from table m (i + 1) next′

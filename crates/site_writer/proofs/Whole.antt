@@ -14,13 +14,14 @@ use Rattle.model.specs.declared.Refusal.the-variants.{Length, Words, Code, Slot
 use Rattle.model.specs.declared.Triple.{Triple}
 use Rattle.model.specs.declared.Vocabulary.{Vocabulary}
 use Rattle.model.specs.Codes.{rdfs, wrongWords, smallestSize}
-use Rattle.model.specs.Lists.{collect, zeros, padded}
+use Rattle.model.specs.Lists.{any, collect, zeros, padded}
 use Rattle.model.specs.Triples.{triples}
 use Rattle.model.specs.Roster.{wrongCodes}
 use Rattle.model.specs.Outcomes.{Outcome, refused, accepted, refusalNumber, counted, decided, left, zeroed, wrongSize, wrongLength}
 use Rattle.theory.proofs.Tests.{or-left, or-right, or-neither, neither-right}
 use Rattle.theory.proofs.Lists.{length-tabulate}
-use Rattle.theory.proofs.Covered.{AllBelow, all-codes}
+use Rattle.theory.specs.Tables.{AllBelow}
+use Rattle.theory.proofs.Covered.{all-codes}
 use Rattle.theory.proofs.Accepted.{words-below}
 use Rattle.lists.specs.Flat.{at, Cleared}
 use Rattle.lists.proofs.Places.{triples-table}
@@ -28,9 +29,10 @@ use Rattle.lists.proofs.Search.{cleared-all}
 use Rattle.site_form.specs.Text.{bytes, numeral, siteLine, wordsLine, wordsText, tripleLine, siteText, mostLines}
 use Rattle.site_form.specs.Writing.{sameWords, lineOf, written, wrongWrite, writeOutcome, writeList}
 use Rattle.site_form.proofs.Filled.{filled}
-use Rattle.site_writer.specs.Calls.{Room, Put, WriteCall}
-use Rattle.site_writer.proofs.Stores.{put-length, put-then}
-use Rattle.site_writer.proofs.Numerals.{five-digits}
+use Rattle.site_bytes.specs.Calls.{Room, Put}
+use Rattle.site_writer.specs.Calls.{WriteCall}
+use Rattle.site_bytes.proofs.Stores.{put-length, put-then}
+use Rattle.site_bytes.proofs.Numerals.{five-digits}
 
 -- ── how long the text is ──
 site-short : (n : ℕ) → n < 100000 → length (siteLine n) ≤ 13
@@ -58,7 +60,9 @@ words-line-short n s v h =
     let y4 = length-append (numeral (v .domain)) (bytes " " ++ (numeral (v .range) ++ bytes ")\n")) in
     let y3 = length-append (numeral (v .subproperty)) (bytes " " ++ (numeral (v .domain) ++ (bytes " " ++ (numeral (v .range) ++ bytes ")\n")))) in
     let y2 = length-append (numeral (v .subclass)) (bytes " " ++ (numeral (v .subproperty) ++ (bytes " " ++ (numeral (v .domain) ++ (bytes " " ++ (numeral (v .range) ++ bytes ")\n")))))) in
-    let y1 = length-append (numeral (v .instance)) (bytes " " ++ (numeral (v .subclass) ++ (bytes " " ++ (numeral (v .subproperty) ++ (bytes " " ++ (numeral (v .domain) ++ (bytes " " ++ (numeral (v .range) ++ bytes ")\n")))))))) in
+    let y1 = length-append (numeral (v .instance))
+    (bytes " " ++ (numeral (v .subclass) ++ (bytes " " ++
+    (numeral (v .subproperty) ++ (bytes " " ++ (numeral (v .domain) ++ (bytes " " ++ (numeral (v .range) ++ bytes ")\n")))))))) in
     omega arith
 
 words-short : (n : ℕ) → n ≤ 65536 → (v : Vocabulary) → wrongWords v n ≡ false → length (wordsText (lineOf v)) ≤ 38
@@ -99,7 +103,7 @@ module _ (v : Vocabulary) (n : ℕ) (table out : List ℕ) where
   list-is e = ap (λ (o : Outcome ℕ). left o out (padded (length out) (written v n table))) e
 
   by-length : wrongWrite n table ≡ true → WriteCall v n table out (Refused Length) out
-  unfolding counted refusalNumber left zeroed
+  unfolding counted refusalNumber left zeroed any
   by-length p = let e = outcome-is p refl refl refl in record { outcome = sym e; list = sym (list-is e) }
 
   pub write-size : wrongSize n ≡ true → WriteCall v n table out (Refused Length) out
@@ -128,11 +132,11 @@ module _ (v : Vocabulary) (n : ℕ) (table out : List ℕ) where
     small = ltb-false _ _ (neither-right (ltb n smallestSize) _ p)
 
     pub write-words : wrongWords v n ≡ true → WriteCall v n table out (Refused Words) out
-    unfolding counted refusalNumber left zeroed
+    unfolding counted refusalNumber left zeroed any
     write-words k = let e = outcome-is passed k refl refl in record { outcome = sym e; list = sym (list-is e) }
 
     pub write-codes : wrongWords v n ≡ false → wrongCodes v n (triples table) ≡ true → WriteCall v n table out (Refused Code) out
-    unfolding counted refusalNumber left zeroed
+    unfolding counted refusalNumber left zeroed any
     write-codes k c = let e = outcome-is passed k c refl in record { outcome = sym e; list = sym (list-is e) }
 
     pub room-site : Room 0 (siteLine n)
@@ -152,7 +156,9 @@ module _ (v : Vocabulary) (n : ℕ) (table out : List ℕ) where
 
         module _ (l : List ℕ) (count : ℕ) (pt : Put m i (collect tripleLine (triples table)) l count) where
           whole : Put out 0 (written v n table) l count
-          whole = subst (λ (x : List ℕ). Put out 0 x l count) (sym (written-is v n table)) (put-then out 0 (siteLine n) o j (wordsText (lineOf v) ++ collect tripleLine (triples table)) l count ps (put-then o j (wordsText (lineOf v)) m i (collect tripleLine (triples table)) l count pw pt))
+          whole = subst (λ (x : List ℕ). Put out 0 x l count) (sym (written-is v n table))
+              (put-then out 0 (siteLine n) o j (wordsText (lineOf v) ++ collect tripleLine (triples table)) l count ps
+              (put-then o j (wordsText (lineOf v)) m i (collect tripleLine (triples table)) l count pw pt))
 
           count-is : count ≡ length (written v n table)
           count-is = omega (arith, whole .next)
@@ -161,7 +167,7 @@ module _ (v : Vocabulary) (n : ℕ) (table out : List ℕ) where
           size = put-length out 0 (written v n table) l count whole
 
           pub write-full : length l < count → (z : List ℕ) → Cleared l z 0 (length l) → WriteCall v n table out (Refused Slots) z
-          unfolding counted refusalNumber left zeroed
+          unfolding counted refusalNumber left zeroed any
           write-full h z c =
               let k = count-is in
               let s = size in

@@ -1,87 +1,24 @@
-// The writer of the site form, and functions that put bytes, numerals and lines into a lent list of bytes.
-// A byte past the list's end is counted and not stored.
+// The writer of the site form: lines put into a lent list of bytes, and the call `write`.
 
 ghost use mathlib.Core.Path.{_≡_};
 ghost use Prim.Native.Nat.{_≤_};
-ghost use mathlib.Core.List.{_++_};
-ghost use lib.ListN.{length, set};
+ghost use lib.ListN.{length};
 ghost use Rattle.model.specs.Codes.{rdfs};
 ghost use Rattle.model.specs.Lists.{collect};
 ghost use Rattle.model.specs.Triples.{triples};
 ghost use Rattle.lists.specs.Flat.{Cleared};
-ghost use Rattle.site_form.specs.Text.{numeral, siteLine, wordsLine, wordsText, tripleLine};
+ghost use Rattle.site_form.specs.Text.{siteLine, wordsLine, wordsText, tripleLine};
 ghost use Rattle.site_form.specs.Writing.{sameWords, lineOf};
-ghost use Rattle.site_writer.specs.Calls.{Room, Put, WriteCall};
+ghost use Rattle.site_bytes.specs.Calls.{Room, Put};
+ghost use Rattle.site_writer.specs.Calls.{WriteCall};
 use lists::Code;
 use model::Counted;
 use model::Refusal;
 use model::Triple;
 use model::Vocabulary;
-use site_form::MOST_TRIPLES;
-
-// Stores a byte at a place, if the list has that place.
-fn put_byte(out: &mut [u8], at: usize, b: u8)
-    ensures { λ r. ⌜ now (out .exit) ≡ set (now (out .entry)) at b ⌝ }
-{
-    if out.len() <= at {
-        return;
-    }
-    out[at] = b;
-}
-
-// Stores the bytes w from a place on; the place after them.
-pub fn put_bytes(out: &mut [u8], at: usize, w: &[u8]) -> usize
-    requires { ⌜ Room at (now w) ⌝ }
-    ensures { λ r. ⌜ Put (now (out .entry)) at (now (w .entry)) (now (out .exit)) r ⌝ }
-{
-    let mut i = 0;
-    let mut next = at;
-    while i < w.len() {
-        put_byte(out, next, w[i]);
-        i += 1;
-        next += 1;
-    }
-    next
-}
-
-// How many digits the numeral of v has.
-fn numeral_length(v: u32) -> usize
-    ensures { λ r. ⌜ r ≡ length (numeral v) ⌝ }
-{
-    let mut count: usize = 1;
-    let mut rest = v;
-    while 10 <= rest {
-        count += 1;
-        rest = rest / 10;
-    }
-    count
-}
-
-// Stores the numeral of v from a place on, last digit first; the place after it.
-fn put_numeral(out: &mut [u8], at: usize, v: u32) -> usize
-    requires { ⌜ Room at (numeral v) ⌝ }
-    ensures { λ r. ⌜ Put (now (out .entry)) at (numeral v) (now (out .exit)) r ⌝ }
-{
-    let next = at + numeral_length(v);
-    let mut rest = v;
-    let mut i = next;
-    while 10 <= rest {
-        i -= 1;
-        put_byte(out, i, (48 + rest % 10) as u8);
-        rest = rest / 10;
-    }
-    put_byte(out, at, (48 + rest) as u8);
-    next
-}
-
-// Stores the bytes w and the numeral of v behind them.
-pub fn put_after(out: &mut [u8], at: usize, w: &[u8], v: u32) -> usize
-    requires { ⌜ Room at (now w ++ numeral v) ⌝ }
-    ensures { λ r. ⌜ Put (now (out .entry)) at (now (w .entry) ++ numeral v) (now (out .exit)) r ⌝ }
-{
-    let i = put_bytes(out, at, w);
-    put_numeral(out, i, v)
-}
+use site_bytes::put_after;
+use site_bytes::put_bytes;
+use site_form::MOST_LINES;
 
 // Stores the line `(site N)`.
 fn put_site(out: &mut [u8], at: usize, n: u32) -> usize
@@ -185,7 +122,7 @@ pub fn write(words: Vocabulary, n: u32, table: &[u32], out: &mut [u8]) -> Counte
     if checks::length_wrong(table.len()) {
         return Counted::Refused(Refusal::Length);
     }
-    if MOST_TRIPLES < table.len() / 3 {
+    if MOST_LINES < table.len() / 3 {
         return Counted::Refused(Refusal::Length);
     }
     if checks::words_wrong(words, size) {

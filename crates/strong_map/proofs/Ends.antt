@@ -21,17 +21,17 @@ use Rattle.model.specs.Classes.{DataNode, RepresentsBy, cliqueOf, strongMapOf}
 use Rattle.theory.proofs.Tests.{bool-cases, and-true, and-both, or-true, or-left, or-right, not-true-false, not-both}
 use Rattle.theory.proofs.Lists.{length-tabulate, tabulate-at}
 use Rattle.theory.proofs.Covered.{Marked, Plain}
-use Rattle.theory.proofs.Saturated.{In}
+use Rattle.theory.specs.Tables.{In, Right}
 use Rattle.theory.proofs.Weak.{data-kind}
 use Rattle.theory.proofs.Strong.{Strong}
 use Rattle.theory.proofs.Mapped.{node-test, test-node, node-below, Cliqued, cliqued-below, clique-or, cliques-strong, strong-cliques, strong-reps, strong-absent, length-strong-map}
 use Rattle.theory.proofs.Summaries.{labels-unique}
-use Rattle.theory.proofs.Accepted.{Right, below, room, type-below, has-marked, word-no-node}
+use Rattle.theory.proofs.Accepted.{below, room, type-below, has-marked, word-no-node}
 use Rattle.lists.proofs.Places.{same-default}
 use Rattle.node_cliques.specs.Labels.{orNone, isLabel, nodeCliques}
-use Rattle.strong_map.specs.Threads.{Least, none, some, Groups, LabelsApart, Both, Threaded, Settled}
-use Rattle.strong_map.specs.Calls.{dataNode, Labelled, Settling}
-use Rattle.strong_map.proofs.Threads.{settled-start, settled-end}
+use Rattle.thread_settling.specs.Threads.{Least, none, some, Groups, LabelsApart, Both, Threaded, Settled}
+use Rattle.thread_settling.specs.Calls.{dataNode, Labelled, Settling}
+use Rattle.thread_settling.proofs.Threads.{settled-start, settled-end}
 
 type-kind : (v : Vocabulary) → kind v (v .instance) ≡ 0
 unfolding kind

@@ -1,5 +1,2 @@
-pub mod Threads
-pub mod Stores
-pub mod Loops
-pub mod Ends
 pub mod Whole
+pub mod Ends

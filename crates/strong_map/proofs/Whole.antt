@@ -1,6 +1,6 @@
 -- The whole function: the two halves of the work list, and what each step leaves for the next.
 -- Assumes nothing.
-use Prim.Native.Nat.{ℕ, _+_, _-_, _*_, _/_, _<_}
+use Prim.Native.Nat.{ℕ, _-_, _*_, _/_, _<_}
 use mathlib.Core.Path.{_≡_, sym, subst, _∙_, ap}
 use mathlib.Core.List.{List, [], _++_, append-nil}
 use native.Mathlib.Omega.{arith}
@@ -13,20 +13,20 @@ use Rattle.model.specs.Lists.{zeros}
 use Rattle.model.specs.Triples.{triples}
 use Rattle.model.specs.Cliques.{source, target, Node}
 use Rattle.model.specs.Classes.{strongMapOf}
-use Rattle.theory.proofs.Saturated.{In}
-use Rattle.theory.proofs.Accepted.{Right}
+use Rattle.theory.specs.Tables.{In, Right}
 use Rattle.lists.specs.Flat.{Cleared, Emptied}
 use Rattle.lists.proofs.Places.{triples-table}
 use Rattle.lists.proofs.Search.{cleared-all}
-use Rattle.weak_map.specs.Linking.{Opened, Openable}
+use Rattle.node_links.specs.Linking.{Opened, Openable}
 use Rattle.weak_map.proofs.Call.{openable}
 use Rattle.node_cliques.specs.Labels.{nodeCliques}
-use Rattle.strong_map.specs.Threads.{Groups, Threaded}
-use Rattle.strong_map.specs.Calls.{Labelled, SomeLabelled, Settling, SomeSettling}
+use Rattle.thread_settling.specs.Threads.{Groups, Threaded}
+use Rattle.thread_settling.specs.Calls.{Labelled, SomeLabelled, Settling, SomeSettling}
 use Rattle.strong_map.proofs.Ends.{groups, size-of, labelled, threaded-settling, map-end}
 
 -- two parts of a list, stored one after the other
-two-parts : (n : ℕ) (w a b x y : List ℕ) → length w ≡ 2 * n → length a ≡ n → length b ≡ n → x ≡ take 0 w ++ (a ++ drop (n - 0) (drop 0 w)) → y ≡ take n x ++ (b ++ drop (2 * n - n) (drop n x)) → y ≡ a ++ b
+two-parts : (n : ℕ) (w a b x y : List ℕ) → length w ≡ 2 * n → length a ≡ n → length b ≡ n → x ≡ take 0 w ++ (a ++ drop (n - 0) (drop 0 w))
+    → y ≡ take n x ++ (b ++ drop (2 * n - n) (drop n x)) → y ≡ a ++ b
 two-parts n w a b x y lw la lb p q =
     let less : n - 0 ≡ n = omega arith in
     let x-is : x ≡ a ++ drop n w = p ∙ ap (λ (k : ℕ). a ++ drop k w) less in

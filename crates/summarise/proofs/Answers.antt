@@ -23,8 +23,8 @@ use Rattle.model.specs.Calls.{tableChecks, summariseOutcomeBy, summariseLeavesB
 use Rattle.theory.proofs.Checks.{no-checks}
 use Rattle.theory.proofs.Lists.{length-tabulate, tabulate-mem, mem-tabulate, map-mem, mem-map}
 use Rattle.theory.proofs.Order.{sorted-members, sorted-length}
-use Rattle.theory.proofs.Accepted.{Right, below}
-use Rattle.theory.proofs.Covered.{AllBelow}
+use Rattle.theory.specs.Tables.{Right, AllBelow}
+use Rattle.theory.proofs.Accepted.{below}
 use Rattle.theory.proofs.Tests.{or-false, bool-cases}
 use borrow.Author.Tests.{eqb-true, ltb-true, ltb-false, not-false}
 use Rattle.table_checks.specs.declared.Verdict.{Verdict}

@@ -15,7 +15,7 @@ use Rattle.model.specs.Partition.{label}
 use Rattle.model.specs.Summary.{moved}
 use Rattle.model.specs.Outcomes.{wrongWork}
 use Rattle.theory.proofs.Tests.{or-left}
-use Rattle.theory.proofs.Covered.{Below, AllBelow}
+use Rattle.theory.specs.Tables.{Below, AllBelow}
 use Rattle.theory.proofs.Lists.{mem-tabulate}
 use Rattle.theory.proofs.Order.{triple-eq}
 use Rattle.lists.specs.Flat.{at}

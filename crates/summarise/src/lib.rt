@@ -1,7 +1,7 @@
 // Summarise: the map of representatives, then the images of the triples, each once, in rising order.
 
 ghost use mathlib.Core.Path.{_≡_};
-ghost use Prim.Native.Nat.{_*_, _/_, _≤_};
+ghost use Prim.Native.Nat.{_*_, _≤_};
 ghost use mathlib.Core.Bool.{not, _||_};
 ghost use lib.Dec.{eqb};
 ghost use lib.ListN.{length};
@@ -9,8 +9,7 @@ ghost use Rattle.model.specs.Outcomes.{wrongWork};
 ghost use Rattle.model.specs.Partition.{label};
 ghost use Rattle.model.specs.Classes.{mapOf};
 ghost use Rattle.model.specs.Summary.{moved};
-ghost use Rattle.theory.proofs.Accepted.{Right};
-ghost use Rattle.theory.proofs.Covered.{Below, AllBelow};
+ghost use Rattle.theory.specs.Tables.{Right, Below, AllBelow};
 ghost use Rattle.lists.specs.Flat.{at};
 ghost use Rattle.builder.specs.Builder.{first, CollectedFrom};
 ghost use Rattle.summarise.specs.Condensed.{Imaged, Condensed, SummariseCall};

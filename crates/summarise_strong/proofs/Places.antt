@@ -7,7 +7,7 @@ use lib.ListN.{length}
 use Rattle.model.specs.declared.Vocabulary.{Vocabulary}
 use Rattle.model.specs.Triples.{triples}
 use Rattle.model.specs.Classes.{strongMapOf}
-use Rattle.theory.proofs.Accepted.{Right}
+use Rattle.theory.specs.Tables.{Right}
 use Rattle.lists.proofs.Places.{triples-table}
 use Rattle.builder.specs.Builder.{first}
 

@@ -4,7 +4,7 @@ ghost use Prim.Native.Nat.{_*_, _/_};
 ghost use mathlib.Core.Path.{_≡_};
 ghost use lib.ListN.{length};
 ghost use Rattle.model.specs.Classes.{strongMapOf};
-ghost use Rattle.theory.proofs.Accepted.{Right};
+ghost use Rattle.theory.specs.Tables.{Right};
 ghost use Rattle.builder.specs.Builder.{first};
 ghost use Rattle.summarise.specs.Condensed.{Condensed, SummariseStrongCall};
 use model::Counted;

@@ -8,7 +8,7 @@ use mathlib.Core.List.{List, [], _∷_, _++_}
 use lib.ListN.{length}
 use lib.Dec.{ltb}
 use borrow.Author.Tests.{lt-ltb, le-ltb}
-use Rattle.model.specs.Lists.{zeros}
+use Rattle.model.specs.Lists.{any, zeros}
 use Rattle.model.specs.declared.Refusal.{Refusal}
 use Rattle.model.specs.declared.Refusal.the-variants.{Length, Words, Roster, Code, Cover}
 use Rattle.model.specs.declared.Vocabulary.{Vocabulary}
@@ -19,8 +19,9 @@ use Rattle.model.specs.Outcomes.{Outcome, refused, accepted, refusalNumber, Che
 use Rattle.model.specs.Calls.{tableChecks, Accepted}
 use Rattle.theory.proofs.Tests.{or-left, or-right, or-false, or-neither, bool-cases}
 use Rattle.theory.proofs.Checks.{passes-first, decided-cases, not-accepted}
-use Rattle.theory.proofs.Covered.{AllBelow, all-codes}
-use Rattle.theory.proofs.Accepted.{Right, accepted-right}
+use Rattle.theory.specs.Tables.{AllBelow, Right}
+use Rattle.theory.proofs.Covered.{all-codes}
+use Rattle.theory.proofs.Accepted.{accepted-right}
 use Rattle.table_checks.specs.declared.Verdict.{Verdict}
 use Rattle.table_checks.specs.declared.Verdict.the-variants.{Passed, Refused}
 use Rattle.table_checks.specs.Verdicts.{verdict}
@@ -73,7 +74,7 @@ module _ (cs : List Check) (slots n : ℕ) (h : Passes cs) where
 
 -- what stays in a lent list after refusal 5, and after an accepted call
 pub left-zeros : {A : Type 0} (o : Outcome A) (entry after : List ℕ) → o ≡ refused 5 → left o entry after ≡ zeros (length entry)
-unfolding left zeroed
+unfolding left zeroed any
 left-zeros o entry after e = rw e
 
 pub left-after : {A : Type 0} (o : Outcome A) (x : A) (entry after : List ℕ) → o ≡ accepted x → left o entry after ≡ after
@@ -82,7 +83,7 @@ left-after o x entry after e = rw e
 
 -- the checks 1, 10, 2, 3, 4 leave every list as it is
 pub kept-by : (a w b c d : Bool) (n : ℕ) → refused n ≡ firstOf a w b c d → zeroed n ≡ false
-unfolding zeroed
+unfolding zeroed any
 kept-by true w b c d n e = let k : n ≡ 1 = cc in rw k
 kept-by false true b c d n e = let k : n ≡ 10 = cc in rw k
 kept-by false false true c d n e = let k : n ≡ 2 = cc in rw k
@@ -102,7 +103,8 @@ module _ (v : Vocabulary) where
     abbrev Is : Verdict → Type 0
     Is r = verdict r ≡ checked (tableChecks v lengths table roster) tt
 
-    outcome-is : {a w b c d : Bool} → first ≡ a → wrongWords v (length roster) ≡ w → wrongRoster v roster ≡ b → wrongCodes v (length roster) (triples table) ≡ c → not (covers v roster (triples table)) ≡ d
+    outcome-is : {a w b c d : Bool} → first ≡ a → wrongWords v (length roster) ≡ w → wrongRoster v roster ≡ b
+        → wrongCodes v (length roster) (triples table) ≡ c → not (covers v roster (triples table)) ≡ d
         → checked (tableChecks v lengths table roster) tt ≡ firstOf a w b c d
     unfolding tableChecks decided
     outcome-is p w q r s = λ i. firstOf (p i) (w i) (q i) (r i) (s i)
@@ -136,11 +138,13 @@ module _ (v : Vocabulary) where
       unfolding verdict refusalNumber
       by-codes w a b = sym (outcome-is sizes w a b refl)
 
-      pub by-cover : wrongWords v (length roster) ≡ false → wrongRoster v roster ≡ false → wrongCodes v (length roster) (triples table) ≡ false → not (covers v roster (triples table)) ≡ true → Is (Refused Cover)
+      pub by-cover : wrongWords v (length roster) ≡ false → wrongRoster v roster ≡ false → wrongCodes v (length roster) (triples table) ≡ false
+          → not (covers v roster (triples table)) ≡ true → Is (Refused Cover)
       unfolding verdict refusalNumber
       by-cover w a b d = sym (outcome-is sizes w a b d)
 
-      pub by-none : wrongWords v (length roster) ≡ false → wrongRoster v roster ≡ false → wrongCodes v (length roster) (triples table) ≡ false → not (covers v roster (triples table)) ≡ false → Is Passed
+      pub by-none : wrongWords v (length roster) ≡ false → wrongRoster v roster ≡ false → wrongCodes v (length roster) (triples table) ≡ false
+          → not (covers v roster (triples table)) ≡ false → Is Passed
       unfolding verdict
       by-none w a b d = sym (outcome-is sizes w a b d)
 
@@ -172,7 +176,8 @@ module _ (v : Vocabulary) where
       refused-kept : zeroed (refusalNumber r) ≡ false
       unfolding verdict
       refused-kept =
-          kept-by (first lengths table roster) (wrongWords v (length roster)) (wrongRoster v roster) (wrongCodes v (length roster) (triples table)) (not (covers v roster (triples table))) (refusalNumber r)
+          kept-by (first lengths table roster) (wrongWords v (length roster)) (wrongRoster v roster) (wrongCodes v (length roster) (triples table))
+          (not (covers v roster (triples table))) (refusalNumber r)
           (e ∙ outcome-is lengths table roster refl refl refl refl refl)
 
       -- and nothing is altered

@@ -10,8 +10,8 @@ use checks::size_wrong;
 use checks::words_wrong;
 use model::Refusal;
 use model::Vocabulary;
-use roster::roster_wrong;
-use roster::uncovered;
+use roster_checks::roster_wrong;
+use roster_checks::uncovered;
 
 // No check fails, or the refusal of the first that does.
 pub enum Verdict {

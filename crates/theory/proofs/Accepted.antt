@@ -12,7 +12,7 @@ use Rattle.model.specs.declared.Triple.{Triple}
 use Rattle.model.specs.declared.Vocabulary.{Vocabulary}
 use Rattle.model.specs.Codes.{codes, wrongWords, absent, mostTriples, kind, reserved}
 use Rattle.model.specs.Triples.{triples, flat}
-use Rattle.model.specs.Roster.{classRow, propertyRow, covers, wrongRoster, wrongCodes}
+use Rattle.model.specs.Roster.{classRow, propertyRow, covers, wrongCodes}
 use Rattle.model.specs.Saturation.{saturation}
 use Rattle.model.specs.Partition.{label}
 use Rattle.model.specs.Cliques.{Side, source, target, Node, Has}
@@ -25,8 +25,9 @@ use Rattle.theory.proofs.Checks.{passes-first, first-passes, no-checks}
 use Rattle.theory.proofs.Lists.{any-none}
 use Rattle.model.specs.Lists.{any}
 use Rattle.theory.proofs.Flat.{triples-flat, length-flat, length-triples}
-use Rattle.theory.proofs.Covered.{Below, AllBelow, Marked, Codes, Covered, Class, Property, kind-top, property-at, class-marked, property-marked, one-of, two-of, all-codes, codes-all, all-covered, covered-all}
-use Rattle.theory.proofs.Saturated.{In, saturation-exact, saturation-below}
+use Rattle.theory.specs.Tables.{Below, AllBelow, In, Right}
+use Rattle.theory.proofs.Covered.{Marked, Codes, Covered, Class, Property, kind-top, property-at, class-marked, property-marked, one-of, two-of, all-codes, codes-all, all-covered, covered-all}
+use Rattle.theory.proofs.Saturated.{saturation-exact, saturation-below}
 use Rattle.theory.proofs.Weak.{data-kind}
 use Rattle.theory.proofs.Images.{Covers, derives-covered}
 use Rattle.theory.proofs.Mapped.{node-below, map-reps, map-node}
@@ -37,14 +38,6 @@ unfolding wrongLength
 few-triples table h =
     let x = or-false (not (eqb (length table % 3) 0)) _ h in
     omega (arith, ltb-false (3 * mostTriples) (length table) (x .1), length-triples table)
-
--- a vocabulary, a roster and triples that pass the checks 10, 2, 3 and 4, in a site of right size
-pub record Right (v : Vocabulary) (roster : List ℕ) (ts : List Triple) : Type 0 where
-  pub size : wrongSize (length roster) ≡ false
-  pub words : wrongWords v (length roster) ≡ false
-  pub marks : wrongRoster v roster ≡ false
-  pub codes : wrongCodes v (length roster) ts ≡ false
-  pub cover : covers v roster ts ≡ true
 
 -- 01's sizes
 pub size-bounds : (n : ℕ) → wrongSize n ≡ false → (5 ≤ n) × (n ≤ 65536)
@@ -166,7 +159,8 @@ module _ (v : Vocabulary) (roster : List ℕ) (ts : List Triple) (R : Right v ro
         classes s o (suc (suc (suc (suc zero)))) h c n = one-of (λ e. subst (Class roster) (sym e) (class-kept _ o (h _ (here refl)))) n
         classes s o (suc (suc (suc (suc (suc k))))) h c n = absurd (no-mem n)
 
-        properties : Node (In ts) (u .subject) → Node (In ts) (u .object) → (k : ℕ) → ((c : ℕ) → Mem c (propertyRow u k) → Property roster c) → (c : ℕ) → Mem c (propertyRow (moved f u) k) → Property roster c
+        properties : Node (In ts) (u .subject) → Node (In ts) (u .object) → (k : ℕ) → ((c : ℕ) → Mem c (propertyRow u k) → Property roster c)
+            → (c : ℕ) → Mem c (propertyRow (moved f u) k) → Property roster c
         properties s o zero h c n = absurd (no-mem n)
         properties s o (suc zero) h c n = absurd (no-mem n)
         properties s o (suc (suc zero)) h c n =

@@ -12,7 +12,8 @@ use Rattle.model.specs.Cliques.{Graph, Side, source, target, end, Node, Has}
 use Rattle.model.specs.Classes.{DataNode}
 use Rattle.model.specs.Summary.{moved, Image}
 use Rattle.theory.proofs.Covered.{Marked, Plain, by-mark}
-use Rattle.theory.proofs.Weak.{HasData, has-node}
+use Rattle.theory.specs.Tables.{HasData}
+use Rattle.theory.proofs.Weak.{has-node}
 
 pub moved-end : (f : ℕ → ℕ) (e : Side) (t : Triple) → end e (moved f t) ≡ f (end e t)
 moved-end f source t = refl
@@ -84,6 +85,13 @@ module _ (v : Vocabulary) (roster : List ℕ) (H : Graph) (f : ℕ → ℕ) wher
         let y = plain-down (record { by = w .0; held = w .1; side = e; is-end = refl }) (subst (Plain roster) (sym q) (h .plain)) in
         record {
           code = k;
-          has = record { by = w .0; held = w .1; is-data = sym (moved-data v f (w .0)) ∙ ap (isData v) (sym (w .2)) ∙ h .is-data; is-end = refl; plain = y .plain; property = ap (λ (z : Triple). z .property) (sym (w .2)) ∙ h .property };
+          has = record {
+            by = w .0;
+            held = w .1;
+            is-data = sym (moved-data v f (w .0)) ∙ ap (isData v) (sym (w .2)) ∙ h .is-data;
+            is-end = refl;
+            plain = y .plain;
+            property = ap (λ (z : Triple). z .property) (sym (w .2)) ∙ h .property;
+          };
           image = q;
         }

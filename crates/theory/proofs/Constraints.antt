@@ -18,12 +18,13 @@ use Rattle.model.specs.Classes.{mapOf}
 use Rattle.model.specs.Summary.{moved, summary}
 use Rattle.theory.proofs.Covered.{code-of-kind, kind-type, Marked}
 use Rattle.theory.proofs.RuleLaws.{Schema, is-subclass, is-subproperty, is-domain, is-range, both-parts, chain-parts, All, none, more, all-in}
-use Rattle.theory.proofs.Saturated.{In, derives-map}
+use Rattle.theory.specs.Tables.{In, Right}
+use Rattle.theory.proofs.Saturated.{derives-map}
 use Rattle.theory.proofs.Strata.{Types, subjects, objects, Free, subclasses, subproperties, S, derives-free, schema-in, Up, stays, leads, climb}
 use Rattle.theory.proofs.Images.{still, unmoved}
 use Rattle.theory.proofs.Mapped.{map-reps}
 use Rattle.theory.proofs.Summaries.{condensed-exact}
-use Rattle.theory.proofs.Accepted.{Right, room, below, covered}
+use Rattle.theory.proofs.Accepted.{room, below, covered}
 
 module _ (v : Vocabulary) where
   -- ── the rules that give a domain or range triple ──

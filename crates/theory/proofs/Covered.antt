@@ -14,6 +14,7 @@ use Rattle.model.specs.declared.Vocabulary.{Vocabulary}
 use Rattle.model.specs.Codes.{codes, kind, reserved, codeOf, repeated, wrongWords}
 use Rattle.model.specs.Lists.{any, all}
 use Rattle.model.specs.Roster.{mark, isClass, isProperty, unmarked, classRow, propertyRow, classRoles, propertyRoles, coversTriple, covers, wrongEnd, wrongTriple, wrongCodes}
+use Rattle.theory.specs.Tables.{Below}
 use Rattle.theory.proofs.Tests.{or-true, or-false, or-neither, and-true, and-both, bool-cases}
 use Rattle.theory.proofs.Lists.{all-at, at-all, any-holds, any-none, none-any, mem-getD}
 
@@ -166,14 +167,6 @@ module _ (roster : List ℕ) where
         go (suc (suc (suc (suc (suc k))))) e l u = absurd (omega arith)
 
 -- ── the checks as statements ──
-pub record Below (n : ℕ) (t : Triple) : Type 0 where
-  pub subject : t .subject < n
-  pub property : t .property < n
-  pub object : t .object < n
-
-abbrev pub AllBelow : ℕ → List Triple → Type 0
-AllBelow n ts = (t : Triple) → Mem t ts → Below n t
-
 module _ (v : Vocabulary) where
   free-test : (n c : ℕ) → wrongEnd v n c ≡ false → (c < n) × (5 ≤ kind v c)
   unfolding wrongEnd reserved

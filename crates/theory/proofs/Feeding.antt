@@ -27,13 +27,12 @@ use Rattle.model.specs.Intake.{State, Feed, judged, answer, joins, answers, hel
 use Rattle.theory.proofs.Tests.{or-false, bool-cases}
 use Rattle.theory.proofs.Lists.{any-none, none-any, all-at, at-all, mem-map}
 use Rattle.theory.proofs.Order.{holds-mem, insert-self, insert-keeps, insert-mem, insert-rising, insert-same, insert-new, rising-length, rising-unique, sorted-rising, sorted-mem, mem-sorted}
-use Rattle.theory.proofs.Covered.{AllBelow}
-use Rattle.theory.proofs.Saturated.{In}
+use Rattle.theory.specs.Tables.{AllBelow, In, Right}
 use Rattle.theory.proofs.Mapped.{length-map-of, map-absent}
 use Rattle.theory.proofs.Summaries.{condensed-length, Same, same-map-of, same-summary-of}
 use Rattle.theory.proofs.Checks.{passes-first, first-passes, no-checks, decided-passes, decided-cases, passed}
 use Rattle.theory.proofs.Flat.{length-listed}
-use Rattle.theory.proofs.Accepted.{Right, below, room, size-bounds}
+use Rattle.theory.proofs.Accepted.{below, room, size-bounds}
 
 module _ (v : Vocabulary) (roster : List ℕ) where
   -- ── one feed ──
@@ -119,7 +118,8 @@ module _ (v : Vocabulary) (roster : List ℕ) where
         ⊎-elim
         (λ k. ap after (e ∙ ap (λ (x : Bool). cond x (accepted false) (cond (leb space (length H)) (refused 7) (accepted true))) k) ∙ sym (insert-same (f .triple) H r (holds-mem (f .triple) H k)))
         (λ k.
-        let more = rising-length (insert (f .triple) H) U (insert-rising (f .triple) H r) (λ t n. ⊎-elim (λ (q : t ≡ f .triple). subst (λ (z : Triple). Mem z U) (sym q) m) (λ n. u t n) (insert-mem (f .triple) t H n)) in
+        let more = rising-length (insert (f .triple) H) U (insert-rising (f .triple) H r)
+        (λ t n. ⊎-elim (λ (q : t ≡ f .triple). subst (λ (z : Triple). Mem z U) (sym q) m) (λ n. u t n) (insert-mem (f .triple) t H n)) in
         let l = lt-leb space (length H) (omega (arith, insert-new (f .triple) H k)) in
         ap after (e ∙ (λ i. cond (k i) (accepted false) (cond (l i) (refused 7) (accepted true)))))
         (bool-cases (holds (f .triple) H))
@@ -134,7 +134,8 @@ module _ (v : Vocabulary) (roster : List ℕ) where
       pub rising : Rising out
       pub members : (t : Triple) → Mem t out ↔ (Mem t H ⊎ Mem t (map (λ (f : Feed). f .triple) fs))
 
-    pub held-all : (fs : List Feed) (H : List Triple) → ((f : Feed) → Mem f fs → Good f × Mem (f .triple) U) → Rising H → ((t : Triple) → Mem t H → Mem t U) → Collected fs H (heldAfter v roster space fs H)
+    pub held-all : (fs : List Feed) (H : List Triple) → ((f : Feed) → Mem f fs → Good f × Mem (f .triple) U) → Rising H
+        → ((t : Triple) → Mem t H → Mem t U) → Collected fs H (heldAfter v roster space fs H)
     unfolding heldAfter
     held-all [] H g r u = record { rising = r; members = λ t. (λ m. inl m, λ w. ⊎-elim (λ m. m) (λ m. absurd (no-mem m)) w) }
     held-all (f ∷ fs) H g r u =

@@ -20,16 +20,17 @@ use Rattle.model.specs.Classes.{DataNode, RepresentsBy, mapOf, strongMapOf}
 use Rattle.model.specs.Summary.{moved, Image, condensed}
 use Rattle.theory.proofs.Order.{rising-unique, rising-length}
 use Rattle.theory.proofs.Lists.{mem-map}
-use Rattle.theory.proofs.Covered.{AllBelow, Marked, Plain, by-mark}
-use Rattle.theory.proofs.Saturated.{In, saturation-exact, saturation-rising}
-use Rattle.theory.proofs.Weak.{Weak, itself, chained, weak-nodes}
+use Rattle.theory.specs.Tables.{AllBelow, In, Weak, itself, chained, Right}
+use Rattle.theory.proofs.Covered.{Marked, Plain, by-mark}
+use Rattle.theory.proofs.Saturated.{saturation-exact, saturation-rising}
+use Rattle.theory.proofs.Weak.{weak-nodes}
 use Rattle.theory.proofs.Images.{Covers, node-down, node-up, weak-up, image-exact}
 use Rattle.theory.proofs.Carried.{node-image, image-node, Own, plain-down, data-node-up}
 use Rattle.theory.proofs.Quotient.{weak-image, image-weak}
 use Rattle.theory.proofs.Strong.{Strong, strong-self, strong-through, strong-map, strong-up, strong-weak, strong-image, image-strong}
 use Rattle.theory.proofs.Mapped.{node-or, data-or, map-reps, map-absent, length-map-of, strong-reps, strong-absent, length-strong-map}
 use Rattle.theory.proofs.Summaries.{same-reps, Same, same-sym, same-trans, same-derives, same-image, same-node, image-agree, same-weak, condensed-rising, condensed-exact}
-use Rattle.theory.proofs.Accepted.{Right, type-below, room, below, covered, saturation-right, condensed-right}
+use Rattle.theory.proofs.Accepted.{type-below, room, below, covered, saturation-right, condensed-right}
 
 module _ (v : Vocabulary) (roster : List ℕ) where
   pub record Grouping : Type 1 where
@@ -73,7 +74,18 @@ module _ (v : Vocabulary) (roster : List ℕ) where
         nodes = λ s. (s .one, s .two);
         self = strong-self v roster;
         through = strong-through v roster;
-        same = λ f s. strong-map v roster (λ t x. (f t) .0 x) (λ e n p h. (p, record { by = h .by; held = (f (h .by)) .1 (h .held); is-data = h .is-data; is-end = h .is-end; plain = h .plain; property = h .property })) s;
+        same = λ f s. strong-map v roster (λ t x. (f t) .0 x)
+            (λ e n p h. (
+              p,
+              record {
+                by = h .by;
+                held = (f (h .by)) .1 (h .held);
+                is-data = h .is-data;
+                is-end = h .is-end;
+                plain = h .plain;
+                property = h .property;
+              },
+            )) s;
         up = λ c s. strong-up v roster c s;
         image = λ {H} f own finer s. strong-image v roster H f own finer s;
         under = λ {H} f own finer s. image-strong v roster H f own finer s;

@@ -15,7 +15,8 @@ use Rattle.model.specs.Cliques.{Graph, Side, source, target, end, Node}
 use Rattle.model.specs.Summary.{moved, Image}
 use Rattle.theory.proofs.Covered.{Marked, Covered, schema-marked}
 use Rattle.theory.proofs.RuleLaws.{EndOf, first-subject, first-object, second-subject, second-object, Fixes, laws}
-use Rattle.theory.proofs.Weak.{HasData, data-kind, kind-data, node-map, Weak, weak-map}
+use Rattle.theory.specs.Tables.{HasData, Weak}
+use Rattle.theory.proofs.Weak.{data-kind, kind-data, node-map, weak-map}
 
 module _ (v : Vocabulary) (roster : List ℕ) where
   abbrev pub Covers : Graph → Type 0
@@ -46,7 +47,11 @@ module _ (v : Vocabulary) (roster : List ℕ) where
     pub derives-ends : {t : Triple} → Derives v G t → Ends t
     derives-ends (given {t} x) = record { subject = subject-node t x; object = object-node t x }
     derives-ends (by-rule r a b k e g x y) =
-        subst Ends (sym g) (record { subject = from-ends (derives-ends x) (derives-ends y) ((laws v roster r k) .subject-end a b); object = from-ends (derives-ends x) (derives-ends y) ((laws v roster r k) .object-end a b) })
+        subst Ends (sym g) (record {
+          subject = from-ends (derives-ends x) (derives-ends y) ((laws v roster r k) .subject-end a b);
+          object = from-ends
+              (derives-ends x) (derives-ends y) ((laws v roster r k) .object-end a b);
+        })
 
     at-side : {t : Triple} → Ends t → (e : Side) → Node G (end e t)
     at-side x source = x .subject

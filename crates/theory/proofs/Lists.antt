@@ -3,8 +3,10 @@
 use Prim.Native.Nat.{ℕ, zero, suc, _≤_, _<_, _+_}
 use mathlib.Core.Path.{_≡_, refl, sym, subst, _∙_, ap}
 use mathlib.Core.Logic.{_⊎_, inl, inr, ⊎-elim}
-use mathlib.Core.Bool.{Bool, true, false, _||_, or-assoc, true≢false}
-use mathlib.Core.List.{List, [], _∷_, _++_, map, List·Memᴰ as Mem, List·Memᴰ·head as here, List·Memᴰ·tail as there, List·Memᴰ·not-nil as no-mem, List·Memᴰ·cases-cons as mem-cases, List·Memᴰ·append-cases as append-cases, Memᴰ·append-left as append-left, Memᴰ·append-right as append-right}
+use mathlib.Core.Bool.{Bool, true, false, true≢false}
+use mathlib.Core.List.{List, [], _∷_, map, List·Memᴰ as Mem, List·Memᴰ·head as here, List·Memᴰ·tail as there, List·Memᴰ·not-nil as no-mem}
+use mathlib.Core.List.{List·Memᴰ·cases-cons as mem-cases, List·Memᴰ·append-cases as append-cases, Memᴰ·append-left as append-left}
+use mathlib.Core.List.{Memᴰ·append-right as append-right}
 use native.Mathlib.Omega.{arith}
 use lib.Dec.{eqb}
 use lib.ListN.{length, getD}
@@ -32,11 +34,6 @@ module _ {A : Type 0} where
   pub none-any : (f : A → Bool) (xs : List A) → ((x : A) → Mem x xs → f x ≡ false) → any f xs ≡ false
   none-any f xs h =
       ⊎-elim (λ e. let y = any-found f xs e in absurd (true≢false (sym (y .2) ∙ h (y .0) (y .1)))) (λ e. e) (bool-cases (any f xs))
-
-  pub any-append : (f : A → Bool) (xs ys : List A) → any f (xs ++ ys) ≡ (any f xs || any f ys)
-  unfolding any
-  any-append f [] ys = refl
-  any-append f (x ∷ xs) ys = rw (any-append f xs ys) (sym (or-assoc (f x) (any f xs) (any f ys)))
 
   pub all-at : (f : A → Bool) (xs : List A) → all f xs ≡ true → (x : A) → Mem x xs → f x ≡ true
   unfolding all

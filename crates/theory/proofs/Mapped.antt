@@ -20,11 +20,11 @@ use Rattle.model.specs.Cliques.{Graph, Side, source, target, end, Node, Has, Cl
 use Rattle.model.specs.Classes.{DataNode, Placed, together, alike, RepresentsBy, cliqueOf, placedAt, placed, mapBy, mapOf, strongMapOf}
 use Rattle.theory.proofs.Tests.{cond-cases, bool-cases, or-true, or-left, or-right, and-true, and-both}
 use Rattle.theory.proofs.Lists.{any-found, any-holds, collect-mem, mem-collect, when-mem, mem-when, mem-tabulate, length-tabulate}
-use Rattle.theory.proofs.Covered.{AllBelow, Plain}
-use Rattle.theory.proofs.Saturated.{In}
+use Rattle.theory.specs.Tables.{AllBelow, In, HasData, Weak, by-side, by-none, itself, turned, chained}
+use Rattle.theory.proofs.Covered.{Plain}
 use Rattle.theory.proofs.Partition.{Labels, Joining, Joins, Merged, merged-all, pairs-mem, mem-pairs, start-labels, length-merged}
 use Rattle.theory.proofs.Strong.{Partner, Strong, strong-self, strong-flip, strong-through}
-use Rattle.theory.proofs.Weak.{HasData, has-data, data-has, has-node, Weak, by-side, by-none, itself, turned, chained, weak-nodes, clique-sym, clique-self, clique-weak, Reps}
+use Rattle.theory.proofs.Weak.{has-data, data-has, has-node, weak-nodes, clique-sym, clique-self, clique-weak, Reps}
 
 -- ── nodes ──
 pub node-test : (ts : List Triple) (c : ℕ) → Node (In ts) c → isNode ts c ≡ true
@@ -385,9 +385,6 @@ module _ (v : Vocabulary) (roster : List ℕ) (ts : List Triple) (below : AllBel
   pub map-node : (c : ℕ) → Node G c → Node G (label (mapOf v roster ts) c)
   map-node c x = map-labels .active c x
 
-  pub map-low : (c : ℕ) → Node G c → label (mapOf v roster ts) c ≤ c
-  map-low c x = map-labels .low c x
-
   -- ── the map by strong equivalence ──
   alike-side : (e : Side) (c d : ℕ) → Plain roster c → Plain roster d → cliqueAt e c ≡ cliqueAt e d → (p : ℕ) → Has v roster G e c p → Partner v roster G e p d
   alike-side e c d a b h p x =
@@ -442,15 +439,18 @@ module _ (v : Vocabulary) (roster : List ℕ) (ts : List Triple) (below : AllBel
   pub strong-agrees : {x y : ℕ} → Strong v roster G x y → label (strongMapOf v roster ts) x ≡ label (strongMapOf v roster ts) y
   unfolding strongMapOf
   strong-agrees {x} {y} s =
-      agrees-by alike (Strong v roster G) (λ x y w. (w .one, w .two)) (λ x d. strong-self v roster d) (λ x y w. strong-flip v roster w) (λ x y z u w. strong-through v roster u w) alike-strong x y (s .one) (s .two) (strong-alike s)
+      agrees-by alike (Strong v roster G) (λ x y w. (w .one, w .two)) (λ x d. strong-self v roster d) (λ x y w. strong-flip v roster w)
+      (λ x y z u w. strong-through v roster u w) alike-strong x y (s .one) (s .two) (strong-alike s)
 
   pub strong-reps : RepresentsBy v roster (Strong v roster G) G (label (strongMapOf v roster ts))
   unfolding strongMapOf
-  strong-reps = reps-by alike (Strong v roster G) (λ x y w. (w .one, w .two)) (λ x d. strong-self v roster d) (λ x y w. strong-flip v roster w) (λ x y z u w. strong-through v roster u w) alike-strong (λ x y w. strong-agrees w)
+  strong-reps = reps-by alike (Strong v roster G) (λ x y w. (w .one, w .two)) (λ x d. strong-self v roster d) (λ x y w. strong-flip v roster w)
+      (λ x y z u w. strong-through v roster u w) alike-strong (λ x y w. strong-agrees w)
 
   pub strong-absent : (c : ℕ) → (Node G c → ⊥) → label (strongMapOf v roster ts) c ≡ absent
   unfolding strongMapOf
-  strong-absent c f = labels-by alike (Strong v roster G) (λ x y w. (w .one, w .two)) (λ x d. strong-self v roster d) (λ x y w. strong-flip v roster w) (λ x y z u w. strong-through v roster u w) alike-strong .silent c f
+  strong-absent c f = labels-by alike (Strong v roster G) (λ x y w. (w .one, w .two)) (λ x d. strong-self v roster d)
+      (λ x y w. strong-flip v roster w) (λ x y z u w. strong-through v roster u w) alike-strong .silent c f
 
 pub length-cliques : (v : Vocabulary) (roster : List ℕ) (e : Side) (ts : List Triple) → length (cliques v roster e ts) ≡ length roster
 unfolding cliques

@@ -2,7 +2,7 @@
 -- Assumes nothing.
 use Prim.Native.Nat.{ℕ, zero, suc, _≤_, _<_, _+_}
 use mathlib.Core.Path.{_≡_, refl, sym, subst, _∙_, ap}
-use mathlib.Core.Logic.{_⊎_, ⊎-elim}
+use mathlib.Core.Logic.{⊎-elim}
 use mathlib.Core.Bool.{Bool, true, false, cond, not}
 use mathlib.Core.List.{List, List·Memᴰ as Mem, List·Memᴰ·head as here, List·Memᴰ·tail as there, List·Memᴰ·not-nil as no-mem}
 use native.Mathlib.Omega.{arith}
@@ -16,7 +16,8 @@ use Rattle.model.specs.Lists.{any, all, among}
 use Rattle.model.specs.Roster.{mark, isClass, isProperty, unmarked, classRow, propertyRow, classRoles, propertyRoles, coversTriple, covers, classIn, propertyIn, ownRoster, wrongRoster}
 use Rattle.theory.proofs.Tests.{and-true, and-both, or-neither, bool-cases}
 use Rattle.theory.proofs.Lists.{any-found, any-holds, none-any, all-at, at-all, among-mem, mem-among, tabulate-at, tabulate-out, tabulate-mem, length-tabulate}
-use Rattle.theory.proofs.Covered.{one-of, two-of, AllBelow, Codes}
+use Rattle.theory.specs.Tables.{AllBelow}
+use Rattle.theory.proofs.Covered.{one-of, two-of, Codes}
 
 bits-class : (a b : Bool) → isClass (cond a 1 0 + cond b 2 0) ≡ a
 unfolding isClass
@@ -122,7 +123,8 @@ module _ (v : Vocabulary) where
   unfolding kind
   word-kind c m = go (eqb c (v .instance)) refl (eqb c (v .subclass)) refl (eqb c (v .subproperty)) refl (eqb c (v .domain)) refl (eqb c (v .range)) refl
     where
-      go : (a : Bool) → eqb c (v .instance) ≡ a → (b : Bool) → eqb c (v .subclass) ≡ b → (d : Bool) → eqb c (v .subproperty) ≡ d → (e : Bool) → eqb c (v .domain) ≡ e → (f : Bool) → eqb c (v .range) ≡ f
+      go : (a : Bool) → eqb c (v .instance) ≡ a → (b : Bool) → eqb c (v .subclass) ≡ b → (d : Bool) → eqb c (v .subproperty) ≡ d → (e : Bool)
+          → eqb c (v .domain) ≡ e → (f : Bool) → eqb c (v .range) ≡ f
           → cond a 0 (cond b 1 (cond d 2 (cond e 3 (cond f 4 5)))) < 5
       go true q b q₁ d q₂ e q₃ f q₄ = omega arith
       go false q true q₁ d q₂ e q₃ f q₄ = omega arith

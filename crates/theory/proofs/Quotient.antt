@@ -9,7 +9,8 @@ use Rattle.model.specs.Cliques.{Graph, Node}
 use Rattle.model.specs.Classes.{DataNode}
 use Rattle.model.specs.Summary.{Image}
 use Rattle.theory.proofs.Covered.{Plain}
-use Rattle.theory.proofs.Weak.{HasData, has-data, data-has, Weak, by-side, by-none, itself, turned, chained, weak-nodes, weak-data, has-node}
+use Rattle.theory.specs.Tables.{HasData, Weak, by-side, by-none, itself, turned, chained}
+use Rattle.theory.proofs.Weak.{has-data, data-has, weak-nodes, weak-data, has-node}
 use Rattle.theory.proofs.Carried.{image-node, Own, Keeps, plain-down, data-node-up, has-up, data-up, has-down}
 
 module _ (v : Vocabulary) (roster : List ℕ) (H : Graph) (f : ℕ → ℕ) (own : Own v roster H f) (finer : (n : ℕ) → DataNode v roster H n → Weak v roster H n (f n)) where

@@ -4,7 +4,8 @@ use Prim.Native.Nat.{ℕ, zero, suc, _≤_, _<_, _+_, _*_}
 use mathlib.Core.Path.{_≡_, refl, sym, subst, ap}
 use mathlib.Core.Logic.{_⊎_, inl, inr, ⊎-elim, _↔_}
 use mathlib.Core.Bool.{true}
-use mathlib.Core.List.{List, [], _∷_, List·Memᴰ as Mem, List·Memᴰ·head as here, List·Memᴰ·tail as there, List·Memᴰ·not-nil as no-mem, List·Memᴰ·append-cases as append-cases, Memᴰ·append-left as append-left, Memᴰ·append-right as append-right}
+use mathlib.Core.List.{List, [], _∷_, List·Memᴰ as Mem, List·Memᴰ·head as here, List·Memᴰ·tail as there, List·Memᴰ·not-nil as no-mem}
+use mathlib.Core.List.{List·Memᴰ·append-cases as append-cases, Memᴰ·append-left as append-left, Memᴰ·append-right as append-right}
 use native.Mathlib.Omega.{arith}
 use native.Mathlib.Nat.{mul-le-mul-right}
 use lib.Dec.{eqb}
@@ -22,11 +23,7 @@ use Rattle.model.specs.Cliques.{Graph}
 use Rattle.theory.proofs.Tests.{cond-cases}
 use Rattle.theory.proofs.Lists.{when-mem, mem-when, collect-mem, mem-collect}
 use Rattle.theory.proofs.Order.{sorted-rising, sorted-mem, mem-sorted, rising-length, rising-equal, rising-unique}
-use Rattle.theory.proofs.Covered.{Below, AllBelow}
-
--- the triples of a list, as a set
-abbrev pub In : List Triple → Graph
-In ts t = Mem t ts
+use Rattle.theory.specs.Tables.{Below, AllBelow, In}
 
 -- ── n * n * n triples have codes below n ──
 key : ℕ → Triple → ℕ

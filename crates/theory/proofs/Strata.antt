@@ -21,7 +21,9 @@ use Rattle.model.specs.Cliques.{Graph}
 use Rattle.theory.proofs.Tests.{and-both, bool-cases}
 use Rattle.theory.proofs.Lists.{mem-getD}
 use Rattle.theory.proofs.Covered.{kind-type}
-use Rattle.theory.proofs.RuleLaws.{EndOf, first-subject, first-object, second-subject, second-object, PropertyPlace, of-first, of-second, Schema, is-subclass, is-subproperty, is-domain, is-range, schema-bounds, any-parts, both-parts, chain-parts, chain-whole, chain-kind, All, none, more, all-in, laws}
+use Rattle.theory.proofs.RuleLaws.{EndOf, first-subject, first-object, second-subject, second-object, PropertyPlace, of-first, of-second}
+use Rattle.theory.proofs.RuleLaws.{Schema, is-subclass, is-subproperty, is-domain, is-range, schema-bounds, any-parts, both-parts, chain-parts}
+use Rattle.theory.proofs.RuleLaws.{chain-whole, chain-kind, All, none, more, all-in, laws}
 use Rattle.theory.proofs.Saturated.{derives-cut}
 
 -- the rules of each pass
@@ -275,7 +277,8 @@ module _ (v : Vocabulary) where
       is : t ≡ triple (typedEnd types-end second) (v .instance) (first .object)
 
     -- the constraint of a property at or above that of a given triple is a constraint of the given triple's own property
-    typed-below : {k : ℕ} {b t : Triple} (w : Types k) (a : Triple) → S a → kind v (a .property) ≡ k → a .subject ≡ b .property → t ≡ triple (typedEnd w b) (v .instance) (a .object) → Renamed b → Typed t
+    typed-below : {k : ℕ} {b t : Triple} (w : Types k) (a : Triple) → S a → kind v (a .property) ≡ k → a .subject ≡ b .property
+        → t ≡ triple (typedEnd w b) (v .instance) (a .object) → Renamed b → Typed t
     typed-below {k} {b} {t} w a s e f g R = go (R .up)
       where
         is-typed : t ≡ triple (typedEnd w (R .from)) (v .instance) (a .object)

@@ -16,7 +16,8 @@ use Rattle.model.specs.Classes.{DataNode, SameClique, neither, in-one, Strongly
 use Rattle.model.specs.Summary.{Image}
 use Rattle.theory.proofs.Covered.{Plain}
 use Rattle.theory.proofs.RuleLaws.{laws}
-use Rattle.theory.proofs.Weak.{HasData, data-kind, kind-data, has-data, data-has, has-node, has-map, data-node-map, clique-sym, clique-self, clique-weak, Weak, by-none}
+use Rattle.theory.specs.Tables.{HasData, Weak, by-none}
+use Rattle.theory.proofs.Weak.{data-kind, kind-data, has-data, data-has, has-node, has-map, data-node-map, clique-sym, clique-self, clique-weak}
 use Rattle.theory.proofs.Images.{Covers, derives-covered}
 use Rattle.theory.proofs.Carried.{Own, Keeps, has-up, data-node-up, has-down, plain-down}
 
@@ -140,7 +141,8 @@ module _ (v : Vocabulary) (roster : List ℕ) where
           }
 
   -- where it can be told whether a node has a property at a side
-  pub strong-strongly : {G : Graph} → ((e : Side) (n : ℕ) → Plain roster n → ((p : ℕ) × Has v roster G e n p) ⊎ ((p : ℕ) → Has v roster G e n p → ⊥)) → {n m : ℕ} → Strong G n m → Strongly v roster G n m
+  pub strong-strongly : {G : Graph} → ((e : Side) (n : ℕ) → Plain roster n → ((p : ℕ) × Has v roster G e n p) ⊎ ((p : ℕ) → Has v roster G e n p → ⊥))
+      → {n m : ℕ} → Strong G n m → Strongly v roster G n m
   strong-strongly {G} d {n} {m} s = record { one = s .one; two = s .two; at-side = λ e. go e (d e n (s .one .plain)) }
     where
       go : (e : Side) → ((p : ℕ) × Has v roster G e n p) ⊎ ((p : ℕ) → Has v roster G e n p → ⊥) → SameClique v roster G e n m
@@ -193,7 +195,8 @@ module _ (v : Vocabulary) (roster : List ℕ) where
           alike = λ d. record { forth = λ p h. go d e g b (s .alike d .forth) p h; back = λ p h. go d g e a (s .alike d .back) p h };
         }
       where
-        go : (d : Side) {c k u w : ℕ} → f c ≡ u → f k ≡ w → DataNode v roster H k → ((p : ℕ) → Has v roster (Image f H) d u p → Partner (Image f H) d p w) → (p : ℕ) → Has v roster H d c p → Partner H d p k
+        go : (d : Side) {c k u w : ℕ} → f c ≡ u → f k ≡ w → DataNode v roster H k
+            → ((p : ℕ) → Has v roster (Image f H) d u p → Partner (Image f H) d p w) → (p : ℕ) → Has v roster H d c p → Partner H d p k
         go d {c} {k} {u} {w} p₁ p₂ z next p h =
             let up : Has v roster (Image f H) d u p = subst (λ (q : ℕ). Has v roster (Image f H) d q p) p₁ (has-up v roster H f own keeps h) in
             let r = next p up in

@@ -20,9 +20,10 @@ use Rattle.model.specs.Classes.{DataNode, RepresentsBy, mapOf}
 use Rattle.model.specs.Summary.{moved, Image, condensed, summary}
 use Rattle.theory.proofs.Lists.{map-mem, mem-map}
 use Rattle.theory.proofs.Order.{sorted-rising, sorted-mem, mem-sorted, sorted-length, rising-unique}
-use Rattle.theory.proofs.Covered.{AllBelow, Marked, Plain, by-mark}
-use Rattle.theory.proofs.Saturated.{In, derives-map}
-use Rattle.theory.proofs.Weak.{node-map, data-node-map, data-map, Weak, weak-map, Reps}
+use Rattle.theory.specs.Tables.{AllBelow, In, Weak}
+use Rattle.theory.proofs.Covered.{Marked, Plain, by-mark}
+use Rattle.theory.proofs.Saturated.{derives-map}
+use Rattle.theory.proofs.Weak.{node-map, data-node-map, data-map, weak-map, Reps}
 use Rattle.theory.proofs.Mapped.{node-or, map-reps, map-absent, length-map-of}
 
 -- ── graphs that hold the same triples ──
@@ -99,7 +100,8 @@ module _ (v : Vocabulary) (roster : List ℕ) where
       (λ c h. ⊎-elim (λ (x : Node (In ts) c). reps-unique R S c x) (λ (x : Node (In ts) c → ⊥). f c x ∙ sym (g c x)) (node-or ts c))
 
   -- whatever list of N gives the representatives, and absent for no node, is the map
-  pub map-unique : (ts : List Triple) → AllBelow (length roster) ts → length roster ≤ absent → (m : List ℕ) → length m ≡ length roster → Reps v roster (In ts) (label m) → ((c : ℕ) → (Node (In ts) c → ⊥) → label m c ≡ absent) → m ≡ mapOf v roster ts
+  pub map-unique : (ts : List Triple) → AllBelow (length roster) ts → length roster ≤ absent → (m : List ℕ) → length m ≡ length roster
+      → Reps v roster (In ts) (label m) → ((c : ℕ) → (Node (In ts) c → ⊥) → label m c ≡ absent) → m ≡ mapOf v roster ts
   map-unique ts b room m l R f = labels-unique ts m (mapOf v roster ts) (l ∙ sym (length-map-of v roster ts)) R (map-reps v roster ts b room) f (map-absent v roster ts b room)
 
   -- lists with the same members have one map and one summary

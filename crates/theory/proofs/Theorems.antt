@@ -17,14 +17,18 @@ use Rattle.model.specs.Cliques.{Clique, linked}
 use Rattle.model.specs.Summary.{summary}
 use Rattle.model.specs.Calls.{Accepted, tableChecks}
 use Rattle.model.specs.Outcomes.{wrongLength, wrongSize}
-use Rattle.theory.specs.Theorems.{TriplesOf, InSaturation, Source, SaturationExact, ConstraintsFollow, CliquesExact, RepresentativesExact, SummaryExact, StrongRepresentativesExact, StrongSummaryExact, OwnRosterLeast, ShortcutBy, RoutesBy, AgainBy, AtRestBy, ShortcutHolds, RoutesAccepted, StrongShortcutHolds, StrongRoutesAccepted, WeakOfStrongHolds, Saturated, AtRestHolds, StrongAtRestHolds, AgainTheSame, StrongAgainTheSame, SaturationSaturated, AnyOrder, WholeList, FedInAnyOrder}
+use Rattle.theory.specs.Theorems.{TriplesOf, InSaturation, Source, SaturationExact, ConstraintsFollow, CliquesExact, RepresentativesExact}
+use Rattle.theory.specs.Theorems.{SummaryExact, StrongRepresentativesExact, StrongSummaryExact, OwnRosterLeast, ShortcutBy, RoutesBy, AgainBy}
+use Rattle.theory.specs.Theorems.{AtRestBy, ShortcutHolds, RoutesAccepted, StrongShortcutHolds, StrongRoutesAccepted, WeakOfStrongHolds}
+use Rattle.theory.specs.Theorems.{Saturated, AtRestHolds, StrongAtRestHolds, AgainTheSame, StrongAgainTheSame, SaturationSaturated, AnyOrder}
+use Rattle.theory.specs.Theorems.{WholeList, FedInAnyOrder}
 use Rattle.theory.proofs.Tests.{or-false}
 use Rattle.theory.proofs.Checks.{passes-first}
 use Rattle.theory.proofs.Flat.{triples-flat}
 use Rattle.theory.proofs.Covered.{all-codes, kind-of-code}
-use Rattle.theory.proofs.Saturated.{In}
+use Rattle.theory.specs.Tables.{In, Weak, turned, chained, Right}
 use Rattle.theory.proofs.Strata.{Types, subjects, objects, Free, inherit, widen}
-use Rattle.theory.proofs.Weak.{Weak, weakly-weak, weak-weakly, turned, chained, clique-sym, reps-represents}
+use Rattle.theory.proofs.Weak.{weakly-weak, weak-weakly, clique-sym, reps-represents}
 use Rattle.theory.proofs.Saturated as saturated
 use Rattle.theory.proofs.Mapped as mapped
 use Rattle.theory.proofs.Summaries as summaries
@@ -41,7 +45,11 @@ module _ (v : Vocabulary) where
   saturation-exact table roster h =
       let R = accept.accepted-right v table roster h in
       let b = accept.below v roster (triples table) R in
-      record { rising = saturated.saturation-rising v (length roster) (accept.type-below R) (triples table) b; exact = saturated.saturation-exact v (length roster) (accept.type-below R) (triples table) b }
+      record {
+        rising = saturated.saturation-rising v (length roster) (accept.type-below R) (triples table) b;
+        exact = saturated.saturation-exact v
+            (length roster) (accept.type-below R) (triples table) b;
+      }
 
   module _ (table roster : List ℕ) (h : Accepted v table roster) where
     abbrev Derived : ℕ → ℕ → ℕ → Type 0
@@ -195,7 +203,7 @@ module _ (v : Vocabulary) where
     abbrev ts : List Triple
     ts = triples table
 
-    R : accept.Right v roster ts
+    R : Right v roster ts
     R = accept.accepted-right v table roster h
 
     shortcut-by : ShortcutBy v (K .map-of) table roster
@@ -252,7 +260,7 @@ module _ (v : Vocabulary) where
       let o = feeding.opening v roster s h in
       let z = feeding.opening-few v roster s o in
       let k = feeding.held-holds v roster (slots (s .triples)) fs [] (feeding.empty-holds v roster (slots (s .triples))) in
-      let R : accept.Right v roster (heldAfter v roster (slots (s .triples)) fs []) =
+      let R : Right v roster (heldAfter v roster (slots (s .triples)) fs []) =
       record { size = z .0; words = o .words; marks = o .marks; codes = k .codes; cover = k .covered } in
       record { answered = w .0; state = w .1; rising = k .rising; accepted-table = accept.right-accepted v roster _ R (omega (arith, k .fits, z .1)) }
 

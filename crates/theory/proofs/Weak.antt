@@ -11,8 +11,9 @@ use Rattle.model.specs.declared.Triple.{Triple}
 use Rattle.model.specs.declared.Vocabulary.{Vocabulary}
 use Rattle.model.specs.Codes.{kind}
 use Rattle.model.specs.Triples.{isData}
-use Rattle.model.specs.Cliques.{Graph, Side, end, Node, Has, Share, Clique, shared, linked}
+use Rattle.model.specs.Cliques.{Graph, Side, Node, Has, Share, Clique, shared, linked}
 use Rattle.model.specs.Classes.{DataNode, Weakly, same-clique, no-clique, chain, RepresentsBy}
+use Rattle.theory.specs.Tables.{HasData, Weak, by-side, by-none, itself, turned, chained}
 use Rattle.theory.proofs.Covered.{Plain}
 
 pub node-map : {G H : Graph} → ((t : Triple) → G t → H t) → {n : ℕ} → Node G n → Node H n
@@ -27,22 +28,14 @@ module _ (v : Vocabulary) where
   unfolding isData
   kind-data t h = le-leb 5 (kind v (t .property)) h
 
-  -- the code is an end of a data triple
-  pub record HasData (G : Graph) (n : ℕ) : Type 0 where
-    pub by : Triple
-    pub held : G by
-    pub is-data : isData v by ≡ true
-    pub side : Side
-    pub is-end : end side by ≡ n
-
-  pub data-map : {G H : Graph} → ((t : Triple) → G t → H t) → {n : ℕ} → HasData G n → HasData H n
+  pub data-map : {G H : Graph} → ((t : Triple) → G t → H t) → {n : ℕ} → HasData v G n → HasData v H n
   data-map f x = record { by = x .by; held = f (x .by) (x .held); is-data = x .is-data; side = x .side; is-end = x .is-end }
 
   module _ (roster : List ℕ) where
-    pub has-data : {G : Graph} {e : Side} {n p : ℕ} → Has v roster G e n p → HasData G n
+    pub has-data : {G : Graph} {e : Side} {n p : ℕ} → Has v roster G e n p → HasData v G n
     has-data {e = e} h = record { by = h .by; held = h .held; is-data = h .is-data; side = e; is-end = h .is-end }
 
-    pub data-has : {G : Graph} {n : ℕ} → Plain roster n → (h : HasData G n) → Has v roster G (h .side) n (h .by .property)
+    pub data-has : {G : Graph} {n : ℕ} → Plain roster n → (h : HasData v G n) → Has v roster G (h .side) n (h .by .property)
     data-has a h = record { by = h .by; held = h .held; is-data = h .is-data; is-end = h .is-end; plain = a; property = refl }
 
     pub has-node : {G : Graph} {e : Side} {n p : ℕ} → Has v roster G e n p → DataNode v roster G n
@@ -54,22 +47,15 @@ module _ (v : Vocabulary) where
     pub data-node-map : {G H : Graph} → ((t : Triple) → G t → H t) → {n : ℕ} → DataNode v roster G n → DataNode v roster H n
     data-node-map f x = record { node = node-map f (x .node); plain = x .plain }
 
-    pub data Weak (G : Graph) : ℕ → ℕ → Type 0 where
-      by-side : {e : Side} {n m p : ℕ} → Has v roster G e n p → Has v roster G e m p → Weak G n m
-      by-none : {n m : ℕ} → DataNode v roster G n → DataNode v roster G m → (HasData G n → ⊥) → (HasData G m → ⊥) → Weak G n m
-      itself : {n : ℕ} → DataNode v roster G n → Weak G n n
-      turned : {n m : ℕ} → Weak G n m → Weak G m n
-      chained : {n k m : ℕ} → Weak G n k → Weak G k m → Weak G n m
-
     -- ── it relates data nodes, and those with data triples to such ──
-    pub weak-nodes : {G : Graph} {n m : ℕ} → Weak G n m → DataNode v roster G n × DataNode v roster G m
+    pub weak-nodes : {G : Graph} {n m : ℕ} → Weak v roster G n m → DataNode v roster G n × DataNode v roster G m
     weak-nodes (by-side x y) = (has-node x, has-node y)
     weak-nodes (by-none x y f g) = (x, y)
     weak-nodes (itself x) = (x, x)
     weak-nodes (turned w) = ((weak-nodes w) .1, (weak-nodes w) .0)
     weak-nodes (chained u w) = ((weak-nodes u) .0, (weak-nodes w) .1)
 
-    pub weak-data : {G : Graph} {n m : ℕ} → Weak G n m → (HasData G n → HasData G m) × (HasData G m → HasData G n)
+    pub weak-data : {G : Graph} {n m : ℕ} → Weak v roster G n m → (HasData v G n → HasData v G m) × (HasData v G m → HasData v G n)
     weak-data (by-side x y) = (λ h. has-data y, λ h. has-data x)
     weak-data (by-none x y f g) = (λ h. absurd (f h), λ h. absurd (g h))
     weak-data (itself x) = (λ h. h, λ h. h)
@@ -77,7 +63,7 @@ module _ (v : Vocabulary) where
     weak-data (chained u w) = (λ h. (weak-data w) .0 ((weak-data u) .0 h), λ h. (weak-data u) .1 ((weak-data w) .1 h))
 
     -- a larger graph that gives no data triple to a node without one keeps what is equivalent
-    pub weak-map : {G H : Graph} → ((t : Triple) → G t → H t) → ((n : ℕ) → Node G n → HasData H n → HasData G n) → {n m : ℕ} → Weak G n m → Weak H n m
+    pub weak-map : {G H : Graph} → ((t : Triple) → G t → H t) → ((n : ℕ) → Node G n → HasData v H n → HasData v G n) → {n m : ℕ} → Weak v roster G n m → Weak v roster H n m
     weak-map f d (by-side x y) = by-side (has-map f x) (has-map f y)
     weak-map f d (by-none {n} {m} x y p q) = by-none (data-node-map f x) (data-node-map f y) (λ h. p (d n (x .node) h)) (λ h. q (d m (y .node) h))
     weak-map f d (itself x) = itself (data-node-map f x)
@@ -99,11 +85,11 @@ module _ (v : Vocabulary) where
     pub clique-self : {G : Graph} {e : Side} {n p : ℕ} → Has v roster G e n p → Clique v roster G e p p
     clique-self {n = n} h = shared (record { node = n; one = h; two = h })
 
-    pub clique-weak : {G : Graph} {e : Side} {p q n m : ℕ} → Clique v roster G e p q → Has v roster G e n p → Has v roster G e m q → Weak G n m
+    pub clique-weak : {G : Graph} {e : Side} {p q n m : ℕ} → Clique v roster G e p q → Has v roster G e n p → Has v roster G e m q → Weak v roster G n m
     clique-weak (shared s) x y = chained (by-side x (s .one)) (by-side (s .two) y)
     clique-weak (linked k l) x y = let (c, z) = clique-end k in chained (clique-weak k x z) (clique-weak l z y)
 
-    pub weakly-weak : {G : Graph} {n m : ℕ} → Weakly v roster G n m → Weak G n m
+    pub weakly-weak : {G : Graph} {n m : ℕ} → Weakly v roster G n m → Weak v roster G n m
     weakly-weak (same-clique x y k) = clique-weak k x y
     weakly-weak (no-clique x y f g) =
         by-none x y (λ h. f (h .side) (h .by .property) (data-has (x .plain) h)) (λ h. g (h .side) (h .by .property) (data-has (y .plain) h))
@@ -115,20 +101,20 @@ module _ (v : Vocabulary) where
     weakly-sym (chain u w) = chain (weakly-sym w) (weakly-sym u)
 
     -- where it can be told whether a node has a data triple
-    pub weak-weakly : {G : Graph} → ((n : ℕ) → HasData G n ⊎ (HasData G n → ⊥)) → {n m : ℕ} → Weak G n m → Weakly v roster G n m
+    pub weak-weakly : {G : Graph} → ((n : ℕ) → HasData v G n ⊎ (HasData v G n → ⊥)) → {n m : ℕ} → Weak v roster G n m → Weakly v roster G n m
     weak-weakly d (by-side x y) = same-clique x y (clique-self x)
     weak-weakly d (by-none x y f g) = no-clique x y (λ e p h. f (has-data h)) (λ e p h. g (has-data h))
     weak-weakly {G} d (itself {n} x) = go (d n)
       where
-        go : HasData G n ⊎ (HasData G n → ⊥) → Weakly v roster G n n
+        go : HasData v G n ⊎ (HasData v G n → ⊥) → Weakly v roster G n n
         go (inl h) = let y = data-has (x .plain) h in same-clique y y (clique-self y)
         go (inr f) = no-clique x x (λ e p h. f (has-data h)) (λ e p h. f (has-data h))
     weak-weakly d (turned w) = weakly-sym (weak-weakly d w)
     weak-weakly d (chained u w) = chain (weak-weakly d u) (weak-weakly d w)
 
     abbrev pub Reps : Graph → (ℕ → ℕ) → Type 0
-    Reps G f = RepresentsBy v roster (Weak G) G f
+    Reps G f = RepresentsBy v roster (Weak v roster G) G f
 
-    pub reps-represents : {G : Graph} {f : ℕ → ℕ} → ((n : ℕ) → HasData G n ⊎ (HasData G n → ⊥)) → Reps G f → RepresentsBy v roster (Weakly v roster G) G f
+    pub reps-represents : {G : Graph} {f : ℕ → ℕ} → ((n : ℕ) → HasData v G n ⊎ (HasData v G n → ⊥)) → Reps G f → RepresentsBy v roster (Weakly v roster G) G f
     reps-represents d R =
         record { of-marked = R .of-marked; of-data = λ n x. weak-weakly d (R .of-data n x); least = λ n m x w. R .least n m x (weakly-weak w) }

@@ -3,7 +3,6 @@
 use Prim.Native.Nat.{ℕ, _<_, _≤_, min, max}
 use mathlib.Core.Bool.{Bool, true, false}
 use mathlib.Core.Path.{_≡_, refl, sym, _∙_, ap}
-use mathlib.Core.Logic.{_↔_}
 use mathlib.Core.List.{List}
 use native.Mathlib.Omega.{arith}
 use native.Mathlib.Decide.{ℕ-discrete}
@@ -27,22 +26,6 @@ pub record Classes (A : ℕ → Bool) (R : ℕ → ℕ → Type 0) (f : ℕ → 
   pub sound : (x : ℕ) → A x ≡ true → Closure R x (f x)
   pub small : (x : ℕ) → A x ≡ true → f x ≤ x
   pub joined : (a b : ℕ) → R a b → f a ≡ f b
-
-pub closed : {A : ℕ → Bool} {R : ℕ → ℕ → Type 0} {f : ℕ → ℕ} → Classes A R f → {x y : ℕ} → Closure R x y → f x ≡ f y
-closed c (step {a} {b} r) = c .joined a b r
-closed c same = refl
-closed c (flip k) = sym (closed c k)
-closed c (join k m) = closed c k ∙ closed c m
-
--- one representative means one class
-pub exactly : {A : ℕ → Bool} {R : ℕ → ℕ → Type 0} {f : ℕ → ℕ} → Classes A R f → (x y : ℕ) → A x ≡ true → A y ≡ true → (f x ≡ f y) ↔ Closure R x y
-exactly {R} {f} c x y ax ay = (
-  λ e. let k : Closure R (f x) y = rw e (flip (c .sound y ay)) in join (c .sound x ax) k,
-  λ k. closed c k,
-)
-
-pub least : {A : ℕ → Bool} {R : ℕ → ℕ → Type 0} {f : ℕ → ℕ} → Classes A R f → (x y : ℕ) → A y ≡ true → Closure R x y → f x ≤ y
-least c x y ay k = omega (arith, closed c k, c .small y ay)
 
 pub wider : {R S : ℕ → ℕ → Type 0} → ((a b : ℕ) → R a b → S a b) → {x y : ℕ} → Closure R x y → Closure S x y
 wider h (step {a} {b} r) = step (h a b r)
@@ -114,18 +97,6 @@ module _ (A : ℕ → Bool) (R : ℕ → ℕ → Type 0) (f : ℕ → ℕ) (c : 
       jnd x y (old r) = rw (c .joined x y r)
       jnd x y (new p q) = rw (p, q) (one (case a) (case b))
 
--- ── the same classes, given by another function or another relation ──
-pub classes-ext : {A : ℕ → Bool} {R : ℕ → ℕ → Type 0} {f : ℕ → ℕ} (g : ℕ → ℕ) → ((x : ℕ) → A x ≡ true → g x ≡ f x)
-    → ((a b : ℕ) → R a b → (A a ≡ true) × (A b ≡ true)) → Classes A R f → Classes A R g
-classes-ext g e n c = record {
-  sound = λ x h. rw (e x h) (c .sound x h);
-  small = λ x h. rw (e x h) (c .small x h);
-  joined = λ a b r. e a (n a b r .0) ∙ c .joined a b r ∙ sym (e b (n a b r .1));
-}
-
-pub classes-rel : {A : ℕ → Bool} {R : ℕ → ℕ → Type 0} (S : ℕ → ℕ → Type 0) {f : ℕ → ℕ} → ((a b : ℕ) → R a b → S a b) → ((a b : ℕ) → S a b → R a b) → Classes A R f → Classes A S f
-classes-rel S to from c = record { sound = λ x h. wider to (c .sound x h); small = c .small; joined = λ a b s. c .joined a b (from a b s) }
-
 -- ── one code more ──
 -- A' is A with the code x
 pub record Added (A A' : ℕ → Bool) (x : ℕ) : Type 0 where
@@ -136,21 +107,6 @@ pub record Added (A A' : ℕ → Bool) (x : ℕ) : Type 0 where
 module _ (A A' : ℕ → Bool) (x : ℕ) (n : Added A A' x) where
   old-code : (y : ℕ) → A y ≡ true → y ≡ x → ⊥
   old-code y h e = not-both h (ap A e ∙ n .before)
-
-  -- the new code is a class of its own
-  pub classes-add : {R : ℕ → ℕ → Type 0} {f : ℕ → ℕ} (g : ℕ → ℕ) → ((y : ℕ) → A y ≡ true → g y ≡ f y) → g x ≡ x
-      → ((a b : ℕ) → R a b → (A a ≡ true) × (A b ≡ true)) → Classes A R f → Classes A' R g
-  classes-add {R} {f} g e own inA c =
-      let d : Classes A R g = classes-ext g e inA c in
-      record { sound = λ y h. snd d y h (ℕ-discrete y x); small = λ y h. sml d y h (ℕ-discrete y x); joined = d .joined }
-    where
-      snd : Classes A R g → (y : ℕ) → A' y ≡ true → Dec (y ≡ x) → Closure R y (g y)
-      snd d y h (yes q) = rw (q, own) same
-      snd d y h (no m) = d .sound y (sym (n .rest y m) ∙ h)
-
-      sml : Classes A R g → (y : ℕ) → A' y ≡ true → Dec (y ≡ x) → g y ≤ y
-      sml d y h (yes q) = rw (q, own) (omega arith)
-      sml d y h (no m) = d .small y (sym (n .rest y m) ∙ h)
 
   -- its entry is the code itself
   module _ (l l' : List ℕ) (f : Forest A l) (w : x < length l) (e : l' ≡ set l x x) where
@@ -167,6 +123,3 @@ module _ (A A' : ℕ → Bool) (x : ℕ) (n : Added A A' x) where
       where
         kept : (y : ℕ) → A y ≡ true → getD l' y 0 ≡ getD l y 0
         kept y a = rw e (getD-set-other l x y x 0 (old-code y a))
-
-    pub classes-grow : {R : ℕ → ℕ → Type 0} → ((a b : ℕ) → R a b → (A a ≡ true) × (A b ≡ true)) → Classes A R (root l) → Classes A' R (root l')
-    classes-grow inA c = classes-add (root l') roots-add root-add inA c

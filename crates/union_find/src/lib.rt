@@ -1,6 +1,5 @@
 // Union-find in a lent list of parents, in which only some entries are the forest. The others are left as they are.
 
-ghost use Prim.Native.Nat.{_<_};
 ghost use Rattle.union_find.specs.Calls.{Active, RootFound, ActivePair, United, Flattened};
 use lists::narrow;
 use lists::wide;

@@ -2,7 +2,7 @@
 -- Assumes nothing.
 use Prim.Native.Nat.{ℕ, _+_, _<_, _≤_}
 use mathlib.Core.Path.{_≡_, sym, _∙_, ap, subst}
-use mathlib.Core.Logic.{_⊎_, ⊎-elim}
+use mathlib.Core.Logic.{⊎-elim}
 use mathlib.Core.Bool.{true, false, not}
 use mathlib.Core.List.{List}
 use native.Mathlib.Omega.{arith}
@@ -16,16 +16,16 @@ use Rattle.model.specs.Codes.{absent}
 use Rattle.model.specs.Roster.{unmarked, isNode}
 use Rattle.model.specs.Cliques.{Side, Has}
 use Rattle.theory.proofs.Tests.{bool-cases, not-both, and-true, and-both}
-use Rattle.theory.proofs.Saturated.{In}
-use Rattle.theory.proofs.Weak.{data-has, by-none}
+use Rattle.theory.specs.Tables.{In, by-none}
+use Rattle.theory.proofs.Weak.{data-has}
 use Rattle.theory.proofs.Mapped.{node-test, test-node, node-below}
 use Rattle.theory.proofs.Accepted.{room, below}
 use Rattle.union_find.specs.Roots.{root}
 use Rattle.union_find.specs.Calls.{United}
-use Rattle.weak_map.specs.Linking.{Sound, AllSeen, Bare}
-use Rattle.weak_map.specs.Calls.{bare, BareJoinable, BareJoined, Complete}
-use Rattle.weak_map.proofs.Nodes.{sound-pair, sound-united, sound-one, sound-same}
-use Rattle.weak_map.proofs.Links.{has-test}
+use Rattle.node_links.specs.Linking.{Sound, AllSeen, Bare}
+use Rattle.node_links.specs.Calls.{bare, BareJoinable, BareJoined, Complete}
+use Rattle.node_links.proofs.Nodes.{sound-pair, sound-united, sound-one, sound-same}
+use Rattle.node_links.proofs.Links.{has-test}
 
 module _ (v : Vocabulary) where
   -- those below i are in the class of `first`, which is one of them, or absent

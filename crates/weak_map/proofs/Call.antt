@@ -9,15 +9,15 @@ use Rattle.model.specs.declared.Triple.{Triple}
 use Rattle.model.specs.declared.Vocabulary.{Vocabulary}
 use Rattle.model.specs.Lists.{tabulate, zeros}
 use Rattle.model.specs.Classes.{mapOf}
-use Rattle.theory.proofs.Covered.{AllBelow}
-use Rattle.theory.proofs.Accepted.{Right, below}
+use Rattle.theory.specs.Tables.{AllBelow, Right}
+use Rattle.theory.proofs.Accepted.{below}
 use Rattle.lists.specs.Flat.{at, Cleared}
 use Rattle.lists.proofs.Search.{cleared-all}
 use Rattle.union_find.specs.Calls.{Flattened}
 use Rattle.lists.specs.Flat.{Emptied}
-use Rattle.weak_map.specs.Linking.{Openable, Opened, Started, AllSeen}
-use Rattle.weak_map.specs.Calls.{Complete}
-use Rattle.weak_map.proofs.Nodes.{sound-start}
+use Rattle.node_links.specs.Linking.{Openable, Opened, Started, AllSeen}
+use Rattle.node_links.specs.Calls.{Complete}
+use Rattle.node_links.proofs.Nodes.{sound-start}
 use Rattle.weak_map.proofs.Tables.{linked-start}
 use Rattle.weak_map.proofs.Ends.{map-end}
 

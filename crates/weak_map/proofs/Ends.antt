@@ -16,17 +16,17 @@ use Rattle.model.specs.Partition.{label}
 use Rattle.model.specs.Cliques.{Node}
 use Rattle.model.specs.Classes.{mapOf}
 use Rattle.theory.proofs.Tests.{not-both, not-true-false}
-use Rattle.theory.proofs.Saturated.{In}
-use Rattle.theory.proofs.Weak.{Weak, by-side, by-none, itself, turned, chained, weak-nodes, Reps}
+use Rattle.theory.specs.Tables.{In, Weak, by-side, by-none, itself, turned, chained, Right}
+use Rattle.theory.proofs.Weak.{weak-nodes, Reps}
 use Rattle.theory.proofs.Mapped.{node-test, test-node}
 use Rattle.theory.proofs.Summaries.{map-unique}
-use Rattle.theory.proofs.Accepted.{Right, room, below}
+use Rattle.theory.proofs.Accepted.{room, below}
 use Rattle.union_find.specs.Roots.{root}
 use Rattle.union_find.specs.Calls.{Apart, Flattened}
 use Rattle.union_find.proofs.Laws.{root-le}
 use Rattle.lists.proofs.Places.{same-default}
-use Rattle.weak_map.specs.Linking.{Alike}
-use Rattle.weak_map.specs.Calls.{Complete}
+use Rattle.node_links.specs.Linking.{Alike}
+use Rattle.node_links.specs.Calls.{Complete}
 
 module _ (v : Vocabulary) where
   module _ (roster : List ℕ) (ts : List Triple) (R : Right v roster ts) (l l₁ : List ℕ) (c : Complete v roster ts l) (f : Flattened l l₁) where

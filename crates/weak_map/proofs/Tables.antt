@@ -13,15 +13,13 @@ use Rattle.model.specs.Codes.{absent}
 use Rattle.model.specs.Lists.{tabulate}
 use Rattle.model.specs.Cliques.{Side, source, target, end, Has, links}
 use Rattle.theory.proofs.Lists.{tabulate-mem, mem-tabulate}
-use Rattle.theory.proofs.Saturated.{In}
+use Rattle.theory.specs.Tables.{In, Right}
 use Rattle.theory.proofs.Weak.{has-map}
-use Rattle.theory.proofs.Accepted.{Right}
-use Rattle.lists.specs.Flat.{at}
-use Rattle.cliques.specs.Grouping.{Before}
-use Rattle.cliques.proofs.Places.{has-back}
-use Rattle.weak_map.specs.Linking.{Sound, Linked, upTo, Seen, AllSeen}
-use Rattle.weak_map.specs.Calls.{EndLinkable, EndLinked}
-use Rattle.weak_map.proofs.Links.{slot-below, linked-less, end-linkable, end-linked}
+use Rattle.lists.specs.Flat.{at, Before}
+use Rattle.roster_checks.proofs.Sides.{has-back}
+use Rattle.node_links.specs.Linking.{Sound, Linked, upTo, Seen, AllSeen}
+use Rattle.node_links.specs.Calls.{EndLinkable, EndLinked}
+use Rattle.node_links.proofs.Links.{slot-below, linked-less, end-linkable, end-linked}
 
 module _ (v : Vocabulary) where
   module _ (table : List ℕ) (count : ℕ) (roster : List ℕ) where
@@ -89,12 +87,14 @@ module _ (v : Vocabulary) where
 
         pub target-linkable : LinkedAt (i + 1) i map work → EndLinkable v roster target t map work
         target-linkable b =
-            end-linkable v roster ts R (Seen v table roster (i + 1) i) (Seen v table roster (i + 1) (i + 1)) (seen-has (i + 1) i (omega arith) (omega arith)) (seen-has (i + 1) (i + 1) (omega arith) (omega arith))
+            end-linkable v roster ts R (Seen v table roster (i + 1) i) (Seen v table roster (i + 1) (i + 1))
+            (seen-has (i + 1) i (omega arith) (omega arith)) (seen-has (i + 1) (i + 1) (omega arith) (omega arith))
             target t member back-target map work b
 
         pub target-linked : LinkedAt (i + 1) i map work → (map′ work′ : List ℕ) → EndLinked v roster target t map work map′ work′ → LinkedAt (i + 1) (i + 1) map′ work′
         target-linked b =
-            end-linked v roster ts R (Seen v table roster (i + 1) i) (Seen v table roster (i + 1) (i + 1)) (seen-has (i + 1) i (omega arith) (omega arith)) (seen-has (i + 1) (i + 1) (omega arith) (omega arith))
+            end-linked v roster ts R (Seen v table roster (i + 1) i) (Seen v table roster (i + 1) (i + 1))
+            (seen-has (i + 1) i (omega arith) (omega arith)) (seen-has (i + 1) (i + 1) (omega arith) (omega arith))
             target t member back-target map work b
 
     -- ── after the last ──

@@ -13,11 +13,11 @@ use Rattle.model.specs.declared.Done.{Done}
 use Rattle.model.specs.declared.Refusal.the-variants.{Length}
 use Rattle.model.specs.declared.Vocabulary.{Vocabulary}
 use Rattle.model.specs.Codes.{codes}
-use Rattle.model.specs.Lists.{zeros, collect, tabulate}
+use Rattle.model.specs.Lists.{any, zeros, collect, tabulate}
 use Rattle.model.specs.Triples.{slots}
 use Rattle.model.specs.Outcomes.{Outcome, refused, accepted, refusalNumber, done, decided, left, zeroed}
 use Rattle.model.specs.Intake.{State, openLeaves}
-use Rattle.intake.specs.Opening.{Opens}
+use Rattle.intake_opening.specs.Opening.{Opens}
 use Rattle.query.specs.Ask.{askOutcome}
 use Rattle.site_form.specs.declared.Site.{Site}
 use Rattle.site_form.specs.declared.Form.{Form}
@@ -25,10 +25,10 @@ use Rattle.site_form.specs.declared.Form.the-variants.{Read, Refused}
 use Rattle.site_form.specs.declared.ReadAnswer.{ReadAnswer}
 use Rattle.site_form.specs.Reading.{Forms, formed, queryOf, queriesOf, siteOf, noForms, readForms, outcomeOf, readOutcome, siteIn, readSite, readList}
 use Rattle.site_reader.specs.Calls.{ReadCall}
-use Rattle.weak_summary.specs.Status.{statusOf, valueOr, bits, Stores}
-use Rattle.weak_summary.specs.Flat.{flatQuery, endNumbers, patternNumbers, queryNumbers, flatQueries}
+use Rattle.call_numbers.specs.Status.{statusOf, valueOr, bits, Stores}
+use Rattle.flat_queries.specs.Flat.{flatQuery, endNumbers, patternNumbers, queryNumbers, flatQueries}
 use Rattle.weak_summary.specs.Calls.{flatAskOutcome, OpenStatus, formStatus, ReadLent, lent, rightLengths, siteLeaves, flatReadOutcome, flatReadLeaves, ReadStatus, RefusedReadIsZero}
-use Rattle.weak_summary.proofs.Outcomes.{stores-as}
+use Rattle.call_numbers.proofs.Outcomes.{stores-as}
 
 -- ── reading ──
 form-status : (f : Form) (site : Site) → formStatus f ≡ statusOf (formed f site)
@@ -90,12 +90,12 @@ record Nothing (list : List ℕ) (o : Outcome Site) (after : List ℕ) : Type 0 
 
 nothing-fits : (list : List ℕ) (f : Forms) (r : ℕ) (after : List ℕ) (b : Bool) → cond b (refused 5) (accepted (siteOf f)) ≡ refused r
     → Nothing list (cond b (refused 5) (accepted (siteOf f))) after
-unfolding left zeroed
+unfolding left zeroed any
 nothing-fits list f r after true e = record { no-site = refl; no-triples = refl }
 nothing-fits list f r after false e = let z : _≡_ {A = ℕ} 0 1 = cc in absurd (omega arith)
 
 nothing-read : (list : List ℕ) (r : ℕ) (after : List ℕ) (o : Option Forms) → outcomeOf o list ≡ refused r → Nothing list (outcomeOf o list) after
-unfolding left zeroed decided
+unfolding left zeroed any decided
 nothing-read list r after none e = record { no-site = refl; no-triples = refl }
 nothing-read list r after (some f) e = nothing-fits list f r after (ltb (slots list) (length (f .triples))) e
 

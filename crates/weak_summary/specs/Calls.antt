@@ -12,7 +12,8 @@ use Rattle.model.specs.Codes.{codes}
 use Rattle.model.specs.Lists.{zeros}
 use Rattle.model.specs.Cliques.{source, target}
 use Rattle.model.specs.Outcomes.{Outcome, refused, refusalNumber, check, decided}
-use Rattle.model.specs.Calls.{Summarised, ownRosterOutcome, ownRosterLeaves, saturateOutcome, saturateLeaves, cliquesOutcome, cliquesLeave, summariseOutcome, summariseLeaves, strongSummariseOutcome, strongSummariseLeaves}
+use Rattle.model.specs.Calls.{Summarised, ownRosterOutcome, ownRosterLeaves, saturateOutcome, saturateLeaves, cliquesOutcome, cliquesLeave}
+use Rattle.model.specs.Calls.{summariseOutcome, summariseLeaves, strongSummariseOutcome, strongSummariseLeaves}
 use Rattle.model.specs.Intake.{State, openOutcome, openLeaves, Fed}
 use Rattle.query.specs.Ask.{askOutcome}
 use Rattle.site_form.specs.declared.Site.{Site}
@@ -20,9 +21,9 @@ use Rattle.site_form.specs.declared.Form.{Form}
 use Rattle.site_form.specs.declared.Form.the-variants.{Read, Refused}
 use Rattle.site_form.specs.Reading.{readOutcome, readSite, readList}
 use Rattle.site_form.specs.Writing.{writeOutcome, writeList}
-use Rattle.weak_summary.specs.Status.{statusOf, bits, Stores}
-use Rattle.weak_summary.specs.Flat.{flatQuery, flatQueries}
-use Rattle.weak_summary.specs.Words.{ByWords}
+use Rattle.call_numbers.specs.Status.{statusOf, bits, Stores}
+use Rattle.flat_queries.specs.Flat.{flatQuery, flatQueries}
+use Rattle.call_numbers.specs.Words.{ByWords}
 
 -- the status of a text: 0 where it was read
 unfoldable pub formStatus : Form → ℕ

@@ -2,167 +2,37 @@
 // what else it gives is stored through the numbers that are lent. A refusal leaves these alone, but for 8 and 5 of reading.
 
 ghost use mathlib.Core.Path.{_≡_};
-ghost use Prim.Native.Nat.{_+_, _*_, _<_};
-ghost use lib.ListN.{length};
-ghost use lib.Seq.{sets};
-ghost use Rattle.model.specs.Codes.{codes};
 ghost use Rattle.model.specs.Triples.{triple};
-ghost use Rattle.model.specs.Outcomes.{done, counted, found};
 ghost use Rattle.model.specs.Calls.{lookUpOutcome};
-ghost use Rattle.intake.specs.Opening.{stateWith};
-ghost use Rattle.query.specs.Ask.{asked};
-ghost use Rattle.weak_summary.specs.Status.{statusOf, bits, Stores};
-ghost use Rattle.weak_summary.specs.Flat.{endOf, flatPattern, flatQuery, endNumbers, patternNumbers, queryNumbers, flatQueries};
-ghost use Rattle.weak_summary.specs.Words.{wordsOf};
+ghost use Rattle.intake_opening.specs.Opening.{atEntry, atExit};
+ghost use Rattle.call_numbers.specs.Status.{bits, Stores};
 ghost use Rattle.weak_summary.specs.Calls.{OwnRosterByWords, SaturateByWords, CliquesByWords, SummariseByWords, SummariseStrongByWords, AskByWords, OpenByWords, FeedByWords, WriteByWords, lent, formStatus, ReadStatus};
+use ask::ask;
+use call_numbers::WORDS_NUMBERS;
+use call_numbers::asked_status;
+use call_numbers::counted_status;
+use call_numbers::done_status;
+use call_numbers::found_status;
+use call_numbers::put_words;
+use call_numbers::words_of;
 use cliques::cliques;
-use intake::feed_lists;
-use intake::open_counts;
+use flat_queries::QUERIES_NUMBERS;
+use flat_queries::QUERY_NUMBERS;
+use flat_queries::put_queries;
+use flat_queries::query_of;
+use intake_feeding::feed_lists;
+use intake_opening::open_counts;
 use look_up::look_up;
-use model::Counted;
-use model::Done;
-use model::Found;
 use model::Refusal;
 use model::Triple;
-use model::Vocabulary;
 use model::refusal_number;
-use query::Asked;
-use query::End;
-use query::Pattern;
-use query::Query;
-use query::ask;
-use query::blank_pattern;
 use roster::own_roster;
 use saturate::saturate;
 use site_form::Form;
-use site_form::MOST_ASKS;
 use site_reader::read;
 use site_writer::write;
 use summarise::summarise;
 use summarise_strong::summarise_strong;
-
-// The numbers of a word table: the reserved codes of type, subclass, subproperty, domain and range.
-pub const WORDS_NUMBERS: usize = 5;
-
-// The numbers of a flat query: the count, and five for each of eight patterns.
-pub const QUERY_NUMBERS: usize = 41;
-
-// The numbers of the sixteen flat queries of a text.
-pub const QUERIES_NUMBERS: usize = 656;
-
-fn done_status(d: Done) -> u32
-    ensures { λ s. ⌜ s ≡ statusOf (done d) ⌝ }
-{
-    match d {
-        Done::Accepted => 0,
-        Done::Refused(r) => refusal_number(r),
-    }
-}
-
-// Stores the count of an accepted call.
-fn counted_status(c: Counted, count: &mut usize) -> u32
-    ensures { λ s. ⌜ Stores (counted c) (now (count .entry)) s (now (count .exit)) ⌝ }
-{
-    match c {
-        Counted::Count(k) => {
-            *count = k;
-            0
-        },
-        Counted::Refused(r) => refusal_number(r),
-    }
-}
-
-// Stores 1 for yes and 0 for no.
-fn found_status(f: Found, value: &mut u32) -> u32
-    ensures { λ s. ⌜ Stores (bits (found f)) (now (value .entry)) s (now (value .exit)) ⌝ }
-{
-    match f {
-        Found::Yes => {
-            *value = 1;
-            0
-        },
-        Found::No => {
-            *value = 0;
-            0
-        },
-        Found::Refused(r) => refusal_number(r),
-    }
-}
-
-// Stores 1 for maybe and 0 for none.
-fn asked_status(a: Asked, maybe: &mut u32) -> u32
-    ensures { λ s. ⌜ Stores (bits (asked a)) (now (maybe .entry)) s (now (maybe .exit)) ⌝ }
-{
-    match a {
-        Asked::Maybe => {
-            *maybe = 1;
-            0
-        },
-        Asked::None => {
-            *maybe = 0;
-            0
-        },
-        Asked::Refused(r) => refusal_number(r),
-    }
-}
-
-// An end from its two numbers: 0 and a variable, or 1 and a code. Another first number gives a variable over 7, which ask refuses.
-fn end_of(kind: u32, value: u32) -> End
-    ensures { λ e. ⌜ e ≡ endOf kind value ⌝ }
-{
-    if kind == 0 {
-        return End::Var(value);
-    }
-    if kind == 1 {
-        return End::Code(value);
-    }
-    End::Var(8)
-}
-
-// The pattern at place k of a flat query.
-fn flat_pattern(query: &[u32], k: usize) -> Pattern
-    requires { ⌜ (length (now query) ≡ 41) × (k < 8) ⌝ }
-    ensures { λ p. ⌜ p ≡ flatPattern (now (query .entry)) k ⌝ }
-{
-    let i = 5 * k + 1;
-    let subject = end_of(query[i], query[i + 1]);
-    let property = query[i + 2];
-    let object = end_of(query[i + 3], query[i + 4]);
-    Pattern {
-        subject,
-        property,
-        object,
-    }
-}
-
-// The query of a flat query.
-fn query_of(query: &[u32]) -> Query
-    requires { ⌜ length (now query) ≡ 41 ⌝ }
-    ensures { λ q. ⌜ q ≡ flatQuery (now (query .entry)) ⌝ }
-{
-    let mut patterns = [blank_pattern(); 8];
-    let mut k = 0;
-    while k < 8 {
-        patterns[k] = flat_pattern(query, k);
-        k += 1;
-    }
-    let count = query[0];
-    Query { patterns, count }
-}
-
-// The reserved codes of five numbers.
-fn words_of(words: &[u32]) -> Vocabulary
-    requires { ⌜ length (now words) ≡ 5 ⌝ }
-    ensures { λ v. ⌜ v ≡ wordsOf (now (words .entry)) ⌝ }
-{
-    Vocabulary {
-        instance: words[0],
-        subclass: words[1],
-        subproperty: words[2],
-        domain: words[3],
-        range: words[4],
-    }
-}
 
 #[no_mangle]
 pub extern "C" fn ws_own_roster(words: &[u32], table: &[u32], roster: &mut [u8]) -> u32
@@ -293,9 +163,9 @@ pub extern "C" fn ws_open(
     summarised: &mut usize,
 ) -> u32
     ensures { λ s. ⌜ OpenByWords (now (words .entry)) (now (roster .entry))
-        (stateWith (now (triples .entry)) (now (summary .entry)) (now (map .entry)) (now (held .entry)) (now (summarised .entry)))
+        (atEntry triples summary map (now (held .entry)) (now (summarised .entry)))
         s
-        (stateWith (now (triples .exit)) (now (summary .exit)) (now (map .exit)) (now (held .exit)) (now (summarised .exit))) ⌝ }
+        (atExit triples summary map (now (held .exit)) (now (summarised .exit))) ⌝ }
 {
     if words.len() != WORDS_NUMBERS {
         return refusal_number(Refusal::Length);
@@ -324,9 +194,9 @@ pub extern "C" fn ws_feed(
     new: &mut u32,
 ) -> u32
     ensures { λ r. ⌜ FeedByWords (now (words .entry)) (now (roster .entry))
-        (stateWith (now (triples .entry)) (now (summary .entry)) (now (map .entry)) (now (held .entry)) (now (summarised .entry))) (now (work .entry)) (now (new .entry))
+        (atEntry triples summary map (now (held .entry)) (now (summarised .entry))) (now (work .entry)) (now (new .entry))
         (triple s p o) r
-        (stateWith (now (triples .exit)) (now (summary .exit)) (now (map .exit)) (now (held .exit)) (now (summarised .exit))) (now (work .exit)) (now (new .exit)) ⌝ }
+        (atExit triples summary map (now (held .exit)) (now (summarised .exit))) (now (work .exit)) (now (new .exit)) ⌝ }
 {
     if words.len() != WORDS_NUMBERS {
         return refusal_number(Refusal::Length);
@@ -366,74 +236,6 @@ pub extern "C" fn ws_write(
     }
     let loaded = words_of(words);
     counted_status(write(loaded, n, table, out), count)
-}
-
-// Stores an end's two numbers.
-fn put_end(list: &mut [u32], i: usize, e: End)
-    requires { ⌜ i + 1 < length (now list) ⌝ }
-    ensures { λ r. ⌜ now (list .exit) ≡ sets (now (list .entry)) i (endNumbers e) ⌝ }
-{
-    match e {
-        End::Var(v) => {
-            list[i] = 0;
-            list[i + 1] = v;
-        },
-        End::Code(c) => {
-            list[i] = 1;
-            list[i + 1] = c;
-        },
-    }
-}
-
-// Stores a pattern's five numbers.
-fn put_pattern(list: &mut [u32], i: usize, p: Pattern)
-    requires { ⌜ i + 4 < length (now list) ⌝ }
-    ensures { λ r. ⌜ now (list .exit) ≡ sets (now (list .entry)) i (patternNumbers p) ⌝ }
-{
-    let subject = p.subject;
-    let object = p.object;
-    put_end(list, i, subject);
-    list[i + 2] = p.property;
-    put_end(list, i + 3, object);
-}
-
-// Stores a query as the k-th flat query of the list.
-fn put_query(list: &mut [u32], k: usize, q: Query)
-    requires { ⌜ (length (now list) ≡ 656) × (k < 16) ⌝ }
-    ensures { λ r. ⌜ now (list .exit) ≡ sets (now (list .entry)) (41 * k) (queryNumbers q) ⌝ }
-{
-    let i = QUERY_NUMBERS * k;
-    list[i] = q.count;
-    let mut j = 0;
-    while j < 8 {
-        let p = q.patterns[j];
-        put_pattern(list, i + 1 + 5 * j, p);
-        j += 1;
-    }
-}
-
-// Stores sixteen queries as flat queries.
-fn put_queries(list: &mut [u32], queries: [Query; MOST_ASKS])
-    requires { ⌜ length (now list) ≡ 656 ⌝ }
-    ensures { λ r. ⌜ now (list .exit) ≡ flatQueries queries ⌝ }
-{
-    let mut k = 0;
-    while k < MOST_ASKS {
-        put_query(list, k, queries[k]);
-        k += 1;
-    }
-}
-
-// Stores the five numbers of the reserved codes.
-fn put_words(list: &mut [u32], v: Vocabulary)
-    requires { ⌜ length (now list) ≡ 5 ⌝ }
-    ensures { λ r. ⌜ now (list .exit) ≡ codes v ⌝ }
-{
-    list[0] = v.instance;
-    list[1] = v.subclass;
-    list[2] = v.subproperty;
-    list[3] = v.domain;
-    list[4] = v.range;
 }
 
 // The status of a text that was read.

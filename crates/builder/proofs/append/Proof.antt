@@ -3,9 +3,6 @@ use Rattle.builder.proofs.Offers.{offered-append}
 use borrow.Author.Needs.{needs}
 use Rattle.builder.proofs.append.Statement.{statement}
 use Rattle.builder.proofs.append.Tie as tie
-use Rattle.builder.proofs.append.Reads as reads
-use Rattle.builder.proofs.append.Lts as lts
-use Rattle.lists.proofs.put.Reads as put-reads
 
 put-requires : tie.Need-put-requires
 put-requires c κs = search needs
@@ -17,7 +14,10 @@ same-length : tie.Need-same-length
 same-length c = search needs
 
 returns : tie.Need-returns
-returns c = offered-append (c .before .before .before .before .before .args .list .now) _ (c .before .before .before .before .before .args .b) _ (c .before .before .before .before .before .args .t) (c .before .before .before .before .before .pre .1) (c .before .before .before .before .before .pre .2) (c .before .before .before .before .before .pre .0) (c .before .before .put .ensures) refl
+returns c =
+    let start = c .before .before .before .before .before in
+    offered-append (start .args .list .now) _ (start .args .b) _ (start .args .t) (start .pre .1) (start .pre .2) (start .pre .0)
+    (c .before .before .put .ensures) refl
 
 pub append-spec : {M : Type 1} → statement M
 append-spec = tie.close (tie.spec put-requires add-t8 same-length returns)

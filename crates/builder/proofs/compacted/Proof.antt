@@ -3,9 +3,6 @@ use Rattle.builder.proofs.Offers.{compacted-is}
 use borrow.Author.Needs.{needs}
 use Rattle.builder.proofs.compacted.Statement.{statement}
 use Rattle.builder.proofs.compacted.Tie as tie
-use Rattle.builder.proofs.compacted.Reads as reads
-use Rattle.builder.proofs.compacted.Lts as lts
-use Rattle.sorting.proofs.sort_distinct.Reads as sort-distinct-reads
 
 sort-distinct-requires : tie.Need-sort-distinct-requires
 sort-distinct-requires c κs = search needs
@@ -17,7 +14,10 @@ same-length : tie.Need-same-length
 same-length c = search needs
 
 returns : tie.Need-returns
-returns c = compacted-is (c .before .before .before .before .before .before .args .list .now) _ (c .before .before .before .before .before .before .args .b) _ _ (c .before .before .before .before .before .before .pre) (c .before .before .before .sort-distinct .ensures) refl
+returns c =
+    let back3 = c .before .before .before in
+    let start = back3 .before .before .before in
+    compacted-is (start .args .list .now) _ (start .args .b) _ _ (start .pre) (back3 .sort-distinct .ensures) refl
 
 pub compacted-spec : {M : Type 1} → statement M
 compacted-spec = tie.close (tie.spec sort-distinct-requires add-end same-length returns)

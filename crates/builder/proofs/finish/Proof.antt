@@ -2,10 +2,6 @@ use Rattle.builder.proofs.Offers.{finished}
 use borrow.Author.Needs.{needs}
 use Rattle.builder.proofs.finish.Statement.{statement}
 use Rattle.builder.proofs.finish.Tie as tie
-use Rattle.builder.proofs.finish.Reads as reads
-use Rattle.builder.proofs.finish.Lts as lts
-use Rattle.lists.proofs.clear.Reads as clear-reads
-use Rattle.sorting.proofs.sort_distinct.Reads as sort-distinct-reads
 
 sort-distinct-requires : tie.Need-sort-distinct-requires
 sort-distinct-requires c κs = search needs
@@ -20,7 +16,10 @@ same-length : tie.Need-same-length
 same-length c = search needs
 
 returns : tie.Need-returns
-returns c = finished (c .before .before .before .before .before .before .before .before .before .args .list .now) _ _ _ _ (c .before .before .before .before .before .before .before .before .before .pre) (c .before .before .before .before .before .before .sort-distinct .ensures) (c .before .before .clear .ensures)
+returns c =
+    let back6 = c .before .before .before .before .before .before in
+    let start = back6 .before .before .before in
+    finished (start .args .list .now) _ _ _ _ (start .pre) (back6 .sort-distinct .ensures) (c .before .before .clear .ensures)
 
 pub finish-spec : {M : Type 1} → statement M
 finish-spec =

@@ -4,11 +4,6 @@ use Rattle.builder.proofs.Offers.{offered-known}
 use borrow.Author.Needs.{needs}
 use Rattle.builder.proofs.offer.Statement.{statement}
 use Rattle.builder.proofs.offer.Tie as tie
-use Rattle.builder.proofs.offer.Reads as reads
-use Rattle.builder.proofs.offer.Lts as lts
-use Rattle.builder.proofs.append.Reads as append-reads
-use Rattle.builder.proofs.is_known.Reads as is-known-reads
-use Rattle.builder.proofs.offer_full.Reads as offer-full-reads
 
 is-known-requires : tie.Need-is-known-requires
 is-known-requires c κs = search needs
@@ -17,10 +12,16 @@ same-length : tie.Need-same-length
 same-length c = search needs
 
 returns : tie.Need-returns
-returns c = offered-known (c .before .before .before .before .args .list .now) (c .before .before .before .before .args .b) (c .before .before .before .before .args .t) (c .before .before .before .before .pre) (sym (c .before .is-known .ensures) ∙ c .if1 .taken)
+returns c =
+    let start = c .before .before .before .before in
+    offered-known (start .args .list .now) (start .args .b) (start .args .t) (start .pre) (sym (c .before .is-known .ensures) ∙ c .if1 .taken)
 
 append-requires : tie.Need-append-requires
-append-requires c κs = (omega (arith, c .before .if2 .taken), c .before .before .before .before .before .before .before .pre, sym (c .before .before .before .before .is-known .ensures) ∙ c .before .before .before .if1 .left)
+append-requires c κs =
+    let back3 = c .before .before .before in
+    let back4 = back3 .before in
+    let start = back4 .before .before .before in
+    (omega (arith, c .before .if2 .taken), start .pre, sym (back4 .is-known .ensures) ∙ back3 .if1 .left)
 
 same-length-2 : tie.Need-same-length-2
 same-length-2 c = search needs

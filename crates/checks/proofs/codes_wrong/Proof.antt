@@ -5,10 +5,6 @@ use borrow.Author.Needs.{needs}
 use Rattle.checks.proofs.Wrong.{RightBefore, codes-start, codes-step, codes-found, codes-end}
 use Rattle.checks.proofs.codes_wrong.Statement.{statement}
 use Rattle.checks.proofs.codes_wrong.Tie as tie
-use Rattle.checks.proofs.codes_wrong.Reads as reads
-use Rattle.checks.proofs.codes_wrong.Lts as lts
-use Rattle.checks.proofs.triple_wrong.Reads as triple-wrong-reads
-use Rattle.lists.proofs.triple_at.Reads as triple-at-reads
 
 abbrev Inv-loop : tie.InvT-loop
 Inv-loop words table n count i₀ i = RightBefore words table n i
@@ -26,7 +22,9 @@ triple-wrong-requires : tie.Need-triple-wrong-requires Inv-loop μ-loop
 triple-wrong-requires c κs = search needs
 
 returns : tie.Need-returns Inv-loop μ-loop
-returns c = codes-found _ _ _ _ _ (c .before .before .before .loop-test .taken) (c .before .before .triple-at .ensures) (sym (c .before .triple-wrong .ensures) ∙ c .if1 .taken)
+returns c =
+    let back3 = c .before .before .before in
+    codes-found _ _ _ _ _ (back3 .loop-test .taken) (c .before .before .triple-at .ensures) (sym (c .before .triple-wrong .ensures) ∙ c .if1 .taken)
 
 add-i : tie.Need-add-i Inv-loop μ-loop
 add-i c = omega arith
@@ -35,7 +33,11 @@ loop-less : tie.Need-loop-less Inv-loop μ-loop
 loop-less c = omega arith
 
 loop-again : tie.Need-loop-again Inv-loop μ-loop
-loop-again c = codes-step _ _ _ _ _ (c .before .before .before .before .loop .inv) (c .before .before .before .loop-test .taken) (c .before .before .triple-at .ensures) (sym (c .before .triple-wrong .ensures) ∙ c .if1 .left)
+loop-again c =
+    let back3 = c .before .before .before in
+    let back4 = back3 .before in
+    codes-step _ _ _ _ _ (back4 .loop .inv) (back3 .loop-test .taken) (c .before .before .triple-at .ensures)
+    (sym (c .before .triple-wrong .ensures) ∙ c .if1 .left)
 
 returns-2 : tie.Need-returns-2 Inv-loop μ-loop
 returns-2 c = codes-end _ _ _ _ (c .before .loop .inv) (c .loop-test .left)

@@ -3,9 +3,6 @@ use Rattle.checks.proofs.Wrong.{end-over, end-below}
 use borrow.Author.Needs.{needs}
 use Rattle.checks.proofs.end_wrong.Statement.{statement}
 use Rattle.checks.proofs.end_wrong.Tie as tie
-use Rattle.checks.proofs.end_wrong.Reads as reads
-use Rattle.checks.proofs.end_wrong.Lts as lts
-use Rattle.lists.proofs.Code.is_reserved.Reads as is-reserved-reads
 
 returns : tie.Need-returns
 returns c = end-over _ _ _ (c .if1 .taken)

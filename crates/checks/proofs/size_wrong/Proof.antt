@@ -1,8 +1,6 @@
 use Rattle.checks.proofs.Wrong.{size-small, size-other}
 use Rattle.checks.proofs.size_wrong.Statement.{statement}
 use Rattle.checks.proofs.size_wrong.Tie as tie
-use Rattle.checks.proofs.size_wrong.Reads as reads
-use Rattle.checks.proofs.size_wrong.Lts as lts
 
 returns : tie.Need-returns
 returns c = size-small _ (c .if1 .taken)

@@ -3,10 +3,6 @@ use Rattle.checks.proofs.Words.{words-by-over, words-by-equal}
 use borrow.Author.Needs.{needs}
 use Rattle.checks.proofs.words_wrong.Statement.{statement}
 use Rattle.checks.proofs.words_wrong.Tie as tie
-use Rattle.checks.proofs.words_wrong.Reads as reads
-use Rattle.checks.proofs.words_wrong.Lts as lts
-use Rattle.checks.proofs.words_equal.Reads as words-equal-reads
-use Rattle.checks.proofs.words_over.Reads as words-over-reads
 
 words-over-requires : tie.Need-words-over-requires
 words-over-requires c κs = search needs

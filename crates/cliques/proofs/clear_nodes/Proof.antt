@@ -5,8 +5,8 @@ use mathlib.Core.Logic.{⊎-elim}
 use native.Mathlib.Omega.{arith}
 use lib.ListN.{length}
 use borrow.Author.Needs.{needs}
-use Rattle.cliques.specs.Grouping.{NodesCleared}
-use Rattle.cliques.proofs.Entries.{cleared-start, cleared-node, cleared-marked, cleared-end}
+use Rattle.property_groups.specs.Grouping.{NodesCleared}
+use Rattle.property_groups.proofs.Entries.{cleared-start, cleared-node, cleared-marked, cleared-end}
 use Rattle.cliques.proofs.clear_nodes.Statement.{statement}
 use Rattle.cliques.proofs.clear_nodes.Tie as tie
 
@@ -36,7 +36,8 @@ loop-less c = search needs
 
 loop-again : tie.Need-loop-again Inv-loop μ-loop
 loop-again c =
-    let d = c .before .before .before .loop .inv in
+    let back3 = c .before .before .before in
+    let d = back3 .loop .inv in
     ⊎-elim
     (λ w. cleared-node _ _ _ _ d (omega (arith, d .size)) (w .0 .taken) _ (w .1))
     (λ w. cleared-marked _ _ _ _ d (w .0 .left) _ (w .1))

@@ -1,7 +1,7 @@
 -- `cliques::clique_side` meets its contract.
 -- Assumes nothing.
 use borrow.Author.Needs.{needs}
-use Rattle.cliques.proofs.Ends.{grouped-end}
+use Rattle.property_groups.proofs.Ends.{grouped-end}
 use Rattle.cliques.proofs.clique_side.Statement.{statement}
 use Rattle.cliques.proofs.clique_side.Tie as tie
 
@@ -19,9 +19,10 @@ same-length c = search needs
 
 returns : tie.Need-returns
 returns c =
+    let back6 = c .before .before .before .before .before .before in
     let back10 = c .before .before .before .before .before .before .before .before .before .before in
     let start = back10 .before .before .before .before .before in
-    grouped-end _ _ _ _ _ _ _ (start .pre .0) (back10 .group-side .ensures) (c .before .before .before .before .before .before .clear-nodes .ensures) (c .before .before .flatten .ensures)
+    grouped-end _ _ _ _ _ _ _ (start .pre .0) (back10 .group-side .ensures) (back6 .clear-nodes .ensures) (c .before .before .flatten .ensures)
 
 pub clique-side-spec : {M : Type 1} → statement M
 clique-side-spec =

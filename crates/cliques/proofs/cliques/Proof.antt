@@ -19,9 +19,12 @@ enum-told c = search needs
 
 clique-side-requires : tie.Need-clique-side-requires
 clique-side-requires c κs =
-    let s = c .before .before .before .before .before .before .before .before .before .args in
-    let t = c .before .before .before .table-refusal in
-    let l = c .before .before .before .before .lengths-wrong in
+    let back3 = c .before .before .before in
+    let back4 = back3 .before in
+    let start = back4 .before .before .before .before .before in
+    let s = start .args in
+    let t = back3 .table-refusal in
+    let l = back4 .lengths-wrong in
     let q = c .before .enum-told .given .1 in (
       right _ (s .table .now) (s .roster .now) (s .sources .now) (s .targets .now) _ (l .ensures) _ (t .ensures) q,
       sources-length _ (s .table .now) (s .roster .now) (s .sources .now) (s .targets .now) _ (l .ensures) _ (t .ensures) q,
@@ -29,18 +32,26 @@ clique-side-requires c κs =
 
 clique-side-requires-2 : tie.Need-clique-side-requires-2
 clique-side-requires-2 c κs =
-    let s = c .before .before .before .before .before .before .before .before .before .before .before .before .before .args in
-    let t = c .before .before .before .before .before .before .before .table-refusal in
-    let l = c .before .before .before .before .before .before .before .before .lengths-wrong in
-    let q = c .before .before .before .before .before .enum-told .given .1 in (
+    let back5 = c .before .before .before .before .before in
+    let back7 = back5 .before .before in
+    let back8 = back7 .before in
+    let start = back8 .before .before .before .before .before in
+    let s = start .args in
+    let t = back7 .table-refusal in
+    let l = back8 .lengths-wrong in
+    let q = back5 .enum-told .given .1 in (
       right _ (s .table .now) (s .roster .now) (s .sources .now) (s .targets .now) _ (l .ensures) _ (t .ensures) q,
       targets-length _ (s .table .now) (s .roster .now) (s .sources .now) (s .targets .now) _ (l .ensures) _ (t .ensures) q,
     )
 
 returns : tie.Need-returns
 returns c =
-    let s = c .before .before .before .before .before .before .before .before .before .args in
-    by-refused _ (s .table .now) (s .roster .now) (s .sources .now) (s .targets .now) _ (c .before .before .before .before .lengths-wrong .ensures) _ (c .before .before .before .table-refusal .ensures) _ (c .before .r .given .1)
+    let back3 = c .before .before .before in
+    let back4 = back3 .before in
+    let start = back4 .before .before .before .before .before in
+    let s = start .args in
+    by-refused _ (s .table .now) (s .roster .now) (s .sources .now) (s .targets .now) _ (back4 .lengths-wrong .ensures) _
+    (back3 .table-refusal .ensures) _ (c .before .r .given .1)
 
 same-length : tie.Need-same-length
 same-length c = search needs
@@ -50,9 +61,15 @@ same-length-2 c = search needs
 
 returns-2 : tie.Need-returns-2
 returns-2 c =
-    let s = c .before .before .before .before .before .before .before .before .before .before .before .before .before .before .before .before .args in
-    by-sides _ (s .table .now) (s .roster .now) (s .sources .now) (s .targets .now) _ (c .before .before .before .before .before .before .before .before .before .before .before .lengths-wrong .ensures) _ (c .before .before .before .before .before .before .before .before .before .before .table-refusal .ensures) (c .before .before .before .before .before .before .before .before .enum-told .given .1) _ _
-    (c .before .before .before .before .before .before .clique-side .ensures) (c .before .before .clique-side2 .ensures)
+    let back6 = c .before .before .before .before .before .before in
+    let back8 = back6 .before .before in
+    let back10 = back8 .before .before in
+    let back11 = back10 .before in
+    let start = back11 .before .before .before .before .before in
+    let s = start .args in
+    by-sides _ (s .table .now) (s .roster .now) (s .sources .now) (s .targets .now) _ (back11 .lengths-wrong .ensures) _
+    (back10 .table-refusal .ensures) (back8 .enum-told .given .1) _ _
+    (back6 .clique-side .ensures) (c .before .before .clique-side2 .ensures)
 
 pub cliques-spec : {M : Type 1} → statement M
 cliques-spec =

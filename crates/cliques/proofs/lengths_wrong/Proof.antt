@@ -1,6 +1,6 @@
 -- `cliques::lengths_wrong` meets its contract.
 -- Assumes nothing.
-use Rattle.cliques.proofs.Sides.{first-wrong, first-right}
+use Rattle.cliques.proofs.Lengths.{first-wrong, first-right}
 use Rattle.cliques.proofs.lengths_wrong.Statement.{statement}
 use Rattle.cliques.proofs.lengths_wrong.Tie as tie
 

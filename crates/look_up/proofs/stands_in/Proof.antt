@@ -10,10 +10,6 @@ use Rattle.lists.specs.Flat.{at}
 use Rattle.look_up.proofs.Laws.{stands-at, stands-nowhere}
 use Rattle.look_up.proofs.stands_in.Statement.{statement}
 use Rattle.look_up.proofs.stands_in.Tie as tie
-use Rattle.look_up.proofs.stands_in.Reads as reads
-use Rattle.look_up.proofs.stands_in.Lts as lts
-use Rattle.lists.proofs.same.Reads as same-reads
-use Rattle.lists.proofs.triple_at.Reads as triple-at-reads
 
 abbrev Inv-loop : tie.InvT-loop
 Inv-loop list t n i₀ i = (n ≡ length list / 3) × (i ≤ n) × ((k : ℕ) → k < i → same t (at list k) ≡ false)
@@ -31,7 +27,11 @@ same-requires : tie.Need-same-requires Inv-loop μ-loop
 same-requires c κs = search needs
 
 returns : tie.Need-returns Inv-loop μ-loop
-returns c = stands-at (c .before .before .before .before .before .before .args .list .now) (c .before .before .before .before .before .before .args .t) _ (omega (arith, c .before .before .before .before .loop .inv .0)) (ap (same (c .before .before .before .before .before .before .args .t)) (sym (c .before .before .triple-at .ensures)) ∙ sym (c .before .same .ensures) ∙ c .if1 .taken)
+returns c =
+    let back4 = c .before .before .before .before in
+    let start = back4 .before .before in
+    stands-at (start .args .list .now) (start .args .t) _ (omega (arith, back4 .loop .inv .0))
+    (ap (same (start .args .t)) (sym (c .before .before .triple-at .ensures)) ∙ sym (c .before .same .ensures) ∙ c .if1 .taken)
 
 add-i : tie.Need-add-i Inv-loop μ-loop
 add-i c = omega arith
@@ -40,10 +40,19 @@ loop-less : tie.Need-loop-less Inv-loop μ-loop
 loop-less c = omega arith
 
 loop-again : tie.Need-loop-again Inv-loop μ-loop
-loop-again c = (c .before .before .before .before .loop .inv .0, omega arith, below-more _ _ (c .before .before .before .before .loop .inv .2) (ap (same (c .before .before .before .before .before .before .args .t)) (sym (c .before .before .triple-at .ensures)) ∙ sym (c .before .same .ensures) ∙ c .if1 .left))
+loop-again c =
+    let back4 = c .before .before .before .before in
+    let start = back4 .before .before in (
+      back4 .loop .inv .0,
+      omega arith,
+      below-more _ _ (back4 .loop .inv .2)
+          (ap (same (start .args .t)) (sym (c .before .before .triple-at .ensures)) ∙ sym (c .before .same .ensures) ∙ c .if1 .left),
+    )
 
 returns-2 : tie.Need-returns-2 Inv-loop μ-loop
-returns-2 c = stands-nowhere (c .before .before .before .args .list .now) (c .before .before .before .args .t) _ (omega (arith, c .before .loop .inv .0)) (c .before .loop .inv .2)
+returns-2 c =
+    let start = c .before .before .before in
+    stands-nowhere (start .args .list .now) (start .args .t) _ (omega (arith, c .before .loop .inv .0)) (c .before .loop .inv .2)
 
 pub stands-in-spec : {M : Type 1} → statement M
 stands-in-spec =

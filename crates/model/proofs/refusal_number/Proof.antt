@@ -2,8 +2,6 @@ use Rattle.model.specs.Outcomes.{refusalNumber}
 use borrow.Author.Needs.{needs}
 use Rattle.model.proofs.refusal_number.Statement.{statement}
 use Rattle.model.proofs.refusal_number.Tie as tie
-use Rattle.model.proofs.refusal_number.Reads as reads
-use Rattle.model.proofs.refusal_number.Lts as lts
 
 enum-told : tie.Need-enum-told
 enum-told c = search needs

@@ -39,7 +39,8 @@ loop-less c = search needs
 
 loop-again : tie.Need-loop-again Inv-loop μ-loop
 loop-again c =
-    let d = c .before .before .before .loop .inv in
+    let back3 = c .before .before .before in
+    let d = back3 .loop .inv in
     let e = c .before .is-label .ensures in
     ⊎-elim
     (λ w. filled-set _ _ _ _ _ d (omega (arith, d .size)) (sym e ∙ w .0 .taken) _ (w .1))

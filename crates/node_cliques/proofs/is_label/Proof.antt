@@ -10,7 +10,8 @@ shared-slice-read-if1 c = search needs
 
 returns : tie.Need-returns
 returns c =
-    let s = c .before .before .before .args in
+    let start = c .before .before .before in
+    let s = start .args in
     marked-label (s .roster .now) (s .i) (s .words) (is-marked (s .roster .now) (s .i) (c .if1 .taken))
 
 wide-requires : tie.Need-wide-requires
@@ -18,7 +19,8 @@ wide-requires c κs = search needs
 
 returns-2 : tie.Need-returns-2
 returns-2 c =
-    let s = c .before .before .before .before .args in
+    let start = c .before .before .before .before in
+    let s = start .args in
     plain-label (s .roster .now) (s .i) (s .words) (is-plain (s .roster .now) (s .i) (c .before .if1 .left)) _ (c .wide .ensures)
 
 pub is-label-spec : {M : Type 1} → statement M

@@ -8,12 +8,6 @@ use Rattle.node_cliques.proofs.Labelling.{node-inside, label-marked, la
 use borrow.Author.Needs.{needs}
 use Rattle.node_cliques.proofs.label_node.Statement.{statement}
 use Rattle.node_cliques.proofs.label_node.Tie as tie
-use Rattle.node_cliques.proofs.label_node.Reads as reads
-use Rattle.node_cliques.proofs.label_node.Lts as lts
-use Rattle.lists.proofs.Code.is_absent.Reads as is-absent-reads
-use Rattle.lists.proofs.narrow.Reads as narrow-reads
-use Rattle.lists.proofs.wide.Reads as wide-reads
-use Rattle.union_find.proofs.find.Reads as find-reads
 
 shared-slice-read-if1 : tie.Need-shared-slice-read-if1
 shared-slice-read-if1 c = search needs
@@ -56,22 +50,32 @@ same-length c = search needs
 returns-2 : tie.Need-returns-2
 returns-2 c =
     let s = c .before .before .before .before .before .before .before in
-    λ A b L. label-none A _ _ b _ _ L (s .pre .1) (is-plain (s .args .roster .now) (s .args .i) (omega arith)) (eqb-true _ _ (sym (c .before .is-absent .ensures) ∙ c .if2 .taken))
+    λ A b L. label-none A _ _ b _ _ L (s .pre .1) (is-plain (s .args .roster .now) (s .args .i) (omega arith))
+    (eqb-true _ _ (sym (c .before .is-absent .ensures) ∙ c .if2 .taken))
 
 wide-requires : tie.Need-wide-requires
 wide-requires c κs = search needs
 
 find-requires : tie.Need-find-requires
 find-requires c κs =
+    let back3 = c .before .before .before in
     let s = c .before .before .before .before .before .before .before .before .before in
     let K = s .pre .0 in
-    find-ready (K .A) _ _ (K .before) _ _ (K .labelling) (s .pre .1) (is-plain (s .args .roster .now) (s .args .i) (omega arith)) (eqb-false _ _ (sym (c .before .before .before .is-absent .ensures) ∙ c .before .before .if2 .left)) _ (c .wide .ensures)
+    find-ready (K .A) _ _ (K .before) _ _ (K .labelling) (s .pre .1) (is-plain (s .args .roster .now) (s .args .i) (omega arith))
+    (eqb-false _ _ (sym (back3 .is-absent .ensures) ∙ c .before .before .if2 .left)) _ (c .wide .ensures)
 
 narrow-requires : tie.Need-narrow-requires
 narrow-requires c κs =
+    let back3 = c .before .before .before in
+    let back5 = back3 .before .before in
+    let back6 = back5 .before in
     let s = c .before .before .before .before .before .before .before .before .before .before .before .before in
     let K = s .pre .0 in
-    omega (arith, root-small (K .A) _ _ (K .before) _ _ (K .labelling) (s .pre .1) (is-plain (s .args .roster .now) (s .args .i) (omega arith)) (eqb-false _ _ (sym (c .before .before .before .before .before .before .is-absent .ensures) ∙ c .before .before .before .before .before .if2 .left)) _ (c .before .before .before .wide .ensures) _ _ (c .before .before .find .ensures))
+    omega (
+      arith,
+      root-small (K .A) _ _ (K .before) _ _ (K .labelling) (s .pre .1) (is-plain (s .args .roster .now) (s .args .i) (omega arith))
+          (eqb-false _ _ (sym (back6 .is-absent .ensures) ∙ back5 .if2 .left)) _ (back3 .wide .ensures) _ _ (c .before .before .find .ensures),
+    )
 
 mul-list-2 : tie.Need-mul-list-2
 mul-list-2 c = search needs
@@ -84,8 +88,14 @@ same-length-2 c = search needs
 
 returns-3 : tie.Need-returns-3
 returns-3 c =
+    let back3 = c .before .before .before in
+    let back4 = back3 .before in
+    let back6 = back4 .before .before in
+    let back7 = back6 .before in
     let s = c .before .before .before .before .before .before .before .before .before .before .before .before .before in
-    λ A b L. label-root A _ _ b _ _ L (s .pre .1) (is-plain (s .args .roster .now) (s .args .i) (omega arith)) (eqb-false _ _ (sym (c .before .before .before .before .before .before .before .is-absent .ensures) ∙ c .before .before .before .before .before .before .if2 .left)) _ (c .before .before .before .before .wide .ensures) _ _ (c .before .before .before .find .ensures) _ (c .narrow .ensures)
+    λ A b L. label-root A _ _ b _ _ L (s .pre .1) (is-plain (s .args .roster .now) (s .args .i) (omega arith))
+    (eqb-false _ _ (sym (back7 .is-absent .ensures) ∙ back6 .if2 .left)) _ (back4 .wide .ensures) _ _ (back3 .find .ensures) _
+    (c .narrow .ensures)
 
 pub label-node-spec : {M : Type 1} → statement M
 label-node-spec =

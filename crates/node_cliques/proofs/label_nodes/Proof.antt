@@ -8,9 +8,6 @@ use Rattle.node_cliques.specs.Labelling.{FirstProperties, Labelling}
 use Rattle.node_cliques.proofs.Labelling.{labelling-start, labelling-end}
 use Rattle.node_cliques.proofs.label_nodes.Statement.{statement}
 use Rattle.node_cliques.proofs.label_nodes.Tie as tie
-use Rattle.node_cliques.proofs.label_nodes.Reads as reads
-use Rattle.node_cliques.proofs.label_nodes.Lts as lts
-use Rattle.node_cliques.proofs.label_node.Reads as label-node-reads
 
 abbrev Inv-loop : tie.InvT-loop
 Inv-loop none roster list₀ i₀ list i = (i ≤ length roster) × ((A : ℕ → Bool) → FirstProperties A roster list₀ → Labelling A roster none list₀ list i)
@@ -23,8 +20,10 @@ loop-holds c = (omega arith, λ A f. labelling-start A _ _ _ f)
 
 label-node-requires : tie.Need-label-node-requires Inv-loop μ-loop
 label-node-requires c κs =
-    let s = c .before .before .before .before .before in
-    (record { A = s .pre .A; before = s .args .list .now; labelling = c .before .before .loop .inv .1 (s .pre .A) (s .pre .start) }, c .before .loop-test .taken)
+    let s = c .before .before .before .before .before in (
+      record { A = s .pre .A; before = s .args .list .now; labelling = c .before .before .loop .inv .1 (s .pre .A) (s .pre .start) },
+      c .before .loop-test .taken,
+    )
 
 add-i : tie.Need-add-i Inv-loop μ-loop
 add-i c = omega arith
@@ -33,7 +32,9 @@ loop-less : tie.Need-loop-less Inv-loop μ-loop
 loop-less c = omega arith
 
 loop-again : tie.Need-loop-again Inv-loop μ-loop
-loop-again c = (omega arith, λ A f. c .before .before .label-node .ensures A _ (c .before .before .before .before .before .loop .inv .1 A f))
+loop-again c =
+    let back5 = c .before .before .before .before .before in
+    (omega arith, λ A f. c .before .before .label-node .ensures A _ (back5 .loop .inv .1 A f))
 
 same-length : tie.Need-same-length Inv-loop μ-loop
 same-length c =

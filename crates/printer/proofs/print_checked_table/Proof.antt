@@ -1,11 +1,8 @@
 use mathlib.Core.Path.{refl}
-use Rattle.printer.proofs.Parts.{part-length, checked-as, sat-as-put}
+use Rattle.table_printing.proofs.Parts.{part-length, checked-as, sat-as-put}
 use borrow.Author.Needs.{needs}
 use Rattle.printer.proofs.print_checked_table.Statement.{statement}
 use Rattle.printer.proofs.print_checked_table.Tie as tie
-use Rattle.printer.proofs.print_checked_table.Reads as reads
-use Rattle.printer.proofs.print_checked_table.Lts as lts
-use Rattle.printer.proofs.saturate_and_print.Reads as saturate-and-print-reads
 
 sub-saturate-and-print : tie.Need-sub-saturate-and-print
 sub-saturate-and-print c = search needs
@@ -20,13 +17,18 @@ slice-aggregate-saturate-and-print : tie.Need-slice-aggregate-saturate-and-print
 slice-aggregate-saturate-and-print c = search needs
 
 saturate-and-print-requires : tie.Need-saturate-and-print-requires
-saturate-and-print-requires c κs = (c .before .before .before .before .before .pre .0, checked-as _ _ _ _ (part-length _ _ (c .before .before .before .before .before .pre .1 .printed)) (c .before .before .before .before .before .pre .1), refl)
+saturate-and-print-requires c κs =
+    let start = c .before .before .before .before .before in
+    (start .pre .0, checked-as _ _ _ _ (part-length _ _ (start .pre .1 .printed)) (start .pre .1), refl)
 
 same-length : tie.Need-same-length
 same-length c = search needs
 
 returns : tie.Need-returns
-returns c = sat-as-put _ _ _ (part-length _ _ (c .before .before .before .before .before .before .before .before .before .before .pre .1 .printed)) _ _ _ _ _ _ (c .before .before .before .before .saturate-and-print .ensures)
+returns c =
+    let back4 = c .before .before .before .before in
+    let start = back4 .before .before .before .before .before .before in
+    sat-as-put _ _ _ (part-length _ _ (start .pre .1 .printed)) _ _ _ _ _ _ (back4 .saturate-and-print .ensures)
 
 pub print-checked-table-spec : {M : Type 1} → statement M
 print-checked-table-spec =

@@ -4,11 +4,6 @@ use Rattle.printer.proofs.Texts.{too-long, text-refused, count-few, cou
 use borrow.Author.Needs.{needs}
 use Rattle.printer.proofs.print_site.Statement.{statement}
 use Rattle.printer.proofs.print_site.Tie as tie
-use Rattle.printer.proofs.print_site.Reads as reads
-use Rattle.printer.proofs.print_site.Lts as lts
-use Rattle.printer.proofs.check_and_print.Reads as check-and-print-reads
-use Rattle.printer.proofs.refuse.Reads as refuse-reads
-use Rattle.site_reader.proofs.read.Reads as read-reads
 
 refuse-requires : tie.Need-refuse-requires
 refuse-requires c κs = search needs
@@ -38,10 +33,18 @@ same-length-2 : tie.Need-same-length-2
 same-length-2 c = search needs
 
 returns-2 : tie.Need-returns-2
-returns-2 c = text-refused _ _ refl (c .before .before .before .before .before .before .before .before .before .before .if1 .left) _ _ (c .before .before .before .before .before .before .before .before .read .ensures) _ (c .before .before .before .before .enum-told2 .given .1) _ _ _ (c .before .before .refuse2 .ensures)
+returns-2 c =
+    let back4 = c .before .before .before .before in
+    let back8 = back4 .before .before .before .before in
+    let back10 = back8 .before .before in
+    text-refused _ _ refl (back10 .if1 .left) _ _ (back8 .read .ensures) _ (back4 .enum-told2 .given .1) _ _ _ (c .before .before .refuse2 .ensures)
 
 mul-check-and-print : tie.Need-mul-check-and-print
-mul-check-and-print c = let h = count-few _ _ refl (c .before .before .before .before .before .before .before .before .before .before .if1 .left) _ _ (c .before .before .before .before .before .before .before .before .read .ensures) (c .before .before .before .before .enum-told .given .1) in omega arith
+mul-check-and-print c =
+    let back4 = c .before .before .before .before in
+    let back8 = back4 .before .before .before .before in
+    let back10 = back8 .before .before in
+    let h = count-few _ _ refl (back10 .if1 .left) _ _ (back8 .read .ensures) (back4 .enum-told .given .1) in omega arith
 
 sub-check-and-print : tie.Need-sub-check-and-print
 sub-check-and-print c = search needs
@@ -50,16 +53,33 @@ part-check-and-print-start : tie.Need-part-check-and-print-start
 part-check-and-print-start c = search needs
 
 part-check-and-print-end : tie.Need-part-check-and-print-end
-part-check-and-print-end c = count-end _ _ refl (c .before .before .before .before .before .before .before .before .before .before .before .if1 .left) _ _ (c .before .before .before .before .before .before .before .before .before .read .ensures) (c .before .before .before .before .before .enum-told .given .1)
+part-check-and-print-end c =
+    let back5 = c .before .before .before .before .before in
+    let back9 = back5 .before .before .before .before in
+    let back11 = back9 .before .before in
+    count-end _ _ refl (back11 .if1 .left) _ _ (back9 .read .ensures) (back5 .enum-told .given .1)
 
 check-and-print-requires : tie.Need-check-and-print-requires
-check-and-print-requires c κs = (asks-few _ _ refl (c .before .before .before .before .before .before .before .before .before .before .before .before .if1 .left) _ _ (c .before .before .before .before .before .before .before .before .before .before .read .ensures) (c .before .before .before .before .before .before .enum-told .given .1), part-flat _ _ refl (c .before .before .before .before .before .before .before .before .before .before .before .before .if1 .left) _ _ (c .before .before .before .before .before .before .before .before .before .before .read .ensures) (c .before .before .before .before .before .before .enum-told .given .1), part-few _ _ refl (c .before .before .before .before .before .before .before .before .before .before .before .before .if1 .left) _ _ (c .before .before .before .before .before .before .before .before .before .before .read .ensures) (c .before .before .before .before .before .before .enum-told .given .1))
+check-and-print-requires c κs =
+    let back6 = c .before .before .before .before .before .before in
+    let back10 = back6 .before .before .before .before in
+    let back12 = back10 .before .before in (
+      asks-few _ _ refl (back12 .if1 .left) _ _ (back10 .read .ensures) (back6 .enum-told .given .1),
+      part-flat _ _ refl (back12 .if1 .left) _ _
+          (back10 .read .ensures) (back6 .enum-told .given .1),
+      part-few _ _ refl (back12 .if1 .left) _ _ (back10 .read .ensures)
+          (back6 .enum-told .given .1),
+    )
 
 same-length-3 : tie.Need-same-length-3
 same-length-3 c = search needs
 
 returns-3 : tie.Need-returns-3
-returns-3 c = text-put _ _ refl (c .before .before .before .before .before .before .before .before .before .before .before .before .before .before .before .if1 .left) _ _ (c .before .before .before .before .before .before .before .before .before .before .before .before .before .read .ensures) (c .before .before .before .before .before .before .before .before .before .enum-told .given .1) _ _ _ (c .before .before .check-and-print .ensures)
+returns-3 c =
+    let back9 = c .before .before .before .before .before .before .before .before .before in
+    let back13 = back9 .before .before .before .before in
+    let back15 = back13 .before .before in
+    text-put _ _ refl (back15 .if1 .left) _ _ (back13 .read .ensures) (back9 .enum-told .given .1) _ _ _ (c .before .before .check-and-print .ensures)
 
 pub print-site-spec : {M : Type 1} → statement M
 print-site-spec =

@@ -6,8 +6,6 @@ use Rattle.lists.specs.Flat.{Cleared}
 use Rattle.lists.proofs.Search.{cleared-start, cleared-step, cleared-all}
 use Rattle.roster.proofs.clear_marks.Statement.{statement}
 use Rattle.roster.proofs.clear_marks.Tie as tie
-use Rattle.roster.proofs.clear_marks.Reads as reads
-use Rattle.roster.proofs.clear_marks.Lts as lts
 
 abbrev Inv-loop : tie.InvT-loop
 Inv-loop roster₀ n i₀ roster i = (n ≡ length roster₀) × (i ≤ n) × Cleared roster₀ roster 0 i

@@ -2,10 +2,6 @@ use Rattle.roster.proofs.Marking.{class-stored}
 use borrow.Author.Needs.{needs}
 use Rattle.roster.proofs.mark_class.Statement.{statement}
 use Rattle.roster.proofs.mark_class.Tie as tie
-use Rattle.roster.proofs.mark_class.Reads as reads
-use Rattle.roster.proofs.mark_class.Lts as lts
-use Rattle.lists.proofs.wide.Reads as wide-reads
-use Rattle.roster.proofs.with_class.Reads as with-class-reads
 
 wide-requires : tie.Need-wide-requires
 wide-requires c κs = search needs
@@ -23,7 +19,9 @@ same-length : tie.Need-same-length
 same-length c = search needs
 
 returns : tie.Need-returns
-returns c = class-stored (c .before .before .before .before .args .roster .now) _ _ _ (c .before .before .wide .ensures) (c .with-class .ensures)
+returns c =
+    let start = c .before .before .before .before in
+    class-stored (start .args .roster .now) _ _ _ (c .before .before .wide .ensures) (c .with-class .ensures)
 
 pub mark-class-spec : {M : Type 1} → statement M
 mark-class-spec =

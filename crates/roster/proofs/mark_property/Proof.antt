@@ -2,10 +2,6 @@ use Rattle.roster.proofs.Marking.{property-stored}
 use borrow.Author.Needs.{needs}
 use Rattle.roster.proofs.mark_property.Statement.{statement}
 use Rattle.roster.proofs.mark_property.Tie as tie
-use Rattle.roster.proofs.mark_property.Reads as reads
-use Rattle.roster.proofs.mark_property.Lts as lts
-use Rattle.lists.proofs.wide.Reads as wide-reads
-use Rattle.roster.proofs.with_property.Reads as with-property-reads
 
 wide-requires : tie.Need-wide-requires
 wide-requires c κs = search needs
@@ -23,7 +19,9 @@ same-length : tie.Need-same-length
 same-length c = search needs
 
 returns : tie.Need-returns
-returns c = property-stored (c .before .before .before .before .args .roster .now) _ _ _ (c .before .before .wide .ensures) (c .with-property .ensures)
+returns c =
+    let start = c .before .before .before .before in
+    property-stored (start .args .roster .now) _ _ _ (c .before .before .wide .ensures) (c .with-property .ensures)
 
 pub mark-property-spec : {M : Type 1} → statement M
 mark-property-spec =

@@ -2,11 +2,6 @@ use Rattle.roster.proofs.Marking.{roles-data, roles-subproperty, roles-
 use borrow.Author.Needs.{needs}
 use Rattle.roster.proofs.mark_roles.Statement.{statement}
 use Rattle.roster.proofs.mark_roles.Tie as tie
-use Rattle.roster.proofs.mark_roles.Reads as reads
-use Rattle.roster.proofs.mark_roles.Lts as lts
-use Rattle.lists.proofs.Code.kind.Reads as kind-reads
-use Rattle.roster.proofs.mark_class.Reads as mark-class-reads
-use Rattle.roster.proofs.mark_property.Reads as mark-property-reads
 
 kind-requires : tie.Need-kind-requires
 kind-requires c κs = search needs
@@ -18,7 +13,12 @@ same-length : tie.Need-same-length
 same-length c = search needs
 
 returns : tie.Need-returns
-returns c = roles-data _ (c .before .before .before .before .before .before .before .args .roster .now) (c .before .before .before .before .before .before .before .args .t) _ (c .before .before .before .before .before .kind .ensures) (c .before .before .before .before .if1 .taken) _ (c .before .before .mark-property .ensures)
+returns c =
+    let back4 = c .before .before .before .before in
+    let back5 = back4 .before in
+    let start = back5 .before .before in
+    roles-data _ (start .args .roster .now) (start .args .t) _ (back5 .kind .ensures) (back4 .if1 .taken) _
+    (c .before .before .mark-property .ensures)
 
 mark-property-requires-2 : tie.Need-mark-property-requires-2
 mark-property-requires-2 c κs = search needs
@@ -30,7 +30,13 @@ same-length-2 : tie.Need-same-length-2
 same-length-2 c = search needs
 
 returns-2 : tie.Need-returns-2
-returns-2 c = roles-subproperty _ (c .before .before .before .before .before .before .before .before .before .before .before .before .args .roster .now) (c .before .before .before .before .before .before .before .before .before .before .before .before .args .t) _ (c .before .before .before .before .before .before .before .before .before .before .kind .ensures) (c .before .before .before .before .before .before .before .before .if2 .taken) _ _ (c .before .before .before .before .before .before .mark-property2 .ensures) (c .before .before .mark-property3 .ensures)
+returns-2 c =
+    let back6 = c .before .before .before .before .before .before in
+    let back8 = back6 .before .before in
+    let back10 = back8 .before .before in
+    let start = back10 .before .before in
+    roles-subproperty _ (start .args .roster .now) (start .args .t) _ (back10 .kind .ensures) (back8 .if2 .taken) _ _
+    (back6 .mark-property2 .ensures) (c .before .before .mark-property3 .ensures)
 
 mark-class-requires : tie.Need-mark-class-requires
 mark-class-requires c κs = search needs
@@ -39,7 +45,11 @@ same-length-3 : tie.Need-same-length-3
 same-length-3 c = search needs
 
 returns-3 : tie.Need-returns-3
-returns-3 c = roles-type _ (c .before .before .before .before .before .before .before .before .before .args .roster .now) (c .before .before .before .before .before .before .before .before .before .args .t) _ (c .before .before .before .before .before .before .before .kind .ensures) (c .if3 .taken) _ (c .before .before .before .mark-class .ensures)
+returns-3 c =
+    let back3 = c .before .before .before in
+    let back7 = back3 .before .before .before .before in
+    let start = back7 .before .before in
+    roles-type _ (start .args .roster .now) (start .args .t) _ (back7 .kind .ensures) (c .if3 .taken) _ (back3 .mark-class .ensures)
 
 mark-class-requires-2 : tie.Need-mark-class-requires-2
 mark-class-requires-2 c κs = search needs
@@ -48,7 +58,13 @@ same-length-4 : tie.Need-same-length-4
 same-length-4 c = search needs
 
 returns-4 : tie.Need-returns-4
-returns-4 c = roles-subclass _ (c .before .before .before .before .before .before .before .before .before .before .before .before .before .before .args .roster .now) (c .before .before .before .before .before .before .before .before .before .before .before .before .before .before .args .t) _ (c .before .before .before .before .before .before .before .before .before .before .before .before .kind .ensures) (c .before .before .before .before .if4 .taken) _ _ (c .before .before .before .before .before .before .before .before .mark-class .ensures) (c .before .before .mark-class2 .ensures)
+returns-4 c =
+    let back4 = c .before .before .before .before in
+    let back8 = back4 .before .before .before .before in
+    let back12 = back8 .before .before .before .before in
+    let start = back12 .before .before in
+    roles-subclass _ (start .args .roster .now) (start .args .t) _ (back12 .kind .ensures) (back4 .if4 .taken) _ _ (back8 .mark-class .ensures)
+    (c .before .before .mark-class2 .ensures)
 
 mark-property-requires-4 : tie.Need-mark-property-requires-4
 mark-property-requires-4 c κs = search needs
@@ -57,7 +73,16 @@ same-length-5 : tie.Need-same-length-5
 same-length-5 c = search needs
 
 returns-5 : tie.Need-returns-5
-returns-5 c = roles-rest _ (c .before .before .before .before .before .before .before .before .before .before .before .before .before .before .args .roster .now) (c .before .before .before .before .before .before .before .before .before .before .before .before .before .before .args .t) _ (c .before .before .before .before .before .before .before .before .before .before .before .before .kind .ensures) (c .before .before .before .before .before .before .before .before .before .before .before .if1 .left) (c .before .before .before .before .before .before .before .before .before .before .if2 .left) (c .before .before .before .before .before .if3 .left) (c .before .before .before .before .if4 .left) _ _ (c .before .before .before .before .before .before .before .before .mark-class .ensures) (c .before .before .mark-property4 .ensures)
+returns-5 c =
+    let back4 = c .before .before .before .before in
+    let back5 = back4 .before in
+    let back8 = back5 .before .before .before in
+    let back10 = back8 .before .before in
+    let back11 = back10 .before in
+    let back12 = back11 .before in
+    let start = back12 .before .before in
+    roles-rest _ (start .args .roster .now) (start .args .t) _ (back12 .kind .ensures) (back11 .if1 .left) (back10 .if2 .left) (back5 .if3 .left)
+    (back4 .if4 .left) _ _ (back8 .mark-class .ensures) (c .before .before .mark-property4 .ensures)
 
 pub mark-roles-spec : {M : Type 1} → statement M
 mark-roles-spec =

@@ -3,13 +3,9 @@ use mathlib.Core.Path.{_≡_, refl, sym, _∙_, ap}
 use native.Mathlib.Omega.{arith}
 use lib.ListN.{length}
 use Rattle.roster.proofs.Marking.{Left, left-start, left-step, left-end, roles-length}
-use Rattle.roster.proofs.Tables.{below-at, below-size}
+use Rattle.roster_checks.proofs.Tables.{below-at, below-size}
 use Rattle.roster.proofs.mark_table.Statement.{statement}
 use Rattle.roster.proofs.mark_table.Tie as tie
-use Rattle.roster.proofs.mark_table.Reads as reads
-use Rattle.roster.proofs.mark_table.Lts as lts
-use Rattle.lists.proofs.triple_at.Reads as triple-at-reads
-use Rattle.roster.proofs.mark_roles.Reads as mark-roles-reads
 
 abbrev Inv-loop : tie.InvT-loop
 Inv-loop words table roster₀ n i₀ roster i = (n ≡ length table / 3) × (i ≤ n) × (length roster ≡ length roster₀) × Left words table roster₀ n i roster
@@ -24,7 +20,11 @@ triple-at-requires : tie.Need-triple-at-requires Inv-loop μ-loop
 triple-at-requires c κs = omega (arith, c .before .loop .inv .0)
 
 mark-roles-requires : tie.Need-mark-roles-requires Inv-loop μ-loop
-mark-roles-requires c κs = below-size _ _ _ (sym (c .before .before .before .loop .inv .2)) (below-at _ (c .before .before .before .before .before .before .args .table .now) _ _ (c .before .before .before .before .before .before .pre) (omega (arith, c .before .before .before .loop .inv .0)) (c .before .triple-at .ensures))
+mark-roles-requires c κs =
+    let back3 = c .before .before .before in
+    let start = back3 .before .before .before in
+    below-size _ _ _ (sym (back3 .loop .inv .2))
+    (below-at _ (start .args .table .now) _ _ (start .pre) (omega (arith, back3 .loop .inv .0)) (c .before .triple-at .ensures))
 
 add-i : tie.Need-add-i Inv-loop μ-loop
 add-i c = omega arith
@@ -33,7 +33,16 @@ loop-less : tie.Need-loop-less Inv-loop μ-loop
 loop-less c = omega arith
 
 loop-again : tie.Need-loop-again Inv-loop μ-loop
-loop-again c = (c .before .before .before .before .before .before .loop .inv .0, omega arith, ap length (c .before .before .mark-roles .ensures) ∙ roles-length _ _ _ ∙ c .before .before .before .before .before .before .loop .inv .2, left-step _ _ _ _ _ _ _ _ (c .before .before .before .before .before .loop-test .taken) (c .before .before .before .before .triple-at .ensures) (c .before .before .mark-roles .ensures) (c .before .before .before .before .before .before .loop .inv .3))
+loop-again c =
+    let back4 = c .before .before .before .before in
+    let back5 = back4 .before in
+    let back6 = back5 .before in (
+      back6 .loop .inv .0,
+      omega arith,
+      ap length (c .before .before .mark-roles .ensures) ∙ roles-length _ _ _ ∙ back6 .loop .inv .2,
+      left-step _ _ _
+          _ _ _ _ _ (back5 .loop-test .taken) (back4 .triple-at .ensures) (c .before .before .mark-roles .ensures) (back6 .loop .inv .3),
+    )
 
 same-length : tie.Need-same-length Inv-loop μ-loop
 same-length c = c .before .loop .inv .2

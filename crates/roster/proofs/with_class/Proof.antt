@@ -1,8 +1,6 @@
 use Rattle.roster.proofs.Marking.{with-class}
 use Rattle.roster.proofs.with_class.Statement.{statement}
 use Rattle.roster.proofs.with_class.Tie as tie
-use Rattle.roster.proofs.with_class.Reads as reads
-use Rattle.roster.proofs.with_class.Lts as lts
 
 returns : tie.Need-returns
 returns c = (with-class (c .before .args .mark)) .0 .0 (c .if1 .taken)

@@ -1,8 +1,6 @@
 use Rattle.roster.proofs.Marking.{with-property}
 use Rattle.roster.proofs.with_property.Statement.{statement}
 use Rattle.roster.proofs.with_property.Tie as tie
-use Rattle.roster.proofs.with_property.Reads as reads
-use Rattle.roster.proofs.with_property.Lts as lts
 
 returns : tie.Need-returns
 returns c = (with-property (c .before .args .mark)) .0 .0 (c .if1 .taken)

@@ -1,12 +1,7 @@
-use Rattle.saturate.proofs.Passes.{derived-schema-full, derived-others-full, derived-all}
+use Rattle.strata.proofs.Passes.{derived-schema-full, derived-others-full, derived-all}
 use borrow.Author.Needs.{needs}
 use Rattle.saturate.proofs.derive.Statement.{statement}
 use Rattle.saturate.proofs.derive.Tie as tie
-use Rattle.saturate.proofs.derive.Reads as reads
-use Rattle.saturate.proofs.derive.Lts as lts
-use Rattle.saturate.proofs.add_others.Reads as add-others-reads
-use Rattle.saturate.proofs.derive_schema.Reads as derive-schema-reads
-use Rattle.saturate.proofs.draw_strata.Reads as draw-strata-reads
 
 derive-schema-requires : tie.Need-derive-schema-requires
 derive-schema-requires c κs = search needs
@@ -15,7 +10,10 @@ same-length : tie.Need-same-length
 same-length c = search needs
 
 returns : tie.Need-returns
-returns c = derived-schema-full _ _ (c .before .before .before .before .before .before .before .pre) _ _ _ (c .before .before .before .derive-schema .ensures) (c .if1 .taken)
+returns c =
+    let back3 = c .before .before .before in
+    let start = back3 .before .before .before .before in
+    derived-schema-full _ _ (start .pre) _ _ _ (back3 .derive-schema .ensures) (c .if1 .taken)
 
 add-others-requires : tie.Need-add-others-requires
 add-others-requires c κs = c .before .before .before .before .derive-schema .ensures .room (c .before .if1 .left)
@@ -24,7 +22,12 @@ same-length-2 : tie.Need-same-length-2
 same-length-2 c = search needs
 
 returns-2 : tie.Need-returns-2
-returns-2 c = derived-others-full _ _ (c .before .before .before .before .before .before .before .before .before .before .before .before .pre) _ _ _ (c .before .before .before .before .before .before .before .before .derive-schema .ensures) (c .before .before .before .before .before .if1 .left) _ _ (c .before .before .before .add-others .ensures) (c .if2 .taken)
+returns-2 c =
+    let back3 = c .before .before .before in
+    let back5 = back3 .before .before in
+    let back8 = back5 .before .before .before in
+    let start = back8 .before .before .before .before in
+    derived-others-full _ _ (start .pre) _ _ _ (back8 .derive-schema .ensures) (back5 .if1 .left) _ _ (back3 .add-others .ensures) (c .if2 .taken)
 
 draw-strata-requires : tie.Need-draw-strata-requires
 draw-strata-requires c κs = c .before .before .before .before .add-others .ensures .room (c .before .if2 .left)
@@ -33,7 +36,14 @@ same-length-3 : tie.Need-same-length-3
 same-length-3 c = search needs
 
 returns-3 : tie.Need-returns-3
-returns-3 c = derived-all _ _ (c .before .before .before .before .before .before .before .before .before .before .before .before .before .before .before .before .pre) _ _ _ (c .before .before .before .before .before .before .before .before .before .before .before .before .derive-schema .ensures) (c .before .before .before .before .before .before .before .before .before .if1 .left) _ _ (c .before .before .before .before .before .before .before .add-others .ensures) _ _ (c .before .before .draw-strata .ensures) (c .before .before .before .before .if2 .left)
+returns-3 c =
+    let back4 = c .before .before .before .before in
+    let back7 = back4 .before .before .before in
+    let back9 = back7 .before .before in
+    let back12 = back9 .before .before .before in
+    let start = back12 .before .before .before .before in
+    derived-all _ _ (start .pre) _ _ _ (back12 .derive-schema .ensures) (back9 .if1 .left) _ _ (back7 .add-others .ensures) _ _
+    (c .before .before .draw-strata .ensures) (back4 .if2 .left)
 
 pub derive-spec : {M : Type 1} → statement M
 derive-spec =

@@ -2,12 +2,6 @@ use Rattle.saturate.proofs.Answers.{free-ends, answer-refused, answer-s
 use borrow.Author.Needs.{needs}
 use Rattle.saturate.proofs.saturate.Statement.{statement}
 use Rattle.saturate.proofs.saturate.Tie as tie
-use Rattle.saturate.proofs.saturate.Reads as reads
-use Rattle.saturate.proofs.saturate.Lts as lts
-use Rattle.builder.proofs.finish.Reads as finish-reads
-use Rattle.lists.proofs.clear.Reads as clear-reads
-use Rattle.saturate.proofs.derive.Reads as derive-reads
-use Rattle.table_checks.proofs.table_refusal.Reads as table-refusal-reads
 
 table-refusal-requires : tie.Need-table-refusal-requires
 table-refusal-requires c κs = search needs
@@ -28,7 +22,13 @@ same-length : tie.Need-same-length
 same-length c = search needs
 
 returns : tie.Need-returns
-returns c = answer-slots _ _ _ _ _ (c .before .before .before .before .before .before .before .before .before .before .before .table-refusal .ensures) (c .before .before .before .before .before .before .before .before .before .enum-told .given .1) _ _ (c .before .before .before .before .before .before .before .derive .ensures) (c .before .before .before .before .if1 .taken) _ (c .before .before .clear .ensures)
+returns c =
+    let back4 = c .before .before .before .before in
+    let back7 = back4 .before .before .before in
+    let back9 = back7 .before .before in
+    let back11 = back9 .before .before in
+    answer-slots _ _ _ _ _ (back11 .table-refusal .ensures) (back9 .enum-told .given .1) _ _ (back7 .derive .ensures) (back4 .if1 .taken) _
+    (c .before .before .clear .ensures)
 
 finish-requires : tie.Need-finish-requires
 finish-requires c κs = c .before .before .before .before .derive .ensures .room (c .before .if1 .left)
@@ -40,7 +40,13 @@ same-length-2 : tie.Need-same-length-2
 same-length-2 c = search needs
 
 returns-3 : tie.Need-returns-3
-returns-3 c = answer-count _ _ _ _ _ (c .before .before .before .before .before .before .before .before .before .before .before .table-refusal .ensures) (c .before .before .before .before .before .before .before .before .before .enum-told .given .1) _ _ (c .before .before .before .before .before .before .before .derive .ensures) (c .before .before .before .before .if1 .left) _ _ (c .before .before .finish .ensures)
+returns-3 c =
+    let back4 = c .before .before .before .before in
+    let back7 = back4 .before .before .before in
+    let back9 = back7 .before .before in
+    let back11 = back9 .before .before in
+    answer-count _ _ _ _ _ (back11 .table-refusal .ensures) (back9 .enum-told .given .1) _ _ (back7 .derive .ensures) (back4 .if1 .left) _ _
+    (c .before .before .finish .ensures)
 
 pub saturate-spec : {M : Type 1} → statement M
 saturate-spec =

@@ -1,14 +1,10 @@
 use mathlib.Core.Path.{sym, _∙_, ap}
 use Rattle.site_form.proofs.Readers.{fails}
-use Rattle.site_parts.specs.Steps.{wordStep}
-use Rattle.site_parts.proofs.Steps.{then-got}
+use Rattle.site_tokens.specs.Steps.{wordStep}
+use Rattle.site_tokens.proofs.Steps.{then-got}
 use borrow.Author.Needs.{needs}
 use Rattle.site_parts.proofs.end_after.Statement.{statement}
 use Rattle.site_parts.proofs.end_after.Tie as tie
-use Rattle.site_parts.proofs.end_after.Reads as reads
-use Rattle.site_parts.proofs.end_after.Lts as lts
-use Rattle.site_parts.proofs.pattern_end.Reads as pattern-end-reads
-use Rattle.site_parts.proofs.word.Reads as word-reads
 
 word-requires : tie.Need-word-requires
 word-requires c κs = search needs
@@ -26,7 +22,9 @@ pattern-end-requires : tie.Need-pattern-end-requires
 pattern-end-requires c κs = search needs
 
 returns-2 : tie.Need-returns-2
-returns-2 c = c .pattern-end .ensures ∙ sym (then-got _ _ _ _ _ _ (sym (c .before .before .before .before .word .ensures) ∙ ap wordStep (c .before .before .next .given .1)))
+returns-2 c =
+    let back4 = c .before .before .before .before in
+    c .pattern-end .ensures ∙ sym (then-got _ _ _ _ _ _ (sym (back4 .word .ensures) ∙ ap wordStep (c .before .before .next .given .1)))
 
 pub end-after-spec : {M : Type 1} → statement M
 end-after-spec =

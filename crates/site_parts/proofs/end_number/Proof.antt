@@ -1,13 +1,9 @@
 use mathlib.Core.Path.{sym, _∙_, ap}
-use Rattle.site_parts.specs.Steps.{numberStep, wordStep}
+use Rattle.site_tokens.specs.Steps.{numberStep, wordStep}
 use Rattle.site_parts.proofs.Forms.{end-bad, end-open, end-got}
 use borrow.Author.Needs.{needs}
 use Rattle.site_parts.proofs.end_number.Statement.{statement}
 use Rattle.site_parts.proofs.end_number.Tie as tie
-use Rattle.site_parts.proofs.end_number.Reads as reads
-use Rattle.site_parts.proofs.end_number.Lts as lts
-use Rattle.site_parts.proofs.number_after.Reads as number-after-reads
-use Rattle.site_parts.proofs.word.Reads as word-reads
 
 number-after-requires : tie.Need-number-after-requires
 number-after-requires c κs = search needs
@@ -34,10 +30,19 @@ enum-told-2 : tie.Need-enum-told-2
 enum-told-2 c = search needs
 
 returns-2 : tie.Need-returns-2
-returns-2 c = λ make. sym (end-open _ _ _ make _ _ (sym (c .before .before .before .before .before .before .before .number-after .ensures) ∙ ap numberStep (c .before .before .before .before .before .value .given .1)) (sym (c .before .before .word .ensures) ∙ ap wordStep (c .enum-told2 .given .1)))
+returns-2 c =
+    let back5 = c .before .before .before .before .before in
+    let back7 = back5 .before .before in
+    λ make. sym (end-open _ _ _ make _ _ (sym (back7 .number-after .ensures) ∙ ap numberStep (back5 .value .given .1))
+    (sym (c .before .before .word .ensures) ∙ ap wordStep (c .enum-told2 .given .1)))
 
 returns-3 : tie.Need-returns-3
-returns-3 c = λ make. sym (end-got _ _ _ make _ _ (sym (c .before .before .before .before .before .before .before .before .number-after .ensures) ∙ ap numberStep (c .before .before .before .before .before .before .value .given .1)) _ _ (sym (c .before .before .before .word .ensures) ∙ ap wordStep (c .before .next .given .1)))
+returns-3 c =
+    let back3 = c .before .before .before in
+    let back6 = back3 .before .before .before in
+    let back8 = back6 .before .before in
+    λ make. sym (end-got _ _ _ make _ _ (sym (back8 .number-after .ensures) ∙ ap numberStep (back6 .value .given .1)) _ _
+    (sym (back3 .word .ensures) ∙ ap wordStep (c .before .next .given .1)))
 
 pub end-number-spec : {M : Type 1} → statement M
 end-number-spec =

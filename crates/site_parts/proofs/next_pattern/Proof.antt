@@ -1,13 +1,9 @@
 use mathlib.Core.Path.{sym, _∙_, ap}
-use Rattle.site_parts.specs.Steps.{wordStep}
+use Rattle.site_tokens.specs.Steps.{wordStep}
 use Rattle.site_parts.proofs.Forms.{next-bad, next-is}
 use borrow.Author.Needs.{needs}
 use Rattle.site_parts.proofs.next_pattern.Statement.{statement}
 use Rattle.site_parts.proofs.next_pattern.Tie as tie
-use Rattle.site_parts.proofs.next_pattern.Reads as reads
-use Rattle.site_parts.proofs.next_pattern.Lts as lts
-use Rattle.site_parts.proofs.pattern_form.Reads as pattern-form-reads
-use Rattle.site_parts.proofs.word.Reads as word-reads
 
 slice-aggregate-word : tie.Need-slice-aggregate-word
 slice-aggregate-word c = search needs
@@ -28,7 +24,9 @@ pattern-form-requires : tie.Need-pattern-form-requires
 pattern-form-requires c κs = search needs
 
 returns-2 : tie.Need-returns-2
-returns-2 c = c .pattern-form .ensures ∙ sym (next-is _ _ _ _ (sym (c .before .before .before .before .word .ensures) ∙ ap wordStep (c .before .before .next .given .1)))
+returns-2 c =
+    let back4 = c .before .before .before .before in
+    c .pattern-form .ensures ∙ sym (next-is _ _ _ _ (sym (back4 .word .ensures) ∙ ap wordStep (c .before .before .next .given .1)))
 
 pub next-pattern-spec : {M : Type 1} → statement M
 next-pattern-spec =

@@ -1,15 +1,11 @@
 use mathlib.Core.Path.{sym, _∙_, ap}
 use Rattle.query.specs.declared.End.the-variants.{Var}
-use Rattle.site_parts.specs.declared.NumberForm.{NumberForm}
-use Rattle.site_parts.specs.Steps.{numberStep, mapped}
+use Rattle.site_tokens.specs.declared.NumberForm.{NumberForm}
+use Rattle.site_tokens.specs.Steps.{numberStep, mapped}
 use Rattle.site_parts.proofs.Forms.{end-first, end-second}
 use borrow.Author.Needs.{needs}
 use Rattle.site_parts.proofs.pattern_end.Statement.{statement}
 use Rattle.site_parts.proofs.pattern_end.Tie as tie
-use Rattle.site_parts.proofs.pattern_end.Reads as reads
-use Rattle.site_parts.proofs.pattern_end.Lts as lts
-use Rattle.site_parts.proofs.code_end.Reads as code-end-reads
-use Rattle.site_parts.proofs.end_number.Reads as end-number-reads
 
 slice-aggregate-end-number : tie.Need-slice-aggregate-end-number
 slice-aggregate-end-number c = search needs
@@ -27,10 +23,15 @@ code-end-requires : tie.Need-code-end-requires
 code-end-requires c κs = search needs
 
 returns : tie.Need-returns
-returns c = c .code-end .ensures ∙ sym (end-second _ _ (sym (c .before .before .before .end-number .ensures Var) ∙ ap (λ (r : NumberForm). mapped Var (numberStep r)) (c .before .enum-told .given .1)))
+returns c =
+    let back3 = c .before .before .before in
+    c .code-end .ensures ∙ sym (end-second _ _
+    (sym (back3 .end-number .ensures Var) ∙ ap (λ (r : NumberForm). mapped Var (numberStep r)) (c .before .enum-told .given .1)))
 
 returns-2 : tie.Need-returns-2
-returns-2 c = sym (end-first _ _ _ _ (sym (c .before .before .before .end-number .ensures Var) ∙ ap (λ (r : NumberForm). mapped Var (numberStep r)) (c .before .value .given .1)))
+returns-2 c =
+    let back3 = c .before .before .before in
+    sym (end-first _ _ _ _ (sym (back3 .end-number .ensures Var) ∙ ap (λ (r : NumberForm). mapped Var (numberStep r)) (c .before .value .given .1)))
 
 pub pattern-end-spec : {M : Type 1} → statement M
 pattern-end-spec =

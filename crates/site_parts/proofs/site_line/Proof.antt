@@ -1,13 +1,9 @@
 use mathlib.Core.Path.{sym, _∙_, ap}
-use Rattle.site_parts.specs.Steps.{numberStep, wordStep}
+use Rattle.site_tokens.specs.Steps.{numberStep, wordStep}
 use Rattle.site_parts.proofs.Forms.{site-bad, site-open, site-got}
 use borrow.Author.Needs.{needs}
 use Rattle.site_parts.proofs.site_line.Statement.{statement}
 use Rattle.site_parts.proofs.site_line.Tie as tie
-use Rattle.site_parts.proofs.site_line.Reads as reads
-use Rattle.site_parts.proofs.site_line.Lts as lts
-use Rattle.site_parts.proofs.line_end.Reads as line-end-reads
-use Rattle.site_parts.proofs.number_after.Reads as number-after-reads
 
 slice-aggregate-number-after : tie.Need-slice-aggregate-number-after
 slice-aggregate-number-after c = search needs
@@ -34,10 +30,19 @@ enum-told-2 : tie.Need-enum-told-2
 enum-told-2 c = search needs
 
 returns-2 : tie.Need-returns-2
-returns-2 c = sym (site-open _ _ _ _ (sym (c .before .before .before .before .before .before .number-after .ensures) ∙ ap numberStep (c .before .before .before .before .value .given .1)) (sym (c .before .before .line-end .ensures) ∙ ap wordStep (c .enum-told2 .given .1)))
+returns-2 c =
+    let back4 = c .before .before .before .before in
+    let back6 = back4 .before .before in
+    sym (site-open _ _ _ _ (sym (back6 .number-after .ensures) ∙ ap numberStep (back4 .value .given .1))
+    (sym (c .before .before .line-end .ensures) ∙ ap wordStep (c .enum-told2 .given .1)))
 
 returns-3 : tie.Need-returns-3
-returns-3 c = sym (site-got _ _ _ _ (sym (c .before .before .before .before .before .before .before .number-after .ensures) ∙ ap numberStep (c .before .before .before .before .before .value .given .1)) _ _ (sym (c .before .before .before .line-end .ensures) ∙ ap wordStep (c .before .next .given .1)))
+returns-3 c =
+    let back3 = c .before .before .before in
+    let back5 = back3 .before .before in
+    let back7 = back5 .before .before in
+    sym (site-got _ _ _ _ (sym (back7 .number-after .ensures) ∙ ap numberStep (back5 .value .given .1)) _ _
+    (sym (back3 .line-end .ensures) ∙ ap wordStep (c .before .next .given .1)))
 
 pub site-line-spec : {M : Type 1} → statement M
 site-line-spec =

@@ -3,9 +3,6 @@ use Rattle.site_parts.proofs.Forms.{triple-is}
 use borrow.Author.Needs.{needs}
 use Rattle.site_parts.proofs.triple_line.Statement.{statement}
 use Rattle.site_parts.proofs.triple_line.Tie as tie
-use Rattle.site_parts.proofs.triple_line.Reads as reads
-use Rattle.site_parts.proofs.triple_line.Lts as lts
-use Rattle.site_parts.proofs.three_numbers.Reads as three-numbers-reads
 
 slice-aggregate-three-numbers : tie.Need-slice-aggregate-three-numbers
 slice-aggregate-three-numbers c = search needs

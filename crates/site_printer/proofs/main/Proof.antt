@@ -3,12 +3,6 @@ use Rattle.site_printer.proofs.Bounds.{read-end, print-end}
 use borrow.Author.Needs.{needs}
 use Rattle.site_printer.proofs.main.Statement.{statement}
 use Rattle.site_printer.proofs.main.Tie as tie
-use Rattle.site_printer.proofs.main.Reads as reads
-use Rattle.site_printer.proofs.main.Lts as lts
-use Rattle.io.proofs.large_buffer.Reads as large-buffer-reads
-use Rattle.io.proofs.read_full.Reads as read-full-reads
-use Rattle.io.proofs.write_all.Reads as write-all-reads
-use Rattle.printer.proofs.print_site.Reads as print-site-reads
 
 large-buffer-requires : tie.Need-large-buffer-requires
 large-buffer-requires c κs = search needs
@@ -38,7 +32,10 @@ part-print-site-start : tie.Need-part-print-site-start
 part-print-site-start c = search needs
 
 part-print-site-end : tie.Need-part-print-site-end
-part-print-site-end c = read-end (c .before .before .read-full .result) (c .before .before .read-full .last .1 .0) (postOf 0 32769 (c .before .before .before .before .before .large-buffer .result)) (c .before .before .read-full .ensures .0)
+part-print-site-end c =
+    let back5 = c .before .before .before .before .before in
+    read-end (c .before .before .read-full .result) (c .before .before .read-full .last .1 .0) (postOf 0 32769 (back5 .large-buffer .result))
+    (c .before .before .read-full .ensures .0)
 
 slice-aggregate-print-site : tie.Need-slice-aggregate-print-site
 slice-aggregate-print-site c = search needs
@@ -53,7 +50,9 @@ part-write-all-start : tie.Need-part-write-all-start
 part-write-all-start c = search needs
 
 part-write-all-end : tie.Need-part-write-all-end
-part-write-all-end c = print-end _ _ _ _ (c .before .before .before .before .before .before .before .before .before .large-buffer2 .ensures) (c .before .before .print-site .ensures)
+part-write-all-end c =
+    let back9 = c .before .before .before .before .before .before .before .before .before in
+    print-end _ _ _ _ (back9 .large-buffer2 .ensures) (c .before .before .print-site .ensures)
 
 write-all-requires : tie.Need-write-all-requires
 write-all-requires c κs = search needs

@@ -1,16 +1,9 @@
 use mathlib.Core.Path.{sym, _∙_, ap}
-use Rattle.site_parts.specs.Steps.{wordStep, patternStep}
+use Rattle.site_tokens.specs.Steps.{wordStep, patternStep}
 use Rattle.site_reader.proofs.Queries.{ask-bad, ask-bad-first, ask-is}
 use borrow.Author.Needs.{needs}
 use Rattle.site_reader.proofs.ask_line.Statement.{statement}
 use Rattle.site_reader.proofs.ask_line.Tie as tie
-use Rattle.site_reader.proofs.ask_line.Reads as reads
-use Rattle.site_reader.proofs.ask_line.Lts as lts
-use Rattle.site_parts.proofs.line_end.Reads as line-end-reads
-use Rattle.site_reader.proofs.more_patterns.Reads as more-patterns-reads
-use Rattle.site_parts.proofs.next_pattern.Reads as next-pattern-reads
-use Rattle.site_reader.proofs.no_ask.Reads as no-ask-reads
-use Rattle.site_parts.proofs.word.Reads as word-reads
 
 slice-aggregate-word : tie.Need-slice-aggregate-word
 slice-aggregate-word c = search needs
@@ -28,7 +21,9 @@ no-ask-requires : tie.Need-no-ask-requires
 no-ask-requires c κs = search needs
 
 returns : tie.Need-returns
-returns c = c .no-ask .ensures ∙ sym (ask-bad _ _ (sym (c .before .before .before .word .ensures) ∙ ap wordStep (c .before .enum-told .given .1)))
+returns c =
+    let back3 = c .before .before .before in
+    c .no-ask .ensures ∙ sym (ask-bad _ _ (sym (back3 .word .ensures) ∙ ap wordStep (c .before .enum-told .given .1)))
 
 next-pattern-requires : tie.Need-next-pattern-requires
 next-pattern-requires c κs = search needs
@@ -43,7 +38,12 @@ no-ask-requires-2 : tie.Need-no-ask-requires-2
 no-ask-requires-2 c κs = search needs
 
 returns-2 : tie.Need-returns-2
-returns-2 c = c .no-ask2 .ensures ∙ sym (ask-bad-first _ _ _ _ (sym (c .before .before .before .before .before .before .before .word .ensures) ∙ ap wordStep (c .before .before .before .before .before .i .given .1)) (sym (c .before .before .before .next-pattern .ensures) ∙ ap patternStep (c .before .enum-told2 .given .1)))
+returns-2 c =
+    let back3 = c .before .before .before in
+    let back5 = back3 .before .before in
+    let back7 = back5 .before .before in
+    c .no-ask2 .ensures ∙ sym (ask-bad-first _ _ _ _ (sym (back7 .word .ensures) ∙ ap wordStep (back5 .i .given .1))
+    (sym (back3 .next-pattern .ensures) ∙ ap patternStep (c .before .enum-told2 .given .1)))
 
 more-patterns-requires : tie.Need-more-patterns-requires
 more-patterns-requires c κs = search needs
@@ -52,7 +52,14 @@ line-end-requires : tie.Need-line-end-requires
 line-end-requires c κs = search needs
 
 returns-3 : tie.Need-returns-3
-returns-3 c = ask-is _ _ _ _ (sym (c .before .before .before .before .before .before .before .before .before .before .word .ensures) ∙ ap wordStep (c .before .before .before .before .before .before .before .before .i .given .1)) _ _ (sym (c .before .before .before .before .before .before .next-pattern .ensures) ∙ ap patternStep (c .before .before .before .before .pattern .given .1)) _ (c .before .before .more-patterns .ensures) _ (c .line-end .ensures)
+returns-3 c =
+    let back4 = c .before .before .before .before in
+    let back6 = back4 .before .before in
+    let back8 = back6 .before .before in
+    let back10 = back8 .before .before in
+    ask-is _ _ _ _ (sym (back10 .word .ensures) ∙ ap wordStep (back8 .i .given .1)) _ _
+    (sym (back6 .next-pattern .ensures) ∙ ap patternStep (back4 .pattern .given .1)) _ (c .before .before .more-patterns .ensures) _
+    (c .line-end .ensures)
 
 pub ask-line-spec : {M : Type 1} → statement M
 ask-line-spec =

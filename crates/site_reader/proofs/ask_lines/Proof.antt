@@ -2,15 +2,11 @@ use Prim.Native.Nat.{_-_}
 use mathlib.Core.Path.{sym, ap}
 use native.Mathlib.Omega.{arith}
 use borrow.Author.Needs.{needs}
-use Rattle.site_parts.specs.declared.WordForm.{WordForm}
-use Rattle.site_parts.specs.Steps.{wordStep, mapped}
+use Rattle.site_tokens.specs.declared.WordForm.{WordForm}
+use Rattle.site_tokens.specs.Steps.{wordStep, mapped}
 use Rattle.site_reader.proofs.Queries.{Asking, asks-start, asks-step, asks-stop, asks-full}
 use Rattle.site_reader.proofs.ask_lines.Statement.{statement}
 use Rattle.site_reader.proofs.ask_lines.Tie as tie
-use Rattle.site_reader.proofs.ask_lines.Reads as reads
-use Rattle.site_reader.proofs.ask_lines.Lts as lts
-use Rattle.site_reader.proofs.ask_line.Reads as ask-line-reads
-use Rattle.site_reader.proofs.blank_query.Reads as blank-query-reads
 
 abbrev Inv-loop : tie.InvT-loop
 Inv-loop text at queries₀ count₀ i₀ queries count i = Asking text i₀ queries count i
@@ -34,7 +30,11 @@ enum-told : tie.Need-enum-told Inv-loop μ-loop
 enum-told c = search needs
 
 returns : tie.Need-returns Inv-loop μ-loop
-returns c = asks-stop _ _ _ _ _ (c .before .before .before .before .before .loop .inv) (c .before .before .before .ask-line .result) (c .before .before .before .ask-line .ensures) (sym (ap (λ (f : WordForm). mapped (λ u. c .before .before .before .ask-line .result .query) (wordStep f)) (c .enum-told .given .1)))
+returns c =
+    let back3 = c .before .before .before in
+    let back5 = back3 .before .before in
+    asks-stop _ _ _ _ _ (back5 .loop .inv) (back3 .ask-line .result) (back3 .ask-line .ensures)
+    (sym (ap (λ (f : WordForm). mapped (λ u. back3 .ask-line .result .query) (wordStep f)) (c .enum-told .given .1)))
 
 mul-queries : tie.Need-mul-queries Inv-loop μ-loop
 mul-queries c = search needs
@@ -49,7 +49,12 @@ loop-less : tie.Need-loop-less Inv-loop μ-loop
 loop-less c = omega arith
 
 loop-again : tie.Need-loop-again Inv-loop μ-loop
-loop-again c = asks-step _ _ _ _ _ (c .before .before .before .before .before .before .loop .inv) (c .before .before .before .before .before .loop-test .taken) (c .before .before .before .before .ask-line .result) (c .before .before .before .before .ask-line .ensures) _ (sym (ap (λ (f : WordForm). mapped (λ u. c .before .before .before .before .ask-line .result .query) (wordStep f)) (c .before .form .given .1)))
+loop-again c =
+    let back4 = c .before .before .before .before in
+    let back5 = back4 .before in
+    let back6 = back5 .before in
+    asks-step _ _ _ _ _ (back6 .loop .inv) (back5 .loop-test .taken) (back4 .ask-line .result) (back4 .ask-line .ensures) _
+    (sym (ap (λ (f : WordForm). mapped (λ u. back4 .ask-line .result .query) (wordStep f)) (c .before .form .given .1)))
 
 returns-2 : tie.Need-returns-2 Inv-loop μ-loop
 returns-2 c = asks-full _ _ _ _ _ (c .before .loop .inv) (c .loop-test .left)

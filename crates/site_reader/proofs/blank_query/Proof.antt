@@ -3,9 +3,6 @@ use Rattle.site_form.specs.Reading.{queryOf}
 use borrow.Author.Needs.{needs}
 use Rattle.site_reader.proofs.blank_query.Statement.{statement}
 use Rattle.site_reader.proofs.blank_query.Tie as tie
-use Rattle.site_reader.proofs.blank_query.Reads as reads
-use Rattle.site_reader.proofs.blank_query.Lts as lts
-use Rattle.query.proofs.blank_pattern.Reads as blank-pattern-reads
 
 blank-pattern-requires : tie.Need-blank-pattern-requires
 blank-pattern-requires c κs = search needs

@@ -4,14 +4,9 @@ use Rattle.site_reader.proofs.Queries.{Reading, empty-short, patterns-s
 use Prim.Native.Nat.{_-_}
 use mathlib.Core.Path.{sym, _∙_, ap}
 use borrow.Author.Needs.{needs}
-use Rattle.site_parts.specs.Steps.{patternStep}
+use Rattle.site_tokens.specs.Steps.{patternStep}
 use Rattle.site_reader.proofs.more_patterns.Statement.{statement}
 use Rattle.site_reader.proofs.more_patterns.Tie as tie
-use Rattle.site_reader.proofs.more_patterns.Reads as reads
-use Rattle.site_reader.proofs.more_patterns.Lts as lts
-use Rattle.site_reader.proofs.blank_query.Reads as blank-query-reads
-use Rattle.site_parts.proofs.next_pattern.Reads as next-pattern-reads
-use Rattle.site_reader.proofs.with_pattern.Reads as with-pattern-reads
 
 abbrev Inv-loop : tie.InvT-loop
 Inv-loop text at query₀ i₀ query i = Reading text i₀ query₀ query i
@@ -26,7 +21,9 @@ with-pattern-requires : tie.Need-with-pattern-requires Inv-loop μ-loop
 with-pattern-requires c κs = empty-short _ (c .blank-query .ensures)
 
 loop-holds : tie.Need-loop-holds Inv-loop μ-loop
-loop-holds c = patterns-start _ _ _ _ (c .before .before .before .args .first) (c .before .blank-query .ensures) (c .with-pattern .ensures)
+loop-holds c =
+    let start = c .before .before .before in
+    patterns-start _ _ _ _ (start .args .first) (c .before .blank-query .ensures) (c .with-pattern .ensures)
 
 next-pattern-requires : tie.Need-next-pattern-requires Inv-loop μ-loop
 next-pattern-requires c κs = search needs
@@ -38,7 +35,13 @@ enum-told : tie.Need-enum-told Inv-loop μ-loop
 enum-told c = search needs
 
 returns : tie.Need-returns Inv-loop μ-loop
-returns c = patterns-stop _ _ _ _ (c .before .before .before .before .before .before .before .before .before .args .first) (c .before .before .before .before .before .before .before .blank-query .ensures) (c .before .before .before .before .before .before .with-pattern .ensures) _ _ (c .before .before .before .before .before .loop .inv) (sym (c .before .before .next-pattern .ensures) ∙ ap patternStep (c .enum-told .given .1))
+returns c =
+    let back5 = c .before .before .before .before .before in
+    let back6 = back5 .before in
+    let back7 = back6 .before in
+    let start = back7 .before .before in
+    patterns-stop _ _ _ _ (start .args .first) (back7 .blank-query .ensures) (back6 .with-pattern .ensures) _ _ (back5 .loop .inv)
+    (sym (c .before .before .next-pattern .ensures) ∙ ap patternStep (c .enum-told .given .1))
 
 with-pattern-requires-2 : tie.Need-with-pattern-requires-2 Inv-loop μ-loop
 with-pattern-requires-2 c κs = c .before .before .before .before .if1 .taken
@@ -47,10 +50,20 @@ loop-less : tie.Need-loop-less Inv-loop μ-loop
 loop-less c = let e = ap (λ (q : Query). q .count) (c .with-pattern2 .ensures) in omega arith
 
 loop-again : tie.Need-loop-again Inv-loop μ-loop
-loop-again c = patterns-step _ _ _ _ _ (c .before .before .before .before .before .before .before .loop .inv) (c .before .before .before .before .before .if1 .taken) _ _ (sym (c .before .before .before .before .next-pattern .ensures) ∙ ap patternStep (c .before .before .pattern .given .1)) _ (c .with-pattern2 .ensures)
+loop-again c =
+    let back4 = c .before .before .before .before in
+    let back5 = back4 .before in
+    let back7 = back5 .before .before in
+    patterns-step _ _ _ _ _ (back7 .loop .inv) (back5 .if1 .taken) _ _
+    (sym (back4 .next-pattern .ensures) ∙ ap patternStep (c .before .before .pattern .given .1)) _ (c .with-pattern2 .ensures)
 
 returns-2 : tie.Need-returns-2 Inv-loop μ-loop
-returns-2 c = patterns-full _ _ _ _ (c .before .before .before .before .before .before .args .first) (c .before .before .before .before .blank-query .ensures) (c .before .before .before .with-pattern .ensures) _ _ (c .before .before .loop .inv) (c .if1 .left)
+returns-2 c =
+    let back3 = c .before .before .before in
+    let back4 = back3 .before in
+    let start = back4 .before .before in
+    patterns-full _ _ _ _ (start .args .first) (back4 .blank-query .ensures) (back3 .with-pattern .ensures) _ _ (c .before .before .loop .inv)
+    (c .if1 .left)
 
 pub more-patterns-spec : {M : Type 1} → statement M
 more-patterns-spec =

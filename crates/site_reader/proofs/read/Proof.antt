@@ -1,18 +1,9 @@
 use mathlib.Core.Path.{sym, _∙_, ap}
-use Rattle.site_parts.specs.Steps.{numberStep, wordStep}
+use Rattle.site_tokens.specs.Steps.{numberStep, wordStep}
 use Rattle.site_reader.proofs.Whole.{read-no-site, read-not-ended, read-no-slots, read-all, lines-fit}
 use borrow.Author.Needs.{needs}
 use Rattle.site_reader.proofs.read.Statement.{statement}
 use Rattle.site_reader.proofs.read.Tie as tie
-use Rattle.site_reader.proofs.read.Reads as reads
-use Rattle.site_reader.proofs.read.Lts as lts
-use Rattle.lists.proofs.clear.Reads as clear-reads
-use Rattle.site_parts.proofs.site_line.Reads as site-line-reads
-use Rattle.site_parts.proofs.text_end.Reads as text-end-reads
-use Rattle.site_reader.proofs.ask_lines.Reads as ask-lines-reads
-use Rattle.site_reader.proofs.refuse.Reads as refuse-reads
-use Rattle.site_reader.proofs.some_words.Reads as some-words-reads
-use Rattle.site_reader.proofs.triple_lines.Reads as triple-lines-reads
 
 site-line-requires : tie.Need-site-line-requires
 site-line-requires c κs = search needs
@@ -30,7 +21,10 @@ same-length : tie.Need-same-length
 same-length c = search needs
 
 returns : tie.Need-returns
-returns c = read-no-site _ _ (sym (c .before .before .before .before .before .before .site-line .ensures) ∙ ap numberStep (c .before .before .before .before .enum-told .given .1)) _ _ (c .before .before .refuse .ensures)
+returns c =
+    let back4 = c .before .before .before .before in
+    let back6 = back4 .before .before in
+    read-no-site _ _ (sym (back6 .site-line .ensures) ∙ ap numberStep (back4 .enum-told .given .1)) _ _ (c .before .before .refuse .ensures)
 
 some-words-requires : tie.Need-some-words-requires
 some-words-requires c κs = search needs
@@ -65,7 +59,9 @@ returns-2 c =
     let at-words = at-lines .before .before in
     let at-size = at-words .before .before in
     let at-site = at-size .before .before in
-    read-not-ended _ _ _ _ (sym (at-site .site-line .ensures) ∙ ap numberStep (at-size .size .given .1)) (at-words .some-words .result) (at-words .some-words .ensures) _ (at-lines .triple-lines .result) (at-lines .triple-lines .ensures) (at-asks .ask-lines .result) (at-asks .ask-lines .ensures)
+    read-not-ended _ _ _ _ (sym (at-site .site-line .ensures) ∙ ap numberStep (at-size .size .given .1)) (at-words .some-words .result)
+    (at-words .some-words .ensures) _ (at-lines .triple-lines .result) (at-lines .triple-lines .ensures) (at-asks .ask-lines .result)
+    (at-asks .ask-lines .ensures)
     (sym (at-end .text-end .ensures) ∙ ap wordStep (at-told .enum-told3 .given .1)) _ _ (c .before .before .refuse2 .ensures)
 
 refuse-requires-3 : tie.Need-refuse-requires-3
@@ -84,11 +80,16 @@ returns-3 c =
     let at-words = at-lines .before .before in
     let at-size = at-words .before .before in
     let at-site = at-size .before .before in
-    read-no-slots _ _ _ _ (sym (at-site .site-line .ensures) ∙ ap numberStep (at-size .size .given .1)) (at-words .some-words .result) (at-words .some-words .ensures) _ (at-lines .triple-lines .result) (at-lines .triple-lines .ensures) (at-asks .ask-lines .result) (at-asks .ask-lines .ensures)
-    _ _ (sym (at-end .text-end .ensures) ∙ ap wordStep (at-told .enum-told2 .given .1)) (at-test .if1 .taken) _ _ (c .before .before .refuse3 .ensures)
+    read-no-slots _ _ _ _ (sym (at-site .site-line .ensures) ∙ ap numberStep (at-size .size .given .1)) (at-words .some-words .result)
+    (at-words .some-words .ensures) _ (at-lines .triple-lines .result) (at-lines .triple-lines .ensures) (at-asks .ask-lines .result)
+    (at-asks .ask-lines .ensures)
+    _ _ (sym (at-end .text-end .ensures) ∙ ap wordStep (at-told .enum-told2 .given .1)) (at-test .if1 .taken) _ _
+    (c .before .before .refuse3 .ensures)
 
 mul-clear : tie.Need-mul-clear
-mul-clear c = record { fits = lines-fit _ _ _ _ _ (c .before .before .before .before .before .before .before .before .before .before .triple-lines .ensures) }
+mul-clear c =
+    let back10 = c .before .before .before .before .before .before .before .before .before .before in
+    record { fits = lines-fit _ _ _ _ _ (back10 .triple-lines .ensures) }
 
 clear-requires : tie.Need-clear-requires
 clear-requires c κs = search needs
@@ -107,7 +108,9 @@ returns-4 c =
     let at-words = at-lines .before .before in
     let at-size = at-words .before .before in
     let at-site = at-size .before .before in
-    read-all _ _ _ _ (sym (at-site .site-line .ensures) ∙ ap numberStep (at-size .size .given .1)) (at-words .some-words .result) (at-words .some-words .ensures) _ (at-lines .triple-lines .result) (at-lines .triple-lines .ensures) (at-asks .ask-lines .result) (at-asks .ask-lines .ensures)
+    read-all _ _ _ _ (sym (at-site .site-line .ensures) ∙ ap numberStep (at-size .size .given .1)) (at-words .some-words .result)
+    (at-words .some-words .ensures) _ (at-lines .triple-lines .result) (at-lines .triple-lines .ensures) (at-asks .ask-lines .result)
+    (at-asks .ask-lines .ensures)
     _ _ (sym (at-end .text-end .ensures) ∙ ap wordStep (at-told .enum-told2 .given .1)) (at-test .if1 .left) _ (at-clear .clear .ensures)
 
 pub read-spec : {M : Type 1} → statement M

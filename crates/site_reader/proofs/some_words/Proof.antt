@@ -1,13 +1,9 @@
 use mathlib.Core.Path.{sym, _∙_, ap}
-use Rattle.site_parts.specs.Steps.{wordsStep}
+use Rattle.site_tokens.specs.Steps.{wordsStep}
 use Rattle.site_reader.proofs.Whole.{words-none, words-stand}
 use borrow.Author.Needs.{needs}
 use Rattle.site_reader.proofs.some_words.Statement.{statement}
 use Rattle.site_reader.proofs.some_words.Tie as tie
-use Rattle.site_reader.proofs.some_words.Reads as reads
-use Rattle.site_reader.proofs.some_words.Lts as lts
-use Rattle.site_parts.proofs.words_line.Reads as words-line-reads
-use Rattle.lists.proofs.rdfs_words.Reads as rdfs-words-reads
 
 words-line-requires : tie.Need-words-line-requires
 words-line-requires c κs = search needs
@@ -22,7 +18,9 @@ rdfs-words-requires : tie.Need-rdfs-words-requires
 rdfs-words-requires c κs = search needs
 
 returns : tie.Need-returns
-returns c = words-none _ _ (sym (c .before .before .before .words-line .ensures) ∙ ap wordsStep (c .before .enum-told .given .1)) _ (c .rdfs-words .ensures)
+returns c =
+    let back3 = c .before .before .before in
+    words-none _ _ (sym (back3 .words-line .ensures) ∙ ap wordsStep (c .before .enum-told .given .1)) _ (c .rdfs-words .ensures)
 
 returns-2 : tie.Need-returns-2
 returns-2 c = words-stand _ _ _ _ (sym (c .before .before .before .words-line .ensures) ∙ ap wordsStep (c .before .words .given .1))

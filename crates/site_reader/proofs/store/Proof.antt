@@ -3,9 +3,6 @@ use Rattle.site_reader.proofs.Triples.{not-stored, stored-at}
 use borrow.Author.Needs.{needs}
 use Rattle.site_reader.proofs.store.Statement.{statement}
 use Rattle.site_reader.proofs.store.Tie as tie
-use Rattle.site_reader.proofs.store.Reads as reads
-use Rattle.site_reader.proofs.store.Lts as lts
-use Rattle.lists.proofs.put.Reads as put-reads
 
 returns : tie.Need-returns
 returns c = not-stored _ _ _ (c .if1 .taken)

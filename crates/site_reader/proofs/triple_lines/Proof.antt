@@ -2,14 +2,10 @@ use Prim.Native.Nat.{_-_}
 use mathlib.Core.Path.{sym, _∙_, ap}
 use native.Mathlib.Omega.{arith}
 use borrow.Author.Needs.{needs}
-use Rattle.site_parts.specs.Steps.{tripleStep}
+use Rattle.site_tokens.specs.Steps.{tripleStep}
 use Rattle.site_reader.proofs.Triples.{Storing, lines-start, lines-step, lines-stop, lines-full}
 use Rattle.site_reader.proofs.triple_lines.Statement.{statement}
 use Rattle.site_reader.proofs.triple_lines.Tie as tie
-use Rattle.site_reader.proofs.triple_lines.Reads as reads
-use Rattle.site_reader.proofs.triple_lines.Lts as lts
-use Rattle.site_reader.proofs.store.Reads as store-reads
-use Rattle.site_parts.proofs.triple_line.Reads as triple-line-reads
 
 abbrev Inv-loop : tie.InvT-loop
 Inv-loop text at list₀ count₀ i₀ list count i = Storing text i₀ list₀ list count i
@@ -33,7 +29,9 @@ same-length : tie.Need-same-length Inv-loop μ-loop
 same-length c = c .before .before .before .before .loop .inv .size
 
 returns : tie.Need-returns Inv-loop μ-loop
-returns c = lines-stop _ _ _ _ _ _ (c .before .before .before .before .loop .inv) (sym (c .before .before .triple-line .ensures) ∙ ap tripleStep (c .enum-told .given .1))
+returns c =
+    let back4 = c .before .before .before .before in
+    lines-stop _ _ _ _ _ _ (back4 .loop .inv) (sym (c .before .before .triple-line .ensures) ∙ ap tripleStep (c .enum-told .given .1))
 
 store-requires : tie.Need-store-requires Inv-loop μ-loop
 store-requires c κs = search needs
@@ -45,7 +43,13 @@ loop-less : tie.Need-loop-less Inv-loop μ-loop
 loop-less c = omega arith
 
 loop-again : tie.Need-loop-again Inv-loop μ-loop
-loop-again c = lines-step _ _ _ _ _ _ (c .before .before .before .before .before .before .before .before .before .loop .inv) (c .before .before .before .before .before .before .before .before .loop-test .taken) _ _ (sym (c .before .before .before .before .before .before .before .triple-line .ensures) ∙ ap tripleStep (c .before .before .before .before .before .triple .given .1)) _ (c .before .before .store .ensures)
+loop-again c =
+    let back5 = c .before .before .before .before .before in
+    let back7 = back5 .before .before in
+    let back8 = back7 .before in
+    let back9 = back8 .before in
+    lines-step _ _ _ _ _ _ (back9 .loop .inv) (back8 .loop-test .taken) _ _
+    (sym (back7 .triple-line .ensures) ∙ ap tripleStep (back5 .triple .given .1)) _ (c .before .before .store .ensures)
 
 same-length-2 : tie.Need-same-length-2 Inv-loop μ-loop
 same-length-2 c = c .before .loop .inv .size

@@ -3,9 +3,6 @@ use lib.ListN.{length}
 use borrow.Author.Needs.{needs}
 use Rattle.site_texts.proofs.digest.Statement.{statement}
 use Rattle.site_texts.proofs.digest.Tie as tie
-use Rattle.site_texts.proofs.digest.Reads as reads
-use Rattle.site_texts.proofs.digest.Lts as lts
-use Rattle.site_texts.proofs.long.Reads as long-reads
 
 abbrev Inv-loop : tie.InvT-loop
 Inv-loop list sum₀ i₀ i-end sum i = (i ≤ length list) × (sum < 1000003)

@@ -3,8 +3,6 @@ use lib.ListN.{length}
 use borrow.Author.Needs.{needs}
 use Rattle.site_texts.proofs.next_mark.Statement.{statement}
 use Rattle.site_texts.proofs.next_mark.Tie as tie
-use Rattle.site_texts.proofs.next_mark.Reads as reads
-use Rattle.site_texts.proofs.next_mark.Lts as lts
 
 abbrev Inv-loop : tie.InvT-loop
 Inv-loop input from i₀ i = (from ≤ i) × (i ≤ length input)

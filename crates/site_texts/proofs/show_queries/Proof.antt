@@ -2,9 +2,6 @@ use Prim.Native.Nat.{_-_, _≤_}
 use borrow.Author.Needs.{needs}
 use Rattle.site_texts.proofs.show_queries.Statement.{statement}
 use Rattle.site_texts.proofs.show_queries.Tie as tie
-use Rattle.site_texts.proofs.show_queries.Reads as reads
-use Rattle.site_texts.proofs.show_queries.Lts as lts
-use Rattle.site_texts.proofs.show_query.Reads as show-query-reads
 
 abbrev Inv-loop : tie.InvT-loop
 Inv-loop site k₀ k = k ≤ 16

@@ -2,12 +2,6 @@ use Prim.Native.Nat.{_-_, _≤_}
 use borrow.Author.Needs.{needs}
 use Rattle.site_texts.proofs.show_query.Statement.{statement}
 use Rattle.site_texts.proofs.show_query.Tie as tie
-use Rattle.site_texts.proofs.show_query.Reads as reads
-use Rattle.site_texts.proofs.show_query.Lts as lts
-use Rattle.site_texts.proofs.close.Reads as close-reads
-use Rattle.site_texts.proofs.long.Reads as long-reads
-use Rattle.site_texts.proofs.show.Reads as show-reads
-use Rattle.site_texts.proofs.show_pattern.Reads as show-pattern-reads
 
 abbrev Inv-loop : tie.InvT-loop
 Inv-loop q k₀ k = k ≤ 8

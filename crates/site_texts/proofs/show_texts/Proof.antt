@@ -3,10 +3,6 @@ use lib.ListN.{length}
 use borrow.Author.Needs.{needs}
 use Rattle.site_texts.proofs.show_texts.Statement.{statement}
 use Rattle.site_texts.proofs.show_texts.Tie as tie
-use Rattle.site_texts.proofs.show_texts.Reads as reads
-use Rattle.site_texts.proofs.show_texts.Lts as lts
-use Rattle.site_texts.proofs.show_text.Reads as show-text-reads
-use Rattle.site_texts.proofs.next_mark.Reads as next-mark-reads
 
 abbrev Inv-loop : tie.InvT-loop
 Inv-loop input i₀ k₀ i k = k ≤ i + 1

@@ -2,9 +2,6 @@ use Prim.Native.Nat.{_-_, _≤_}
 use borrow.Author.Needs.{needs}
 use Rattle.site_texts.proofs.show_triples.Statement.{statement}
 use Rattle.site_texts.proofs.show_triples.Tie as tie
-use Rattle.site_texts.proofs.show_triples.Reads as reads
-use Rattle.site_texts.proofs.show_triples.Lts as lts
-use Rattle.site_texts.proofs.show_triple.Reads as show-triple-reads
 
 abbrev Inv-loop : tie.InvT-loop
 Inv-loop list count i₀ i = i ≤ 4

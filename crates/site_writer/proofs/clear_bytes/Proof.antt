@@ -4,8 +4,6 @@ use Rattle.lists.specs.Flat.{Cleared}
 use Rattle.lists.proofs.Search.{cleared-start, cleared-step, cleared-end}
 use Rattle.site_writer.proofs.clear_bytes.Statement.{statement}
 use Rattle.site_writer.proofs.clear_bytes.Tie as tie
-use Rattle.site_writer.proofs.clear_bytes.Reads as reads
-use Rattle.site_writer.proofs.clear_bytes.Lts as lts
 
 abbrev Inv-loop : tie.InvT-loop
 Inv-loop out₀ a b i₀ out i = Cleared out₀ out a i × (a ≤ i) × (i ≤ b)

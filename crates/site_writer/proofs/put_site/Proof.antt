@@ -2,10 +2,6 @@ use Rattle.site_writer.proofs.Lines.{room-site, room-site-end, site-put
 use borrow.Author.Needs.{needs}
 use Rattle.site_writer.proofs.put_site.Statement.{statement}
 use Rattle.site_writer.proofs.put_site.Tie as tie
-use Rattle.site_writer.proofs.put_site.Reads as reads
-use Rattle.site_writer.proofs.put_site.Lts as lts
-use Rattle.site_writer.proofs.put_after.Reads as put-after-reads
-use Rattle.site_writer.proofs.put_bytes.Reads as put-bytes-reads
 
 slice-aggregate-put-after : tie.Need-slice-aggregate-put-after
 slice-aggregate-put-after c = search needs
@@ -17,13 +13,18 @@ slice-aggregate-put-bytes : tie.Need-slice-aggregate-put-bytes
 slice-aggregate-put-bytes c = search needs
 
 put-bytes-requires : tie.Need-put-bytes-requires
-put-bytes-requires c κs = room-site-end _ _ _ _ _ (c .before .before .before .before .put-after .ensures) (c .before .before .before .before .before .before .before .before .pre)
+put-bytes-requires c κs =
+    let back4 = c .before .before .before .before in
+    let start = back4 .before .before .before .before in
+    room-site-end _ _ _ _ _ (back4 .put-after .ensures) (start .pre)
 
 same-length : tie.Need-same-length
 same-length c = search needs
 
 returns : tie.Need-returns
-returns c = site-put _ _ _ _ _ (c .before .before .before .before .before .before .before .put-after .ensures) _ _ (c .before .before .put-bytes .ensures)
+returns c =
+    let back7 = c .before .before .before .before .before .before .before in
+    site-put _ _ _ _ _ (back7 .put-after .ensures) _ _ (c .before .before .put-bytes .ensures)
 
 pub put-site-spec : {M : Type 1} → statement M
 put-site-spec =

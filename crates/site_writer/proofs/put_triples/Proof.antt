@@ -5,10 +5,6 @@ use lib.ListN.{length}
 use Rattle.site_writer.proofs.Lines.{Lining, lines-start, room-line, lines-step, lines-end}
 use Rattle.site_writer.proofs.put_triples.Statement.{statement}
 use Rattle.site_writer.proofs.put_triples.Tie as tie
-use Rattle.site_writer.proofs.put_triples.Reads as reads
-use Rattle.site_writer.proofs.put_triples.Lts as lts
-use Rattle.lists.proofs.triple_at.Reads as triple-at-reads
-use Rattle.site_writer.proofs.put_triple.Reads as put-triple-reads
 
 abbrev Inv-loop : tie.InvT-loop
 Inv-loop out₀ at table n i₀ next₀ out i next = (n ≡ length table / 3) × Lining out₀ next₀ table out i next
@@ -23,7 +19,11 @@ triple-at-requires : tie.Need-triple-at-requires Inv-loop μ-loop
 triple-at-requires c κs = omega (arith, c .before .before .loop .inv .0)
 
 put-triple-requires : tie.Need-put-triple-requires Inv-loop μ-loop
-put-triple-requires c κs = room-line _ _ _ _ _ _ (c .before .before .before .loop .inv .1) (omega (arith, c .before .before .before .loop .inv .0, c .before .before .loop-test .taken)) _ (c .triple-at .ensures) (c .before .before .before .before .before .before .pre)
+put-triple-requires c κs =
+    let back3 = c .before .before .before in
+    let start = back3 .before .before .before in
+    room-line _ _ _ _ _ _ (back3 .loop .inv .1) (omega (arith, back3 .loop .inv .0, c .before .before .loop-test .taken)) _ (c .triple-at .ensures)
+    (start .pre)
 
 add-i : tie.Need-add-i Inv-loop μ-loop
 add-i c = omega arith
@@ -32,7 +32,14 @@ loop-less : tie.Need-loop-less Inv-loop μ-loop
 loop-less c = omega arith
 
 loop-again : tie.Need-loop-again Inv-loop μ-loop
-loop-again c = (c .before .before .before .before .before .before .loop .inv .0, lines-step _ _ _ _ _ _ (c .before .before .before .before .before .before .loop .inv .1) (omega (arith, c .before .before .before .before .before .before .loop .inv .0, c .before .before .before .before .before .loop-test .taken)) _ (c .before .before .before .triple-at .ensures) _ _ (c .before .before .put-triple .ensures))
+loop-again c =
+    let back3 = c .before .before .before in
+    let back5 = back3 .before .before in
+    let back6 = back5 .before in (
+      back6 .loop .inv .0,
+      lines-step _ _ _ _ _ _ (back6 .loop .inv .1) (omega (arith, back6 .loop .inv .0, back5 .loop-test .taken)) _
+          (back3 .triple-at .ensures) _ _ (c .before .before .put-triple .ensures),
+    )
 
 same-length : tie.Need-same-length Inv-loop μ-loop
 same-length c = c .before .loop .inv .1 .size

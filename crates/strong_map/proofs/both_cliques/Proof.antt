@@ -5,9 +5,6 @@ use Rattle.strong_map.proofs.Whole.{both-parts}
 use borrow.Author.Needs.{needs}
 use Rattle.strong_map.proofs.both_cliques.Statement.{statement}
 use Rattle.strong_map.proofs.both_cliques.Tie as tie
-use Rattle.strong_map.proofs.both_cliques.Reads as reads
-use Rattle.strong_map.proofs.both_cliques.Lts as lts
-use Rattle.node_cliques.proofs.node_cliques.Reads as node-cliques-reads
 
 sub-node-cliques : tie.Need-sub-node-cliques
 sub-node-cliques c = search needs
@@ -44,8 +41,9 @@ same-length c = search needs
 
 returns : tie.Need-returns
 returns c =
+    let back6 = c .before .before .before .before .before .before in
     let s = c .before .before .before .before .before .before .before .before .before .before .before in
-    both-parts _ (s .args .roster .now) _ _ _ _ _ _ (s .pre .1) (c .before .before .before .before .before .before .node-cliques .ensures) (c .before .before .node-cliques2 .ensures) refl refl
+    both-parts _ (s .args .roster .now) _ _ _ _ _ _ (s .pre .1) (back6 .node-cliques .ensures) (c .before .before .node-cliques2 .ensures) refl refl
 
 pub both-cliques-spec : {M : Type 1} → statement M
 both-cliques-spec =

@@ -2,13 +2,10 @@
 -- Assumes nothing.
 use mathlib.Core.Path.{sym, _∙_}
 use borrow.Author.Tests.{eqb-true, eqb-false}
-use Rattle.strong_map.proofs.Stores.{node-absent, node-plain}
+use Rattle.thread_settling.proofs.Stores.{node-absent, node-plain}
 use borrow.Author.Needs.{needs}
 use Rattle.strong_map.proofs.is_data_node.Statement.{statement}
 use Rattle.strong_map.proofs.is_data_node.Tie as tie
-use Rattle.strong_map.proofs.is_data_node.Reads as reads
-use Rattle.strong_map.proofs.is_data_node.Lts as lts
-use Rattle.lists.proofs.Code.is_absent.Reads as is-absent-reads
 
 mul-t5 : tie.Need-mul-t5
 mul-t5 c = search needs
@@ -21,7 +18,8 @@ is-absent-requires c κs = search needs
 
 returns : tie.Need-returns
 returns c =
-    let s = c .before .before .before .before .before .args in
+    let start = c .before .before .before .before .before in
+    let s = start .args in
     node-absent (s .roster .now) (s .map .now) (s .i) (eqb-true _ _ (sym (c .before .is-absent .ensures) ∙ c .if1 .taken))
 
 shared-slice-read-result : tie.Need-shared-slice-read-result
@@ -29,7 +27,8 @@ shared-slice-read-result c = search needs
 
 returns-2 : tie.Need-returns-2
 returns-2 c =
-    let s = c .before .before .before .before .before .before .args in
+    let start = c .before .before .before .before .before .before in
+    let s = start .args in
     node-plain (s .roster .now) (s .map .now) (s .i) (eqb-false _ _ (sym (c .before .before .is-absent .ensures) ∙ c .before .if1 .left))
 
 pub is-data-node-spec : {M : Type 1} → statement M

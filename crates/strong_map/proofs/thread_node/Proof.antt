@@ -3,15 +3,10 @@
 use mathlib.Core.Path.{sym, _∙_}
 use native.Mathlib.Omega.{arith}
 use borrow.Author.Tests.{not-true, not-false}
-use Rattle.strong_map.proofs.Stores.{thread-skipped, label-inside, thread-linked}
+use Rattle.thread_settling.proofs.Stores.{thread-skipped, label-inside, thread-linked}
 use borrow.Author.Needs.{needs}
 use Rattle.strong_map.proofs.thread_node.Statement.{statement}
 use Rattle.strong_map.proofs.thread_node.Tie as tie
-use Rattle.strong_map.proofs.thread_node.Reads as reads
-use Rattle.strong_map.proofs.thread_node.Lts as lts
-use Rattle.lists.proofs.narrow.Reads as narrow-reads
-use Rattle.lists.proofs.wide.Reads as wide-reads
-use Rattle.strong_map.proofs.is_data_node.Reads as is-data-node-reads
 
 is-data-node-requires : tie.Need-is-data-node-requires
 is-data-node-requires c κs = search needs
@@ -22,7 +17,8 @@ same-length c = search needs
 returns : tie.Need-returns
 returns c =
     let s = c .before .before .before .before .before .before in
-    thread-skipped (s .args .roster .now) (s .args .map .now) (s .args .work .now) (s .args .i) (sym (c .before .is-data-node .ensures) ∙ not-true _ (c .if1 .taken))
+    thread-skipped (s .args .roster .now) (s .args .map .now) (s .args .work .now) (s .args .i)
+    (sym (c .before .is-data-node .ensures) ∙ not-true _ (c .if1 .taken))
 
 mul-wide : tie.Need-mul-wide
 mul-wide c = search needs
@@ -35,13 +31,21 @@ wide-requires c κs = search needs
 
 mul-map : tie.Need-mul-map
 mul-map c =
+    let back3 = c .before .before .before in
     let s = c .before .before .before .before .before .before .before .before in
-    omega (arith, label-inside (s .args .roster .now) (s .args .map .now) (s .args .work .now) (s .args .i) (sym (c .before .before .before .is-data-node .ensures) ∙ not-false _ (c .before .before .if1 .left)) _ (c .wide .ensures) (s .pre))
+    omega (
+      arith,
+      label-inside (s .args .roster .now) (s .args .map .now) (s .args .work .now) (s .args .i)
+          (sym (back3 .is-data-node .ensures) ∙ not-false _ (c .before .before .if1 .left)) _ (c .wide .ensures) (s .pre),
+    )
 
 slice-read-map : tie.Need-slice-read-map
 slice-read-map c =
+    let back3 = c .before .before .before in
+    let back4 = back3 .before in
     let s = c .before .before .before .before .before .before .before .before .before in
-    label-inside (s .args .roster .now) (s .args .map .now) (s .args .work .now) (s .args .i) (sym (c .before .before .before .before .is-data-node .ensures) ∙ not-false _ (c .before .before .before .if1 .left)) _ (c .before .wide .ensures) (s .pre)
+    label-inside (s .args .roster .now) (s .args .map .now) (s .args .work .now) (s .args .i)
+    (sym (back4 .is-data-node .ensures) ∙ not-false _ (back3 .if1 .left)) _ (c .before .wide .ensures) (s .pre)
 
 mul-map-2 : tie.Need-mul-map-2
 mul-map-2 c = search needs
@@ -54,13 +58,22 @@ narrow-requires c κs = search needs
 
 mul-work : tie.Need-mul-work
 mul-work c =
+    let back4 = c .before .before .before .before in
+    let back5 = back4 .before in
     let s = c .before .before .before .before .before .before .before .before .before .before in
-    omega (arith, label-inside (s .args .roster .now) (s .args .map .now) (s .args .work .now) (s .args .i) (sym (c .before .before .before .before .before .is-data-node .ensures) ∙ not-false _ (c .before .before .before .before .if1 .left)) _ (c .before .before .wide .ensures) (s .pre))
+    omega (
+      arith,
+      label-inside (s .args .roster .now) (s .args .map .now) (s .args .work .now) (s .args .i)
+          (sym (back5 .is-data-node .ensures) ∙ not-false _ (back4 .if1 .left)) _ (c .before .before .wide .ensures) (s .pre),
+    )
 
 slice-write-work : tie.Need-slice-write-work
 slice-write-work c =
+    let back4 = c .before .before .before .before in
+    let back5 = back4 .before in
     let s = c .before .before .before .before .before .before .before .before .before .before in
-    label-inside (s .args .roster .now) (s .args .map .now) (s .args .work .now) (s .args .i) (sym (c .before .before .before .before .before .is-data-node .ensures) ∙ not-false _ (c .before .before .before .before .if1 .left)) _ (c .before .before .wide .ensures) (s .pre)
+    label-inside (s .args .roster .now) (s .args .map .now) (s .args .work .now) (s .args .i)
+    (sym (back5 .is-data-node .ensures) ∙ not-false _ (back4 .if1 .left)) _ (c .before .before .wide .ensures) (s .pre)
 
 same-length-2 : tie.Need-same-length-2
 same-length-2 c = search needs
@@ -70,8 +83,11 @@ same-length-3 c = search needs
 
 returns-2 : tie.Need-returns-2
 returns-2 c =
+    let back4 = c .before .before .before .before in
+    let back5 = back4 .before in
     let s = c .before .before .before .before .before .before .before .before .before .before in
-    thread-linked (s .args .roster .now) (s .args .map .now) (s .args .work .now) (s .args .i) (sym (c .before .before .before .before .before .is-data-node .ensures) ∙ not-false _ (c .before .before .before .before .if1 .left)) _ (c .before .before .wide .ensures) _ (c .narrow .ensures)
+    thread-linked (s .args .roster .now) (s .args .map .now) (s .args .work .now) (s .args .i)
+    (sym (back5 .is-data-node .ensures) ∙ not-false _ (back4 .if1 .left)) _ (c .before .before .wide .ensures) _ (c .narrow .ensures)
 
 pub thread-node-spec : {M : Type 1} → statement M
 thread-node-spec =

@@ -4,14 +4,11 @@ use Prim.Native.Nat.{_≤_}
 use mathlib.Core.Path.{refl}
 use native.Mathlib.Omega.{arith}
 use lib.ListN.{length}
-use Rattle.strong_map.specs.Threads.{Groups, Threaded}
-use Rattle.strong_map.specs.Calls.{Labelled}
-use Rattle.strong_map.proofs.Loops.{threads-start, thread-ready, threads-step, threads-end}
+use Rattle.thread_settling.specs.Threads.{Groups, Threaded}
+use Rattle.thread_settling.specs.Calls.{Labelled}
+use Rattle.thread_settling.proofs.Loops.{threads-start, thread-ready, threads-step, threads-end}
 use Rattle.strong_map.proofs.thread_nodes.Statement.{statement}
 use Rattle.strong_map.proofs.thread_nodes.Tie as tie
-use Rattle.strong_map.proofs.thread_nodes.Reads as reads
-use Rattle.strong_map.proofs.thread_nodes.Lts as lts
-use Rattle.strong_map.proofs.thread_node.Reads as thread-node-reads
 
 abbrev Inv-loop : tie.InvT-loop
 Inv-loop roster map₀ work₀ i₀ map work i = (i ≤ length map₀) × ((g : Groups) → Labelled g roster map₀ work₀ → Threaded g i map₀ map work₀ work)
@@ -27,15 +24,22 @@ sub-i c = omega arith
 
 thread-node-requires : tie.Need-thread-node-requires Inv-loop μ-loop
 thread-node-requires c κs =
+    let back3 = c .before .before .before in
     let s = c .before .before .before .before .before .before .before in
-    thread-ready (s .pre .groups) _ _ _ (s .pre .state) _ _ _ _ (c .before .before .before .loop .inv .1 (s .pre .groups) (s .pre .state)) (c .before .before .before .loop .inv .0) (omega arith)
+    thread-ready (s .pre .groups) _ _ _ (s .pre .state) _ _ _ _ (back3 .loop .inv .1 (s .pre .groups) (s .pre .state)) (back3 .loop .inv .0)
+    (omega arith)
 
 loop-less : tie.Need-loop-less Inv-loop μ-loop
 loop-less c = omega arith
 
 loop-again : tie.Need-loop-again Inv-loop μ-loop
 loop-again c =
-    (omega arith, λ g l. threads-step g _ _ _ l _ _ _ _ (c .before .before .before .before .before .before .before .before .loop .inv .1 g l) (c .before .before .before .before .before .before .before .before .loop .inv .0) (omega arith) _ _ (c .before .before .before .before .thread-node .ensures))
+    let back4 = c .before .before .before .before in
+    let back8 = back4 .before .before .before .before in (
+      omega arith,
+      λ g l. threads-step g _ _ _ l _ _ _ _ (back8 .loop .inv .1 g l) (back8 .loop .inv .0) (omega arith) _ _
+          (back4 .thread-node .ensures),
+    )
 
 same-length : tie.Need-same-length Inv-loop μ-loop
 same-length c =

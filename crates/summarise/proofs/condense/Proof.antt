@@ -5,10 +5,6 @@ use Rattle.summarise.proofs.Answers.{all-below, condensed-by}
 use borrow.Author.Needs.{needs}
 use Rattle.summarise.proofs.condense.Statement.{statement}
 use Rattle.summarise.proofs.condense.Tie as tie
-use Rattle.summarise.proofs.condense.Reads as reads
-use Rattle.summarise.proofs.condense.Lts as lts
-use Rattle.summarise.proofs.condense_by.Reads as condense-by-reads
-use Rattle.weak_map.proofs.weak_map.Reads as weak-map-reads
 
 weak-map-requires : tie.Need-weak-map-requires
 weak-map-requires c κs = search needs
@@ -37,7 +33,8 @@ returns c =
     let start = back11 .before .before .before .before .before .before .before .before in
     let a = start .args in
     let m = mapOf (a .words) (a .roster .now) (first (a .table .now) (a .count)) in
-    condensed-by (a .roster .now) m _ (length-map-of _ _ _) (back11 .weak-map .ensures .0) _ (a .result .now) (a .map .now) (a .work .now) _ (start .pre .2) (back11 .weak-map .ensures .1) _ _ _ (back4 .condense-by .ensures)
+    condensed-by (a .roster .now) m _ (length-map-of _ _ _) (back11 .weak-map .ensures .0) _ (a .result .now) (a .map .now) (a .work .now) _
+    (start .pre .2) (back11 .weak-map .ensures .1) _ _ _ (back4 .condense-by .ensures)
 
 pub condense-spec : {M : Type 1} → statement M
 condense-spec =

@@ -2,11 +2,6 @@ use Rattle.summarise.proofs.Answers.{imaged-full, imaged-count}
 use borrow.Author.Needs.{needs}
 use Rattle.summarise.proofs.condense_by.Statement.{statement}
 use Rattle.summarise.proofs.condense_by.Tie as tie
-use Rattle.summarise.proofs.condense_by.Reads as reads
-use Rattle.summarise.proofs.condense_by.Lts as lts
-use Rattle.builder.proofs.finish.Reads as finish-reads
-use Rattle.lists.proofs.clear.Reads as clear-reads
-use Rattle.summarise.proofs.images.Reads as images-reads
 
 images-requires : tie.Need-images-requires
 images-requires c κs = search needs
@@ -29,7 +24,8 @@ returns c =
     let back8 = back6 .before .before in
     let back11 = back8 .before .before .before in
     let start = back11 .before .before .before .before .before .before in
-    imaged-full (start .args .table .now) (start .args .count) (start .args .map .now) (start .args .result .now) _ _ (back11 .images .ensures) (back8 .if1 .taken) _ _ (back6 .clear .ensures) (c .before .before .clear2 .ensures)
+    imaged-full (start .args .table .now) (start .args .count) (start .args .map .now) (start .args .result .now) _ _ (back11 .images .ensures)
+    (back8 .if1 .taken) _ _ (back6 .clear .ensures) (c .before .before .clear2 .ensures)
 
 finish-requires : tie.Need-finish-requires
 finish-requires c κs = c .before .before .before .before .images .ensures .built (c .before .if1 .left) .room
@@ -45,7 +41,8 @@ returns-2 c =
     let back4 = c .before .before .before .before in
     let back7 = back4 .before .before .before in
     let start = back7 .before .before .before .before .before .before in
-    imaged-count (start .args .table .now) (start .args .count) (start .args .map .now) (start .args .result .now) _ _ (back7 .images .ensures) (back4 .if1 .left) _ _ (c .before .before .finish .ensures)
+    imaged-count (start .args .table .now) (start .args .count) (start .args .map .now) (start .args .result .now) _ _ (back7 .images .ensures)
+    (back4 .if1 .left) _ _ (c .before .before .finish .ensures)
 
 pub condense-by-spec : {M : Type 1} → statement M
 condense-by-spec =

@@ -2,9 +2,6 @@ use Rattle.summarise.proofs.Moved.{image-is}
 use borrow.Author.Needs.{needs}
 use Rattle.summarise.proofs.image.Statement.{statement}
 use Rattle.summarise.proofs.image.Tie as tie
-use Rattle.summarise.proofs.image.Reads as reads
-use Rattle.summarise.proofs.image.Lts as lts
-use Rattle.lists.proofs.wide.Reads as wide-reads
 
 wide-requires : tie.Need-wide-requires
 wide-requires c κs = search needs
@@ -26,8 +23,9 @@ shared-slice-read-t10 c = search needs
 
 returns : tie.Need-returns
 returns c =
+    let back3 = c .before .before .before in
     let start = c .before .before .before .before .before in
-    image-is (start .args .map .now) (start .args .t) _ _ (start .pre) (c .before .before .before .wide .ensures) (c .before .wide2 .ensures)
+    image-is (start .args .map .now) (start .args .t) _ _ (start .pre) (back3 .wide .ensures) (c .before .wide2 .ensures)
 
 pub image-spec : {M : Type 1} → statement M
 image-spec =

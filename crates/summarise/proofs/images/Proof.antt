@@ -8,11 +8,6 @@ use Rattle.builder.proofs.Collecting.{Collecting, collecting-start, collecting-
 use Rattle.summarise.proofs.Moved.{below-at, image-at}
 use Rattle.summarise.proofs.images.Statement.{statement}
 use Rattle.summarise.proofs.images.Tie as tie
-use Rattle.summarise.proofs.images.Reads as reads
-use Rattle.summarise.proofs.images.Lts as lts
-use Rattle.builder.proofs.offer.Reads as offer-reads
-use Rattle.lists.proofs.triple_at.Reads as triple-at-reads
-use Rattle.summarise.proofs.image.Reads as image-reads
 
 abbrev Inv-loop : tie.InvT-loop
 Inv-loop table count map list₀ state₀ i₀ list state i = Collecting (λ (k : ℕ). moved (label map) (at table k)) count list₀ list state i
@@ -29,7 +24,8 @@ triple-at-requires c κs = omega (arith, c .loop-test .taken, c .before .before 
 image-requires : tie.Need-image-requires Inv-loop μ-loop
 image-requires c κs =
     let start = c .before .before .before .before .before .before .before in
-    below-at _ (start .args .table .now) (start .args .count) _ _ (start .pre .1) (c .before .before .loop-test .taken) (c .before .triple-at .ensures)
+    below-at _ (start .args .table .now) (start .args .count) _ _ (start .pre .1) (c .before .before .loop-test .taken)
+    (c .before .triple-at .ensures)
 
 offer-requires : tie.Need-offer-requires Inv-loop μ-loop
 offer-requires c κs = c .before .before .before .before .loop .inv .step .goes-on (c .before .before .before .before .loop .inv .going) .built
@@ -39,11 +35,15 @@ same-length c = search needs
 
 returns : tie.Need-returns Inv-loop μ-loop
 returns c =
+    let back3 = c .before .before .before in
+    let back4 = back3 .before in
     let back6 = c .before .before .before .before .before .before in
     let back7 = back6 .before in
     let back8 = back7 .before in
     let start = back8 .before .before .before .before in
-    collecting-full _ _ _ _ _ _ _ _ (back8 .loop .inv) _ (back7 .loop-test .taken) (image-at (start .args .map .now) (start .args .table .now) _ _ _ (back6 .triple-at .ensures) (c .before .before .before .before .image .ensures)) (c .before .before .before .offer .ensures) (c .if1 .taken)
+    collecting-full _ _ _ _ _ _ _ _ (back8 .loop .inv) _ (back7 .loop-test .taken)
+    (image-at (start .args .map .now) (start .args .table .now) _ _ _ (back6 .triple-at .ensures) (back4 .image .ensures))
+    (back3 .offer .ensures) (c .if1 .taken)
 
 add-i : tie.Need-add-i Inv-loop μ-loop
 add-i c = omega (arith, c .before .before .before .before .before .before .before .loop-test .taken)
@@ -53,11 +53,15 @@ loop-less c = omega (arith, c .before .before .before .before .before .before .b
 
 loop-again : tie.Need-loop-again Inv-loop μ-loop
 loop-again c =
+    let back3 = c .before .before .before in
+    let back4 = back3 .before in
     let back6 = c .before .before .before .before .before .before in
     let back7 = back6 .before in
     let back8 = back7 .before in
     let start = back8 .before .before .before .before in
-    collecting-next _ _ _ _ _ _ _ _ (back8 .loop .inv) _ (back7 .loop-test .taken) (image-at (start .args .map .now) (start .args .table .now) _ _ _ (back6 .triple-at .ensures) (c .before .before .before .before .image .ensures)) (c .before .before .before .offer .ensures) (c .if1 .left)
+    collecting-next _ _ _ _ _ _ _ _ (back8 .loop .inv) _ (back7 .loop-test .taken)
+    (image-at (start .args .map .now) (start .args .table .now) _ _ _ (back6 .triple-at .ensures) (back4 .image .ensures))
+    (back3 .offer .ensures) (c .if1 .left)
 
 same-length-2 : tie.Need-same-length-2 Inv-loop μ-loop
 same-length-2 c = c .before .loop .inv .step .size

@@ -3,11 +3,6 @@ use Rattle.summarise.proofs.Answers.{call-ready, call-refused, call-con
 use borrow.Author.Needs.{needs}
 use Rattle.summarise.proofs.summarise.Statement.{statement}
 use Rattle.summarise.proofs.summarise.Tie as tie
-use Rattle.summarise.proofs.summarise.Reads as reads
-use Rattle.summarise.proofs.summarise.Lts as lts
-use Rattle.summarise.proofs.condense.Reads as condense-reads
-use Rattle.summarise.proofs.lengths_wrong.Reads as lengths-wrong-reads
-use Rattle.table_checks.proofs.table_refusal.Reads as table-refusal-reads
 
 lengths-wrong-requires : tie.Need-lengths-wrong-requires
 lengths-wrong-requires c κs = search needs
@@ -23,14 +18,20 @@ enum-told c = search needs
 
 condense-requires : tie.Need-condense-requires
 condense-requires c κs =
+    let back3 = c .before .before .before in
+    let back5 = back3 .before .before in
     let back6 = c .before .before .before .before .before .before in
     let start = back6 .before .before .before .before .before .before in
-    call-ready _ (start .args .table .now) (start .args .roster .now) (start .args .result .now) (start .args .map .now) (start .args .work .now) _ (back6 .lengths-wrong .ensures) _ (c .before .before .before .before .before .table-refusal .ensures) (c .before .before .before .enum-told .given .1)
+    call-ready _ (start .args .table .now) (start .args .roster .now) (start .args .result .now) (start .args .map .now) (start .args .work .now) _
+    (back6 .lengths-wrong .ensures) _ (back5 .table-refusal .ensures) (back3 .enum-told .given .1)
 
 returns : tie.Need-returns
 returns c =
+    let back3 = c .before .before .before in
+    let back4 = back3 .before in
     let start = c .before .before .before .before .before .before .before .before .before .before in
-    call-refused _ (start .args .table .now) (start .args .roster .now) (start .args .result .now) (start .args .map .now) (start .args .work .now) _ (c .before .before .before .before .lengths-wrong .ensures) _ _ _ (c .before .before .before .table-refusal .ensures) (c .before .r .given .1)
+    call-refused _ (start .args .table .now) (start .args .roster .now) (start .args .result .now) (start .args .map .now) (start .args .work .now) _
+    (back4 .lengths-wrong .ensures) _ _ _ (back3 .table-refusal .ensures) (c .before .r .given .1)
 
 same-length : tie.Need-same-length
 same-length c = search needs
@@ -48,7 +49,9 @@ returns-2 c =
     let back12 = back10 .before .before in
     let back13 = back12 .before in
     let start = back13 .before .before .before .before .before .before in
-    call-condensed _ (start .args .table .now) (start .args .roster .now) (start .args .result .now) (start .args .map .now) (start .args .work .now) _ (back13 .lengths-wrong .ensures) _ (back12 .table-refusal .ensures) (back10 .enum-told .given .1) (mapOf (start .args .words) (start .args .roster .now)) _ _ _ _ (back6 .condense .ensures)
+    call-condensed _ (start .args .table .now) (start .args .roster .now) (start .args .result .now) (start .args .map .now) (start .args .work .now)
+    _ (back13 .lengths-wrong .ensures) _ (back12 .table-refusal .ensures) (back10 .enum-told .given .1)
+    (mapOf (start .args .words) (start .args .roster .now)) _ _ _ _ (back6 .condense .ensures)
 
 pub summarise-spec : {M : Type 1} → statement M
 summarise-spec =

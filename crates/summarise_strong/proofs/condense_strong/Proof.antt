@@ -7,10 +7,6 @@ use Rattle.summarise_strong.proofs.Places.{right-table, map-by-place}
 use borrow.Author.Needs.{needs}
 use Rattle.summarise_strong.proofs.condense_strong.Statement.{statement}
 use Rattle.summarise_strong.proofs.condense_strong.Tie as tie
-use Rattle.summarise_strong.proofs.condense_strong.Reads as reads
-use Rattle.summarise_strong.proofs.condense_strong.Lts as lts
-use Rattle.strong_map.proofs.strong_map.Reads as strong-map-reads
-use Rattle.summarise.proofs.condense_by.Reads as condense-by-reads
 
 strong-map-requires : tie.Need-strong-map-requires
 strong-map-requires c κs =
@@ -21,8 +17,11 @@ condense-by-requires : tie.Need-condense-by-requires
 condense-by-requires c κs =
     let back6 = c .before .before .before .before .before .before in
     let start = back6 .before .before .before .before .before .before .before .before in
-    let a = start .args in
-    (omega arith, all-below (a .roster .now) _ _ (length-strong-map _ _ _) (map-by-place _ (a .table .now) (a .roster .now) _ (back6 .strong-map .ensures .0)) (a .words) (a .table .now) _ (start .pre .0))
+    let a = start .args in (
+      omega arith,
+      all-below (a .roster .now) _ _ (length-strong-map _ _ _)
+          (map-by-place _ (a .table .now) (a .roster .now) _ (back6 .strong-map .ensures .0)) (a .words) (a .table .now) _ (start .pre .0),
+    )
 
 same-length : tie.Need-same-length
 same-length c = search needs
@@ -39,7 +38,8 @@ returns c =
     let back11 = back4 .before .before .before .before .before .before .before in
     let start = back11 .before .before .before .before .before .before .before .before in
     let a = start .args in
-    condensed-by (a .roster .now) _ _ (length-strong-map _ _ _) (map-by-place _ (a .table .now) (a .roster .now) _ (back11 .strong-map .ensures .0)) _ (a .result .now) (a .map .now) (a .work .now) _ (start .pre .1) (back11 .strong-map .ensures .1) _ _ _ (back4 .condense-by .ensures)
+    condensed-by (a .roster .now) _ _ (length-strong-map _ _ _) (map-by-place _ (a .table .now) (a .roster .now) _ (back11 .strong-map .ensures .0))
+    _ (a .result .now) (a .map .now) (a .work .now) _ (start .pre .1) (back11 .strong-map .ensures .1) _ _ _ (back4 .condense-by .ensures)
 
 pub condense-strong-spec : {M : Type 1} → statement M
 condense-strong-spec =

@@ -27,22 +27,26 @@ loop-holds c = walk-start _ _ _ (c .wide .ensures)
 
 mul-g : tie.Need-mul-g Inv-loop μ-loop
 mul-g c =
-    let w = walk-of (c .before .before .before .before .before .pre) (c .before .loop .inv) in
+    let start = c .before .before .before .before .before in
+    let w = walk-of (start .pre) (c .before .loop .inv) in
     omega (arith, walk-bounds _ _ _ _ _ _ w)
 
 slice-read-g : tie.Need-slice-read-g Inv-loop μ-loop
 slice-read-g c =
-    let w = walk-of (c .before .before .before .before .before .before .pre) (c .before .before .loop .inv) in
+    let start = c .before .before .before .before .before .before in
+    let w = walk-of (start .pre) (c .before .before .loop .inv) in
     omega (arith, walk-bounds _ _ _ _ _ _ w)
 
 mul-parent : tie.Need-mul-parent Inv-loop μ-loop
 mul-parent c =
-    let w = walk-of (c .before .before .before .before .before .before .pre) (c .before .before .loop .inv) in
+    let start = c .before .before .before .before .before .before in
+    let w = walk-of (start .pre) (c .before .before .loop .inv) in
     omega (arith, walk-bounds _ _ _ _ _ _ w)
 
 slice-write-parent : tie.Need-slice-write-parent Inv-loop μ-loop
 slice-write-parent c =
-    let w = walk-of (c .before .before .before .before .before .before .pre) (c .before .before .loop .inv) in
+    let start = c .before .before .before .before .before .before in
+    let w = walk-of (start .pre) (c .before .before .loop .inv) in
     omega (arith, walk-bounds _ _ _ _ _ _ w)
 
 wide-requires-2 : tie.Need-wide-requires-2 Inv-loop μ-loop
@@ -50,12 +54,16 @@ wide-requires-2 c κs = search needs
 
 mul-wide-2 : tie.Need-mul-wide-2 Inv-loop μ-loop
 mul-wide-2 c =
-    let w = walk-of (c .before .before .before .before .before .before .before .pre) (c .before .before .before .loop .inv) in
+    let back3 = c .before .before .before in
+    let start = back3 .before .before .before .before in
+    let w = walk-of (start .pre) (back3 .loop .inv) in
     omega (arith, walk-bounds _ _ _ _ _ _ w, c .wide2 .ensures)
 
 slice-read-wide-2 : tie.Need-slice-read-wide-2 Inv-loop μ-loop
 slice-read-wide-2 c =
-    let w = walk-of (c .before .before .before .before .before .before .before .before .pre) (c .before .before .before .before .loop .inv) in
+    let back4 = c .before .before .before .before in
+    let start = back4 .before .before .before .before in
+    let w = walk-of (start .pre) (back4 .loop .inv) in
     simp length-set (omega (arith, walk-bounds _ _ _ _ _ _ w, c .before .wide2 .ensures))
 
 wide-requires-3 : tie.Need-wide-requires-3 Inv-loop μ-loop
@@ -63,12 +71,17 @@ wide-requires-3 c κs = search needs
 
 loop-less : tie.Need-loop-less Inv-loop μ-loop
 loop-less c =
-    let w = walk-of (c .before .before .before .before .before .before .before .before .before .pre) (c .before .before .before .before .before .loop .inv) in
-    omega (arith, up-less _ _ _ _ _ _ w (c .before .before .before .before .loop-test .taken), c .before .before .wide2 .ensures)
+    let back4 = c .before .before .before .before in
+    let back5 = back4 .before in
+    let start = back5 .before .before .before .before in
+    let w = walk-of (start .pre) (back5 .loop .inv) in
+    omega (arith, up-less _ _ _ _ _ _ w (back4 .loop-test .taken), c .before .before .wide2 .ensures)
 
 loop-again : tie.Need-loop-again Inv-loop μ-loop
 loop-again c =
-    walk-step _ _ _ _ _ (c .before .before .before .before .before .loop .inv) (c .before .before .before .before .loop-test .taken) _ _ (c .before .before .wide2 .ensures) (c .wide3 .ensures)
+    let back4 = c .before .before .before .before in
+    let back5 = back4 .before in
+    walk-step _ _ _ _ _ (back5 .loop .inv) (back4 .loop-test .taken) _ _ (c .before .before .wide2 .ensures) (c .wide3 .ensures)
 
 same-length : tie.Need-same-length Inv-loop μ-loop
 same-length c = walk-of (c .before .before .before .before .before .pre) (c .before .loop .inv) .kept .len

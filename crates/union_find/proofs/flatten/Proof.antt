@@ -46,8 +46,10 @@ loop-less c = search needs
 
 loop-again : tie.Need-loop-again Inv-loop μ-loop
 loop-again c =
-    let d = c .before .before .before .before .loop .inv in
-    let h = c .before .before .before .loop-test .taken in
+    let back3 = c .before .before .before in
+    let back4 = back3 .before in
+    let d = back4 .loop .inv in
+    let h = back3 .loop-test .taken in
     ⊎-elim
     (λ w. done-set _ _ _ d h _ _ (c .before .wide .ensures) (w .0 .taken) (w .2))
     (λ w. done-keep _ _ _ d h _ _ (c .before .wide .ensures) (w .0 .left) (w .1))

@@ -14,25 +14,34 @@ use Rattle.union_find.proofs.union.Tie as tie
 -- after the two calls, for a test A
 abbrev Roots : tie.After-find2 → (ℕ → Bool) → Type 0
 Roots c A =
-    let s = c .before .before .before .before .before .before .before .args in
-    Both A (s .parent .now) (c .find2 .last .0) (s .a) (s .b) (c .before .before .before .before .find .result) (c .find2 .result)
+    let back4 = c .before .before .before .before in
+    let start = back4 .before .before .before in
+    let s = start .args in
+    Both A (s .parent .now) (c .find2 .last .0) (s .a) (s .b) (back4 .find .result) (c .find2 .result)
 
 -- for every A
 found : (c : tie.After-find2) (A : ℕ → Bool) → Forest A (c .before .before .before .before .before .before .before .args .parent .now)
-    → A (c .before .before .before .before .before .before .before .args .a) ≡ true → A (c .before .before .before .before .before .before .before .args .b) ≡ true → Roots c A
-found c A f p q = both A _ (c .before .before .before .before .find .last .0) _ _ _ _ _ f p q (c .before .before .before .before .find .ensures) (c .find2 .ensures)
+    → A (c .before .before .before .before .before .before .before .args .a) ≡ true → A
+    (c .before .before .before .before .before .before .before .args .b) ≡ true → Roots c A
+found c A f p q =
+    let back4 = c .before .before .before .before in
+    both A _ (back4 .find .last .0) _ _ _ _ _ f p q (back4 .find .ensures) (c .find2 .ensures)
 
 -- for the A of the call
 here : (c : tie.After-find2) → Roots c (c .before .before .before .before .before .before .before .pre .A)
-here c = let s = c .before .before .before .before .before .before .before .pre in found c (s .A) (s .forest) (s .left) (s .right)
+here c =
+    let start = c .before .before .before .before .before .before .before in
+    let s = start .pre in found c (s .A) (s .forest) (s .left) (s .right)
 
 find-requires : tie.Need-find-requires
 find-requires c κs = search needs
 
 find-requires-2 : tie.Need-find-requires-2
 find-requires-2 c κs =
-    let s = c .before .before .before .before .before .before .pre in
-    record { A = s .A; forest = c .before .before .before .find .ensures .keeps (s .A) (s .forest) (s .left) .forest; active = s .right }
+    let back3 = c .before .before .before in
+    let start = back3 .before .before .before in
+    let s = start .pre in
+    record { A = s .A; forest = back3 .find .ensures .keeps (s .A) (s .forest) (s .left) .forest; active = s .right }
 
 narrow-requires : tie.Need-narrow-requires
 narrow-requires c κs = omega (arith, both-bounds _ _ _ _ _ _ _ (here (c .before .before .before)))

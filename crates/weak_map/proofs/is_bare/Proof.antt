@@ -3,7 +3,7 @@
 use mathlib.Core.Path.{sym, _∙_}
 use native.Mathlib.Omega.{arith}
 use borrow.Author.Tests.{eqb-true, eqb-false}
-use Rattle.weak_map.proofs.Stores.{bare-absent, bare-marked, bare-plain}
+use Rattle.node_links.proofs.Stores.{bare-absent, bare-marked, bare-plain}
 use borrow.Author.Needs.{needs}
 use Rattle.weak_map.proofs.is_bare.Statement.{statement}
 use Rattle.weak_map.proofs.is_bare.Tie as tie
@@ -19,7 +19,8 @@ is-absent-requires c κs = search needs
 
 returns : tie.Need-returns
 returns c =
-    let s = c .before .before .before .before .before .before .args in
+    let start = c .before .before .before .before .before .before in
+    let s = start .args in
     bare-absent (s .roster .now) (s .map .now) (s .work .now) (s .i) (eqb-true _ _ (sym (c .before .is-absent .ensures) ∙ c .if1 .taken))
 
 shared-slice-read-if2 : tie.Need-shared-slice-read-if2
@@ -27,8 +28,10 @@ shared-slice-read-if2 c = search needs
 
 returns-2 : tie.Need-returns-2
 returns-2 c =
-    let s = c .before .before .before .before .before .before .before .before .args in
-    bare-marked (s .roster .now) (s .map .now) (s .work .now) (s .i) (eqb-false _ _ (sym (c .before .before .before .is-absent .ensures) ∙ c .before .before .if1 .left))
+    let back3 = c .before .before .before in
+    let start = back3 .before .before .before .before .before in
+    let s = start .args in
+    bare-marked (s .roster .now) (s .map .now) (s .work .now) (s .i) (eqb-false _ _ (sym (back3 .is-absent .ensures) ∙ c .before .before .if1 .left))
     (λ z. omega arith)
 
 mul-t6-2 : tie.Need-mul-t6-2
@@ -42,9 +45,12 @@ is-absent-requires-2 c κs = search needs
 
 returns-3 : tie.Need-returns-3
 returns-3 c =
-    let s = c .before .before .before .before .before .before .before .before .before .before .args in
+    let back4 = c .before .before .before .before in
+    let back5 = back4 .before in
+    let start = back5 .before .before .before .before .before in
+    let s = start .args in
     c .is-absent2 .ensures ∙ bare-plain (s .roster .now) (s .map .now) (s .work .now) (s .i)
-    (eqb-false _ _ (sym (c .before .before .before .before .before .is-absent .ensures) ∙ c .before .before .before .before .if1 .left)) (omega arith)
+    (eqb-false _ _ (sym (back5 .is-absent .ensures) ∙ back4 .if1 .left)) (omega arith)
 
 pub is-bare-spec : {M : Type 1} → statement M
 is-bare-spec =

@@ -21,26 +21,34 @@ loop-holds c = λ v ts s. joining-start v _ ts _ _ s _ refl
 join-bare-at-requires : tie.Need-join-bare-at-requires Inv-loop μ-loop
 join-bare-at-requires c κs =
     let s = c .before .before .before .before .before .before in
-    bare-joinable _ _ (s .pre .ts) _ _ (s .pre .state) _ _ _ (c .before .before .loop .inv (s .pre .words) (s .pre .ts) (s .pre .state)) (c .before .loop-test .taken)
+    bare-joinable _ _ (s .pre .ts) _ _ (s .pre .state) _ _ _ (c .before .before .loop .inv (s .pre .words) (s .pre .ts) (s .pre .state))
+    (c .before .loop-test .taken)
 
 add-i : tie.Need-add-i Inv-loop μ-loop
 add-i c =
-    let s = c .before .before .before .before .before .before .before .before .before .pre in
-    omega (arith, c .before .before .before .before .before .loop .inv (s .words) (s .ts) (s .state) .sound .size, room (s .words) _ (s .ts) (s .state .right))
+    let back5 = c .before .before .before .before .before in
+    let start = back5 .before .before .before .before in
+    let s = start .pre in
+    omega (arith, back5 .loop .inv (s .words) (s .ts) (s .state) .sound .size, room (s .words) _ (s .ts) (s .state .right))
 
 loop-less : tie.Need-loop-less Inv-loop μ-loop
 loop-less c =
-    let s = c .before .before .before .before .before .before .before .before .before .pre in
-    omega (arith, c .before .before .before .before .before .loop .inv (s .words) (s .ts) (s .state) .sound .size, s .state .linked .sound .size)
+    let back5 = c .before .before .before .before .before in
+    let start = back5 .before .before .before .before in
+    let s = start .pre in
+    omega (arith, back5 .loop .inv (s .words) (s .ts) (s .state) .sound .size, s .state .linked .sound .size)
 
 loop-again : tie.Need-loop-again Inv-loop μ-loop
 loop-again c =
-    λ v ts s. joining-step v _ ts _ _ s _ _ _ (c .before .before .before .before .before .loop .inv v ts s) (c .before .before .before .before .loop-test .taken) _ _
+    let back4 = c .before .before .before .before in
+    let back5 = back4 .before in
+    λ v ts s. joining-step v _ ts _ _ s _ _ _ (back5 .loop .inv v ts s) (back4 .loop-test .taken) _ _
     (c .before .before .join-bare-at .ensures)
 
 same-length : tie.Need-same-length Inv-loop μ-loop
 same-length c =
-    let s = c .before .before .before .before .before .pre in
+    let start = c .before .before .before .before .before in
+    let s = start .pre in
     c .before .loop .inv (s .words) (s .ts) (s .state) .sound .size ∙ sym (s .state .linked .sound .size)
 
 returns : tie.Need-returns Inv-loop μ-loop

@@ -2,7 +2,7 @@
 -- Assumes nothing.
 use mathlib.Core.Path.{sym, _∙_}
 use borrow.Author.Tests.{eqb-true, eqb-false, not-true, not-false}
-use Rattle.weak_map.proofs.Stores.{bare-skipped, bare-opened, bare-pair, bare-joined}
+use Rattle.node_links.proofs.Stores.{bare-skipped, bare-opened, bare-pair, bare-joined}
 use borrow.Author.Needs.{needs}
 use Rattle.weak_map.proofs.join_bare_at.Statement.{statement}
 use Rattle.weak_map.proofs.join_bare_at.Tie as tie
@@ -30,9 +30,11 @@ same-length-2 c = search needs
 
 returns-2 : tie.Need-returns-2
 returns-2 c =
+    let back3 = c .before .before .before in
+    let back4 = back3 .before in
     let s = c .before .before .before .before .before .before .before .before .before in
     bare-opened (s .args .roster .now) (s .args .map .now) (s .args .work .now) (s .args .i) (s .args .first)
-    (sym (c .before .before .before .before .is-bare .ensures) ∙ not-false _ (c .before .before .before .if1 .left))
+    (sym (back4 .is-bare .ensures) ∙ not-false _ (back3 .if1 .left))
     (eqb-true _ _ (sym (c .before .before .is-absent .ensures) ∙ c .before .if2 .taken)) _ (c .narrow .ensures)
 
 wide-requires : tie.Need-wide-requires
@@ -40,21 +42,29 @@ wide-requires c κs = search needs
 
 union-requires : tie.Need-union-requires
 union-requires c κs =
+    let back3 = c .before .before .before in
+    let back4 = back3 .before in
+    let back5 = back4 .before in
     let s = c .before .before .before .before .before .before .before .before .before .before in
     bare-pair (s .args .roster .now) (s .args .map .now) (s .args .work .now) (s .args .i) (s .args .first)
-    (sym (c .before .before .before .before .before .is-bare .ensures) ∙ not-false _ (c .before .before .before .before .if1 .left))
-    (eqb-false _ _ (sym (c .before .before .before .is-absent .ensures) ∙ c .before .before .if2 .left)) _ (c .wide .ensures) (s .pre)
+    (sym (back5 .is-bare .ensures) ∙ not-false _ (back4 .if1 .left))
+    (eqb-false _ _ (sym (back3 .is-absent .ensures) ∙ c .before .before .if2 .left)) _ (c .wide .ensures) (s .pre)
 
 same-length-3 : tie.Need-same-length-3
 same-length-3 c = search needs
 
 returns-3 : tie.Need-returns-3
 returns-3 c =
+    let back3 = c .before .before .before in
+    let back5 = back3 .before .before in
+    let back6 = back5 .before in
+    let back7 = back6 .before in
+    let back8 = back7 .before in
     let s = c .before .before .before .before .before .before .before .before .before .before .before .before .before in
     bare-joined (s .args .roster .now) (s .args .map .now) (s .args .work .now) (s .args .i) (s .args .first)
-    (sym (c .before .before .before .before .before .before .before .before .is-bare .ensures) ∙ not-false _ (c .before .before .before .before .before .before .before .if1 .left))
-    (eqb-false _ _ (sym (c .before .before .before .before .before .before .is-absent .ensures) ∙ c .before .before .before .before .before .if2 .left)) _
-    (c .before .before .before .wide .ensures) _ (c .before .before .union .ensures)
+    (sym (back8 .is-bare .ensures) ∙ not-false _ (back7 .if1 .left))
+    (eqb-false _ _ (sym (back6 .is-absent .ensures) ∙ back5 .if2 .left)) _
+    (back3 .wide .ensures) _ (c .before .before .union .ensures)
 
 pub join-bare-at-spec : {M : Type 1} → statement M
 join-bare-at-spec =

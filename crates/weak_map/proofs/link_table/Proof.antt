@@ -5,7 +5,7 @@ use mathlib.Core.Path.{sym, _∙_}
 use native.Mathlib.Omega.{arith}
 use Rattle.model.specs.Lists.{tabulate}
 use Rattle.lists.specs.Flat.{at}
-use Rattle.weak_map.specs.Linking.{Linked, Seen}
+use Rattle.node_links.specs.Linking.{Linked, Seen}
 use Rattle.weak_map.proofs.Tables.{place-inside, source-linkable, source-linked, target-linkable, target-linked, linked-all}
 use Rattle.weak_map.proofs.link_table.Statement.{statement}
 use Rattle.weak_map.proofs.link_table.Tie as tie
@@ -26,17 +26,24 @@ triple-at-requires c κs =
 
 link-end-requires : tie.Need-link-end-requires Inv-loop μ-loop
 link-end-requires c κs =
+    let back3 = c .before .before .before in
+    let back4 = back3 .before in
     let s = c .before .before .before .before .before .before .before .before .before in
-    source-linkable _ (s .args .table .now) (s .args .count) (s .args .roster .now) (s .pre .right) _ (c .before .before .before .loop-test .taken) _
-    (c .before .before .triple-at .ensures) _ _ (c .before .before .before .before .loop .inv .1)
+    source-linkable _ (s .args .table .now) (s .args .count) (s .args .roster .now) (s .pre .right) _ (back3 .loop-test .taken) _
+    (c .before .before .triple-at .ensures) _ _ (back4 .loop .inv .1)
 
 link-end-requires-2 : tie.Need-link-end-requires-2 Inv-loop μ-loop
 link-end-requires-2 c κs =
+    let back6 = c .before .before .before .before .before .before in
+    let back9 = back6 .before .before .before in
+    let back10 = back9 .before in
+    let back11 = back10 .before in
     let s = c .before .before .before .before .before .before .before .before .before .before .before .before .before .before .before .before in
-    let h = c .before .before .before .before .before .before .before .before .before .before .loop-test .taken in
-    let t = c .before .before .before .before .before .before .before .before .before .triple-at .ensures in
+    let h = back10 .loop-test .taken in
+    let t = back9 .triple-at .ensures in
     target-linkable _ (s .args .table .now) (s .args .count) (s .args .roster .now) (s .pre .right) _ h _ t _ _
-    (source-linked _ (s .args .table .now) (s .args .count) (s .args .roster .now) (s .pre .right) _ h _ t _ _ (c .before .before .before .before .before .before .before .before .before .before .before .loop .inv .1) _ _ (c .before .before .before .before .before .before .link-end .ensures))
+    (source-linked _ (s .args .table .now) (s .args .count) (s .args .roster .now) (s .pre .right) _ h _ t _ _ (back11 .loop .inv .1) _ _
+    (back6 .link-end .ensures))
 
 add-i : tie.Need-add-i Inv-loop μ-loop
 add-i c = omega arith
@@ -46,13 +53,19 @@ loop-less c = omega arith
 
 loop-again : tie.Need-loop-again Inv-loop μ-loop
 loop-again c =
+    let back4 = c .before .before .before .before in
+    let back11 = back4 .before .before .before .before .before .before .before in
+    let back14 = back11 .before .before .before in
+    let back15 = back14 .before in
+    let back16 = back15 .before in
     let s = c .before .before .before .before .before .before .before .before .before .before .before .before .before .before .before .before .before .before .before .before .before in
-    let h = c .before .before .before .before .before .before .before .before .before .before .before .before .before .before .before .loop-test .taken in
-    let t = c .before .before .before .before .before .before .before .before .before .before .before .before .before .before .triple-at .ensures in (
+    let h = back15 .loop-test .taken in
+    let t = back14 .triple-at .ensures in (
       omega arith,
       target-linked _ (s .args .table .now) (s .args .count) (s .args .roster .now) (s .pre .right) _ h _ t _ _
-          (source-linked _ (s .args .table .now) (s .args .count) (s .args .roster .now) (s .pre .right) _ h _ t _ _ (c .before .before .before .before .before .before .before .before .before .before .before .before .before .before .before .before .loop .inv .1) _ _ (c .before .before .before .before .before .before .before .before .before .before .before .link-end .ensures))
-          _ _ (c .before .before .before .before .link-end2 .ensures),
+          (source-linked _ (s .args .table .now) (s .args .count) (s .args .roster .now) (s .pre .right) _ h _ t _ _ (back16 .loop .inv .1) _ _
+          (back11 .link-end .ensures))
+          _ _ (back4 .link-end2 .ensures),
     )
 
 same-length : tie.Need-same-length Inv-loop μ-loop

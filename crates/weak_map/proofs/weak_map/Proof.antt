@@ -14,16 +14,20 @@ empty-requires-2 c κs = search needs
 
 open-nodes-requires : tie.Need-open-nodes-requires
 open-nodes-requires c κs =
+    let back7 = c .before .before .before .before .before .before .before in
     let s = c .before .before .before .before .before .before .before .before .before .before .before .before .before in
     openable _ (s .args .table .now) (s .args .count) (s .args .roster .now) (s .args .map .now) (s .args .work .now) (s .pre) _
-    (c .before .before .before .before .before .before .before .empty .ensures)
+    (back7 .empty .ensures)
 
 link-table-requires : tie.Need-link-table-requires
 link-table-requires c κs =
+    let back4 = c .before .before .before .before in
+    let back8 = back4 .before .before .before .before in
+    let back12 = back8 .before .before .before .before in
     let s = c .before .before .before .before .before .before .before .before .before .before .before .before .before .before .before .before .before .before in
     started _ (s .args .table .now) (s .args .count) (s .args .roster .now) (s .args .map .now) (s .args .work .now) (s .pre) _
-    (c .before .before .before .before .before .before .before .before .before .before .before .before .empty .ensures) _
-    (c .before .before .before .before .before .before .before .before .empty2 .ensures) _ (c .before .before .before .before .open-nodes .ensures)
+    (back12 .empty .ensures) _
+    (back8 .empty2 .ensures) _ (back4 .open-nodes .ensures)
 
 join-bare-requires : tie.Need-join-bare-requires
 join-bare-requires c κs = record { words = _; ts = _; state = c .before .before .before .before .before .before .link-table .ensures }
@@ -42,11 +46,14 @@ same-length-2 c = search needs
 
 returns : tie.Need-returns
 returns c =
+    let back6 = c .before .before .before .before .before .before in
+    let back10 = back6 .before .before .before .before in
+    let back17 = back10 .before .before .before .before .before .before .before in
     let s = c .before .before .before .before .before .before .before .before .before .before .before .before .before .before .before .before .before .before .before .before .before .before .before .before .before .before .before .before .before .before .before .before .before .before .before .before in
     called _ (s .args .table .now) (s .args .count) (s .args .roster .now) (s .args .map .now) (s .args .work .now) (s .pre) _ _ _ _ _ _
-    (c .before .before .before .before .before .before .before .before .before .before .before .before .before .before .before .before .before .link-table .ensures)
-    (c .before .before .before .before .before .before .before .before .before .before .join-bare .ensures _ _ (c .before .before .before .before .before .before .before .before .before .before .before .before .before .before .before .before .before .link-table .ensures))
-    (c .before .before .before .before .before .before .flatten .ensures) (c .before .before .clear .ensures) (omega arith)
+    (back17 .link-table .ensures)
+    (back10 .join-bare .ensures _ _ (back17 .link-table .ensures))
+    (back6 .flatten .ensures) (c .before .before .clear .ensures) (omega arith)
 
 pub weak-map-spec : {M : Type 1} → statement M
 weak-map-spec =

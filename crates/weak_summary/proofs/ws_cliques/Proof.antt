@@ -2,8 +2,8 @@
 -- Assumes nothing.
 use mathlib.Core.Path.{_∙_, ap, refl}
 use borrow.Author.Needs.{needs}
-use Rattle.weak_summary.proofs.Words.{one, by-wrong, by-right}
-use Rattle.weak_summary.specs.Status.{statusOf}
+use Rattle.call_numbers.proofs.Words.{one, by-wrong, by-right}
+use Rattle.call_numbers.specs.Status.{statusOf}
 use Rattle.weak_summary.proofs.ws_cliques.Statement.{statement}
 use Rattle.weak_summary.proofs.ws_cliques.Tie as tie
 
@@ -29,7 +29,15 @@ same-length-2 : tie.Need-same-length-2
 same-length-2 c = search needs
 
 returns-2 : tie.Need-returns-2
-returns-2 c = by-right (c .before .before .before .before .before .before .before .before .before .if1 .left) _ (c .before .before .before .before .before .before .before .before .words-of .ensures) (c .done-status .ensures ∙ ap statusOf (c .before .before .before .before .before .cliques .ensures .answer), c .before .before .before .before .before .cliques .ensures .in-sources, c .before .before .before .before .before .cliques .ensures .in-targets)
+returns-2 c =
+    let back5 = c .before .before .before .before .before in
+    let back8 = back5 .before .before .before in
+    let back9 = back8 .before in
+    by-right (back9 .if1 .left) _ (back8 .words-of .ensures) (
+      c .done-status .ensures ∙ ap statusOf (back5 .cliques .ensures .answer),
+      back5 .cliques .ensures .in-sources,
+      back5 .cliques .ensures .in-targets,
+    )
 
 pub ws-cliques-spec : {M : Type 1} → statement M
 ws-cliques-spec =

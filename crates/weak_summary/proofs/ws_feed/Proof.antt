@@ -2,7 +2,7 @@
 -- Assumes nothing.
 use mathlib.Core.Path.{refl}
 use borrow.Author.Needs.{needs}
-use Rattle.weak_summary.proofs.Words.{one, by-wrong, by-right}
+use Rattle.call_numbers.proofs.Words.{one, by-wrong, by-right}
 use Rattle.model.specs.Outcomes.{found}
 use Rattle.weak_summary.proofs.ws_feed.Statement.{statement}
 use Rattle.weak_summary.proofs.ws_feed.Tie as tie
@@ -35,8 +35,13 @@ same-length-4 : tie.Need-same-length-4
 same-length-4 c = search needs
 
 returns-2 : tie.Need-returns-2
-returns-2 c = let f = c .before .before .before .before .before .before .before .before .before .before .feed-lists in
-    by-right (c .before .before .before .before .before .before .before .before .before .before .before .before .before .before .before .before .before .before .if1 .left) _ (c .before .before .before .before .before .before .before .before .before .before .before .before .before .before .before .before .before .words-of .ensures) (record { outcome = found (f .result .answer); fed = f .ensures; stores = c .found-status .ensures })
+returns-2 c =
+    let back10 = c .before .before .before .before .before .before .before .before .before .before in
+    let back17 = back10 .before .before .before .before .before .before .before in
+    let back18 = back17 .before in
+    let f = back10 .feed-lists in
+    by-right (back18 .if1 .left) _ (back17 .words-of .ensures)
+    (record { outcome = found (f .result .answer); fed = f .ensures; stores = c .found-status .ensures })
 
 pub ws-feed-spec : {M : Type 1} → statement M
 ws-feed-spec =

@@ -2,8 +2,8 @@
 -- Assumes nothing.
 use mathlib.Core.Path.{ap}
 use borrow.Author.Needs.{needs}
-use Rattle.weak_summary.specs.Status.{bits}
-use Rattle.weak_summary.proofs.Outcomes.{stores-as}
+use Rattle.call_numbers.specs.Status.{bits}
+use Rattle.call_numbers.proofs.Outcomes.{stores-as}
 use Rattle.weak_summary.proofs.ws_look_up.Statement.{statement}
 use Rattle.weak_summary.proofs.ws_look_up.Tie as tie
 

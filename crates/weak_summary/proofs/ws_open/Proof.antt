@@ -2,7 +2,7 @@
 -- Assumes nothing.
 use mathlib.Core.Path.{refl}
 use borrow.Author.Needs.{needs}
-use Rattle.weak_summary.proofs.Words.{one, by-wrong, by-right}
+use Rattle.call_numbers.proofs.Words.{one, by-wrong, by-right}
 use Rattle.weak_summary.proofs.Calls.{open-status}
 use Rattle.weak_summary.proofs.ws_open.Statement.{statement}
 use Rattle.weak_summary.proofs.ws_open.Tie as tie
@@ -32,7 +32,11 @@ same-length-3 : tie.Need-same-length-3
 same-length-3 c = search needs
 
 returns-2 : tie.Need-returns-2
-returns-2 c = by-right (c .before .before .before .before .before .before .before .before .before .before .before .before .before .before .if1 .left) _ (c .before .before .before .before .before .before .before .before .before .before .before .before .before .words-of .ensures) (open-status _ _ _ _ _ _ (c .before .before .before .before .before .before .before .open-counts .ensures) (c .done-status .ensures))
+returns-2 c =
+    let back7 = c .before .before .before .before .before .before .before in
+    let back13 = back7 .before .before .before .before .before .before in
+    let back14 = back13 .before in
+    by-right (back14 .if1 .left) _ (back13 .words-of .ensures) (open-status _ _ _ _ _ _ (back7 .open-counts .ensures) (c .done-status .ensures))
 
 pub ws-open-spec : {M : Type 1} → statement M
 ws-open-spec =

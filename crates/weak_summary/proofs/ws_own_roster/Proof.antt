@@ -2,8 +2,8 @@
 -- Assumes nothing.
 use mathlib.Core.Path.{_∙_, ap, refl}
 use borrow.Author.Needs.{needs}
-use Rattle.weak_summary.proofs.Words.{one, by-wrong, by-right}
-use Rattle.weak_summary.specs.Status.{statusOf}
+use Rattle.call_numbers.proofs.Words.{one, by-wrong, by-right}
+use Rattle.call_numbers.specs.Status.{statusOf}
 use Rattle.weak_summary.proofs.ws_own_roster.Statement.{statement}
 use Rattle.weak_summary.proofs.ws_own_roster.Tie as tie
 
@@ -26,7 +26,12 @@ same-length : tie.Need-same-length
 same-length c = search needs
 
 returns-2 : tie.Need-returns-2
-returns-2 c = let h = c .before .before .before .own-roster .ensures in by-right (c .before .before .before .before .before .before .if1 .left) _ (c .before .before .before .before .before .words-of .ensures) (c .done-status .ensures ∙ ap statusOf (h .answer), h .leaves)
+returns-2 c =
+    let back3 = c .before .before .before in
+    let back5 = back3 .before .before in
+    let back6 = back5 .before in
+    let h = back3 .own-roster .ensures in by-right (back6 .if1 .left) _ (back5 .words-of .ensures)
+    (c .done-status .ensures ∙ ap statusOf (h .answer), h .leaves)
 
 pub ws-own-roster-spec : {M : Type 1} → statement M
 ws-own-roster-spec =

@@ -1,12 +1,7 @@
 use borrow.Author.Needs.{needs}
 use Prim.Native.Nat.{_-_}
-use lib.ListN.{length}
-use mathlib.Core.Path.{_≡_}
 use Rattle.compare.proofs.queries.all.Statement.{statement}
 use Rattle.compare.proofs.queries.all.Tie as tie
-use Rattle.compare.proofs.queries.all.Reads as reads
-use Rattle.compare.proofs.queries.all.Lts as lts
-use Rattle.compare.proofs.queries.ask_case.Reads as ask-case-reads
 
 abbrev Inv-loop : tie.InvT-loop
 Inv-loop tally₀ seed₀ tally seed = Unit {0}

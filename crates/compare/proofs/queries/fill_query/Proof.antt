@@ -4,12 +4,6 @@ use lib.ListN.{length}
 use mathlib.Core.Path.{_≡_}
 use Rattle.compare.proofs.queries.fill_query.Statement.{statement}
 use Rattle.compare.proofs.queries.fill_query.Tie as tie
-use Rattle.compare.proofs.queries.fill_query.Reads as reads
-use Rattle.compare.proofs.queries.fill_query.Lts as lts
-use Rattle.compare.proofs.queries.count_of.Reads as count-of-reads
-use Rattle.compare.proofs.queries.put_pattern.Reads as put-pattern-reads
-use Rattle.comparison.proofs.random.mix.Reads as mix-reads
-use Rattle.comparison.proofs.random.set.Reads as set-reads
 
 abbrev Inv-loop : tie.InvT-loop
 Inv-loop query₀ seed list k₀ query k = (length query ≡ length query₀)

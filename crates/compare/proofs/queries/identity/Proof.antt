@@ -4,9 +4,6 @@ use lib.ListN.{length}
 use mathlib.Core.Path.{_≡_}
 use Rattle.compare.proofs.queries.identity.Statement.{statement}
 use Rattle.compare.proofs.queries.identity.Tie as tie
-use Rattle.compare.proofs.queries.identity.Reads as reads
-use Rattle.compare.proofs.queries.identity.Lts as lts
-use Rattle.std.proofs.num.wrapping_add_u32.Reads as wrapping-add-u32-reads
 
 abbrev Inv-loop : tie.InvT-loop
 Inv-loop map₀ i₀ code₀ map i code = (length map ≡ length map₀)

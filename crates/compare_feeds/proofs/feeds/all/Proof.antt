@@ -2,9 +2,6 @@ use borrow.Author.Needs.{needs}
 use Prim.Native.Nat.{_-_}
 use Rattle.compare_feeds.proofs.feeds.all.Statement.{statement}
 use Rattle.compare_feeds.proofs.feeds.all.Tie as tie
-use Rattle.compare_feeds.proofs.feeds.all.Reads as reads
-use Rattle.compare_feeds.proofs.feeds.all.Lts as lts
-use Rattle.compare_feeds.proofs.feeds.intake_case.Reads as intake-case-reads
 
 abbrev Inv-loop : tie.InvT-loop
 Inv-loop tally₀ seed₀ tally seed = Unit {0}
@@ -15,8 +12,8 @@ abbrev μ-loop : tie.MeasureT-loop
 loop-holds : tie.Need-loop-holds Inv-loop μ-loop
 loop-holds c = search needs
 
-intake-case-requires : tie.Need-intake-case-requires Inv-loop μ-loop
-intake-case-requires c κs = search needs
+fed-case-requires : tie.Need-fed-case-requires Inv-loop μ-loop
+fed-case-requires c κs = search needs
 
 add-seed : tie.Need-add-seed Inv-loop μ-loop
 add-seed c = search needs
@@ -33,12 +30,4 @@ returns c = search needs
 pub all-spec : {M : Type 1} → statement M
 all-spec =
     tie.close
-    (tie.spec
-    Inv-loop
-    μ-loop
-    loop-holds
-    intake-case-requires
-    add-seed
-    loop-less
-    loop-again
-    returns)
+    (tie.spec Inv-loop μ-loop loop-holds fed-case-requires add-seed loop-less loop-again returns)

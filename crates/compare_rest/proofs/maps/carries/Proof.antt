@@ -2,10 +2,6 @@ use borrow.Author.Needs.{needs}
 use Prim.Native.Nat.{_-_}
 use Rattle.compare_rest.proofs.maps.carries.Statement.{statement}
 use Rattle.compare_rest.proofs.maps.carries.Tie as tie
-use Rattle.compare_rest.proofs.maps.carries.Reads as reads
-use Rattle.compare_rest.proofs.maps.carries.Lts as lts
-use Rattle.compare_rest.proofs.maps.entry.Reads as entry-reads
-use Rattle.comparison.proofs.random.at_most.Reads as at-most-reads
 
 abbrev Inv-loop : tie.InvT-loop
 Inv-loop first second n code₀ code = Unit {0}

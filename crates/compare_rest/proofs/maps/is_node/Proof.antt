@@ -2,9 +2,6 @@ use borrow.Author.Needs.{needs}
 use Prim.Native.Nat.{_-_}
 use Rattle.compare_rest.proofs.maps.is_node.Statement.{statement}
 use Rattle.compare_rest.proofs.maps.is_node.Tie as tie
-use Rattle.compare_rest.proofs.maps.is_node.Reads as reads
-use Rattle.compare_rest.proofs.maps.is_node.Lts as lts
-use Rattle.comparison.proofs.random.get.Reads as get-reads
 
 abbrev Inv-loop : tie.InvT-loop
 Inv-loop table code count i₀ i = Unit {0}

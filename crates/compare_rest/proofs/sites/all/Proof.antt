@@ -2,11 +2,6 @@ use borrow.Author.Needs.{needs}
 use Prim.Native.Nat.{_-_}
 use Rattle.compare_rest.proofs.sites.all.Statement.{statement}
 use Rattle.compare_rest.proofs.sites.all.Tie as tie
-use Rattle.compare_rest.proofs.sites.all.Reads as reads
-use Rattle.compare_rest.proofs.sites.all.Lts as lts
-use Rattle.compare_rest.proofs.sites.site_case.Reads as site-case-reads
-use Rattle.comparison.proofs.report.reworked.Reads as reworked-reads
-use Rattle.std.proofs.num.wrapping_add_u64.Reads as wrapping-add-u64-reads
 
 abbrev Inv-loop : tie.InvT-loop
 Inv-loop tally₀ count₀ seed₀ tally count seed = Unit {0}

@@ -1,0 +1,61 @@
+-- The outcome of ask, branch by branch.
+-- Assumes nothing.
+use Prim.Native.Nat.{ℕ, _/_, _<_}
+use native.Mathlib.Omega.{arith}
+use mathlib.Core.Path.{_≡_, sym, _∙_}
+use mathlib.Core.Bool.{Bool, true, false}
+use mathlib.Core.List.{List}
+use lib.ListN.{length}
+use Rattle.model.specs.declared.Vocabulary.{Vocabulary}
+use Rattle.model.specs.Codes.{wrongWords}
+use Rattle.model.specs.Lists.{any, tabulate}
+use Rattle.model.specs.Triples.{triples}
+use Rattle.model.specs.Roster.{wrongCodes}
+use Rattle.model.specs.declared.Refusal.the-variants.{Length, Words as WrongWords, Code as WrongCode, Query as WrongQuery}
+use Rattle.model.specs.Outcomes.{decided, refusalNumber, wrongSize, wrongLength}
+use Rattle.lists.specs.Flat.{at}
+use Rattle.query.specs.declared.Query.{Query}
+use Rattle.query.specs.declared.Asked.the-variants.{Maybe, None, Refused}
+use Rattle.query.specs.Ask.{unbound, search, wrongQuery, askChecks, askOutcome, asked}
+use Rattle.query_parts.specs.Parts.{stepAt}
+use Rattle.query.proofs.Steps.{some-pattern}
+use Rattle.query_search.proofs.Tries.{search-all}
+
+module _ (v : Vocabulary) where
+  -- ── the outcome ──
+  module _ (table map : List ℕ) (q : Query) {x₁ : Bool} (e₁ : x₁ ≡ wrongSize (length map)) where
+    pub wrong-size : x₁ ≡ true → asked (Refused Length) ≡ askOutcome v table map q
+    unfolding askOutcome askChecks decided asked refusalNumber
+    wrong-size h = rw (← e₁, h)
+
+    module _ (h₁ : x₁ ≡ false) {x₂ : Bool} (e₂ : x₂ ≡ wrongLength (length table)) where
+      pub wrong-length : x₂ ≡ true → asked (Refused Length) ≡ askOutcome v table map q
+      unfolding askOutcome askChecks decided asked refusalNumber
+      wrong-length h = rw (← e₁, h₁, ← e₂, h)
+
+      module _ (h₂ : x₂ ≡ false) {x₀ : Bool} (e₀ : x₀ ≡ wrongWords v (length map)) where
+        pub wrong-words : x₀ ≡ true → asked (Refused WrongWords) ≡ askOutcome v table map q
+        unfolding askOutcome askChecks decided asked refusalNumber
+        wrong-words h = rw (← e₁, h₁, ← e₂, h₂, ← e₀, h)
+
+        module _ (h₀ : x₀ ≡ false) {x₃ : Bool} (e₃ : x₃ ≡ wrongCodes v (length map) (triples table)) where
+          pub wrong-codes : x₃ ≡ true → asked (Refused WrongCode) ≡ askOutcome v table map q
+          unfolding askOutcome askChecks decided asked refusalNumber
+          wrong-codes h = rw (← e₁, h₁, ← e₂, h₂, ← e₀, h₀, ← e₃, h)
+
+          module _ (h₃ : x₃ ≡ false) {x₄ : Bool} (e₄ : x₄ ≡ wrongQuery (length map) q) where
+            pub wrong-query : x₄ ≡ true → asked (Refused WrongQuery) ≡ askOutcome v table map q
+            unfolding askOutcome askChecks decided asked refusalNumber
+            wrong-query h = rw (← e₁, h₁, ← e₂, h₂, ← e₀, h₀, ← e₃, h₃, ← e₄, h)
+
+            module _ (h₄ : x₄ ≡ false) (n : ℕ) (m : n ≡ length table / 3) {x : Bool} (e : x ≡ any (stepAt table map q 0 unbound) (tabulate (at table) 0 n)) where
+              searched : x ≡ search (triples table) map (q .patterns) (q .count) 0 unbound
+              searched = let l : 0 < q .count = some-pattern (length map) q (sym e₄ ∙ h₄) in e ∙ search-all table map q (q .count) 0 unbound n (omega arith) m
+
+              pub answer-maybe : x ≡ true → asked Maybe ≡ askOutcome v table map q
+              unfolding askOutcome askChecks decided asked
+              answer-maybe h = rw (← e₁, h₁, ← e₂, h₂, ← e₀, h₀, ← e₃, h₃, ← e₄, h₄, ← searched, h)
+
+              pub answer-none : x ≡ false → asked None ≡ askOutcome v table map q
+              unfolding askOutcome askChecks decided asked
+              answer-none h = rw (← e₁, h₁, ← e₂, h₂, ← e₀, h₀, ← e₃, h₃, ← e₄, h₄, ← searched, h)

@@ -1,0 +1,138 @@
+use mathlib.Core.Path.{sym, _∙_}
+use native.Mathlib.Omega.{arith}
+use Rattle.query.proofs.Steps.{some-pattern}
+use Rattle.ask.proofs.Answers.{wrong-size, wrong-length, wrong-words, wrong-codes, wrong-query, answer-maybe, answer-none}
+use borrow.Author.Needs.{needs}
+use Rattle.ask.proofs.ask.Statement.{statement}
+use Rattle.ask.proofs.ask.Tie as tie
+
+size-wrong-requires : tie.Need-size-wrong-requires
+size-wrong-requires c κs = search needs
+
+returns : tie.Need-returns
+returns c =
+    let start = c .before .before .before .before in
+    let x = start .args in
+    wrong-size _ (x .table .now) (x .map .now) (x .q) (c .before .size-wrong .ensures) (c .if1 .taken)
+
+length-wrong-requires : tie.Need-length-wrong-requires
+length-wrong-requires c κs = search needs
+
+returns-2 : tie.Need-returns-2
+returns-2 c =
+    let back3 = c .before .before .before in
+    let start = back3 .before .before .before in
+    let x = start .args in
+    wrong-length _ (x .table .now) (x .map .now) (x .q) (back3 .size-wrong .ensures) (c .before .before .if1 .left)
+    (c .before .length-wrong .ensures) (c .if2 .taken)
+
+words-wrong-requires : tie.Need-words-wrong-requires
+words-wrong-requires c κs = search needs
+
+returns-3 : tie.Need-returns-3
+returns-3 c =
+    let back3 = c .before .before .before in
+    let back4 = back3 .before in
+    let back5 = back4 .before in
+    let start = back5 .before .before .before in
+    let x = start .args in
+    wrong-words _ (x .table .now) (x .map .now) (x .q) (back5 .size-wrong .ensures) (back4 .if1 .left) (back3 .length-wrong .ensures)
+    (c .before .before .if2 .left) (c .before .words-wrong .ensures) (c .if3 .taken)
+
+codes-wrong-requires : tie.Need-codes-wrong-requires
+codes-wrong-requires c κs = search needs
+
+returns-4 : tie.Need-returns-4
+returns-4 c =
+    let back3 = c .before .before .before in
+    let back4 = back3 .before in
+    let back5 = back4 .before in
+    let back6 = back5 .before in
+    let back7 = back6 .before in
+    let start = back7 .before .before .before in
+    let x = start .args in
+    wrong-codes _ (x .table .now) (x .map .now) (x .q) (back7 .size-wrong .ensures) (back6 .if1 .left) (back5 .length-wrong .ensures)
+    (back4 .if2 .left) (back3 .words-wrong .ensures) (c .before .before .if3 .left) (c .before .codes-wrong .ensures) (c .if4 .taken)
+
+query-wrong-requires : tie.Need-query-wrong-requires
+query-wrong-requires c κs = search needs
+
+returns-5 : tie.Need-returns-5
+returns-5 c =
+    let back3 = c .before .before .before in
+    let back4 = back3 .before in
+    let back5 = back4 .before in
+    let back6 = back5 .before in
+    let back7 = back6 .before in
+    let back8 = back7 .before in
+    let back9 = back8 .before in
+    let start = back9 .before .before .before in
+    let x = start .args in
+    wrong-query _ (x .table .now) (x .map .now) (x .q) (back9 .size-wrong .ensures) (back8 .if1 .left) (back7 .length-wrong .ensures)
+    (back6 .if2 .left) (back5 .words-wrong .ensures) (back4 .if3 .left) (back3 .codes-wrong .ensures) (c .before .before .if4 .left)
+    (c .before .query-wrong .ensures) (c .if5 .taken)
+
+known-rising-requires : tie.Need-known-rising-requires
+known-rising-requires c κs = search needs
+
+try-pattern-requires : tie.Need-try-pattern-requires
+try-pattern-requires c κs =
+    let start = c .before .before .before .before .before .before .before .before .before .before .before .before .before in
+    let x = start .args in
+    let right = sym (c .before .before .query-wrong .ensures) ∙ c .before .if5 .left in
+    (right, some-pattern _ (x .q) right, omega arith, omega arith, c .known-rising .ensures)
+
+returns-6 : tie.Need-returns-6
+returns-6 c =
+    let back3 = c .before .before .before in
+    let back4 = back3 .before in
+    let back5 = back4 .before in
+    let back6 = back5 .before in
+    let back7 = back6 .before in
+    let back8 = back7 .before in
+    let back9 = back8 .before in
+    let back10 = back9 .before in
+    let back11 = back10 .before in
+    let back12 = back11 .before in
+    let start = back12 .before .before .before in
+    let x = start .args in
+    answer-maybe _ (x .table .now) (x .map .now) (x .q) (back12 .size-wrong .ensures) (back11 .if1 .left) (back10 .length-wrong .ensures)
+    (back9 .if2 .left) (back8 .words-wrong .ensures) (back7 .if3 .left) (back6 .codes-wrong .ensures) (back5 .if4 .left)
+    (back4 .query-wrong .ensures) (back3 .if5 .left) _ (omega arith) (c .before .try-pattern .ensures) (c .if6 .taken)
+
+returns-7 : tie.Need-returns-7
+returns-7 c =
+    let back3 = c .before .before .before in
+    let back4 = back3 .before in
+    let back5 = back4 .before in
+    let back6 = back5 .before in
+    let back7 = back6 .before in
+    let back8 = back7 .before in
+    let back9 = back8 .before in
+    let back10 = back9 .before in
+    let back11 = back10 .before in
+    let back12 = back11 .before in
+    let start = back12 .before .before .before in
+    let x = start .args in
+    answer-none _ (x .table .now) (x .map .now) (x .q) (back12 .size-wrong .ensures) (back11 .if1 .left) (back10 .length-wrong .ensures)
+    (back9 .if2 .left) (back8 .words-wrong .ensures) (back7 .if3 .left) (back6 .codes-wrong .ensures) (back5 .if4 .left)
+    (back4 .query-wrong .ensures) (back3 .if5 .left) _ (omega arith) (c .before .try-pattern .ensures) (c .if6 .left)
+
+pub ask-spec : {M : Type 1} → statement M
+ask-spec =
+    tie.close
+    (tie.spec
+    size-wrong-requires
+    returns
+    length-wrong-requires
+    returns-2
+    words-wrong-requires
+    returns-3
+    codes-wrong-requires
+    returns-4
+    query-wrong-requires
+    returns-5
+    known-rising-requires
+    try-pattern-requires
+    returns-6
+    returns-7)

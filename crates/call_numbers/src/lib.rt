@@ -1,0 +1,100 @@
+// The outcome of a call and the reserved codes as numbers.
+
+ghost use mathlib.Core.Path.{_≡_};
+ghost use lib.ListN.{length};
+ghost use Rattle.model.specs.Codes.{codes};
+ghost use Rattle.model.specs.Outcomes.{done, counted, found};
+ghost use Rattle.query.specs.Ask.{asked};
+ghost use Rattle.call_numbers.specs.Status.{statusOf, bits, Stores};
+ghost use Rattle.call_numbers.specs.Words.{wordsOf};
+use model::Counted;
+use model::Done;
+use model::Found;
+use model::Vocabulary;
+use model::refusal_number;
+use query::Asked;
+
+// The numbers of a word table: the reserved codes of type, subclass, subproperty, domain and range.
+pub const WORDS_NUMBERS: usize = 5;
+
+pub fn done_status(d: Done) -> u32
+    ensures { λ s. ⌜ s ≡ statusOf (done d) ⌝ }
+{
+    match d {
+        Done::Accepted => 0,
+        Done::Refused(r) => refusal_number(r),
+    }
+}
+
+// Stores the count of an accepted call.
+pub fn counted_status(c: Counted, count: &mut usize) -> u32
+    ensures { λ s. ⌜ Stores (counted c) (now (count .entry)) s (now (count .exit)) ⌝ }
+{
+    match c {
+        Counted::Count(k) => {
+            *count = k;
+            0
+        },
+        Counted::Refused(r) => refusal_number(r),
+    }
+}
+
+// Stores 1 for yes and 0 for no.
+pub fn found_status(f: Found, value: &mut u32) -> u32
+    ensures { λ s. ⌜ Stores (bits (found f)) (now (value .entry)) s (now (value .exit)) ⌝ }
+{
+    match f {
+        Found::Yes => {
+            *value = 1;
+            0
+        },
+        Found::No => {
+            *value = 0;
+            0
+        },
+        Found::Refused(r) => refusal_number(r),
+    }
+}
+
+// Stores 1 for maybe and 0 for none.
+pub fn asked_status(a: Asked, maybe: &mut u32) -> u32
+    ensures { λ s. ⌜ Stores (bits (asked a)) (now (maybe .entry)) s (now (maybe .exit)) ⌝ }
+{
+    match a {
+        Asked::Maybe => {
+            *maybe = 1;
+            0
+        },
+        Asked::None => {
+            *maybe = 0;
+            0
+        },
+        Asked::Refused(r) => refusal_number(r),
+    }
+}
+
+// The reserved codes of five numbers.
+pub fn words_of(words: &[u32]) -> Vocabulary
+    requires { ⌜ length (now words) ≡ 5 ⌝ }
+    ensures { λ v. ⌜ v ≡ wordsOf (now (words .entry)) ⌝ }
+{
+    Vocabulary {
+        instance: words[0],
+        subclass: words[1],
+        subproperty: words[2],
+        domain: words[3],
+        range: words[4],
+    }
+}
+
+// Stores the five numbers of the reserved codes.
+pub fn put_words(list: &mut [u32], v: Vocabulary)
+    requires { ⌜ length (now list) ≡ 5 ⌝ }
+    ensures { λ r. ⌜ now (list .exit) ≡ codes v ⌝ }
+{
+    list[0] = v.instance;
+    list[1] = v.subclass;
+    list[2] = v.subproperty;
+    list[3] = v.domain;
+    list[4] = v.range;
+}

@@ -1,0 +1,3 @@
+// What the comparison of two engines prints: digests of what a call leaves, the tally, differences and small cases.
+pub mod digest;
+pub mod report;

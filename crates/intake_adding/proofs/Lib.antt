@@ -1,0 +1,4 @@
+pub mod Quick
+pub mod Held
+pub mod AnyState
+pub mod Adding

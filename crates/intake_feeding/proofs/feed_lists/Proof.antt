@@ -1,0 +1,90 @@
+-- `intake_feeding::feed_lists` meets its contract.
+-- Assumes nothing.
+use Rattle.model.specs.Triples.{triple}
+use Rattle.intake_taking.proofs.Taking.{by-refusal, ready, by-taking}
+use borrow.Author.Needs.{needs}
+use Rattle.intake_feeding.proofs.feed_lists.Statement.{statement}
+use Rattle.intake_feeding.proofs.feed_lists.Tie as tie
+
+feed-refusal-requires : tie.Need-feed-refusal-requires
+feed-refusal-requires c κs = search needs
+
+enum-known-r : tie.Need-enum-known-r
+enum-known-r c = search needs
+
+refuse-requires : tie.Need-refuse-requires
+refuse-requires c κs = search needs
+
+enum-told : tie.Need-enum-told
+enum-told c = search needs
+
+take-in-requires : tie.Need-take-in-requires
+take-in-requires c κs =
+    let back4 = c .before .before .before .before in
+    let back6 = back4 .before .before in
+    let start = back6 .before .before .before .before .before .before .before .before .before .before in
+    let a = start .args in
+    ready _ (a .roster .now) (a .triples .now) (a .summary .now) (a .map .now) (a .work .now) (a .held) (a .summarised) (triple (a .s) (a .p) (a .o))
+    _ (back6 .feed-refusal .ensures) (back4 .enum-told .given .1)
+
+same-length : tie.Need-same-length
+same-length c = search needs
+
+same-length-2 : tie.Need-same-length-2
+same-length-2 c = search needs
+
+same-length-3 : tie.Need-same-length-3
+same-length-3 c = search needs
+
+same-length-4 : tie.Need-same-length-4
+same-length-4 c = search needs
+
+returns : tie.Need-returns
+returns c =
+    let back4 = c .before .before .before .before in
+    let start = back4 .before .before .before .before .before .before .before .before .before .before in
+    let a = start .args in
+    by-refusal _ (a .roster .now) (a .triples .now) (a .summary .now) (a .map .now) (a .work .now) (a .held) (a .summarised)
+    (triple (a .s) (a .p) (a .o)) _ (back4 .feed-refusal .ensures) _ (c .before .before .r .given .1) _ (c .refuse .ensures)
+
+same-length-5 : tie.Need-same-length-5
+same-length-5 c = search needs
+
+same-length-6 : tie.Need-same-length-6
+same-length-6 c = search needs
+
+same-length-7 : tie.Need-same-length-7
+same-length-7 c = search needs
+
+same-length-8 : tie.Need-same-length-8
+same-length-8 c = search needs
+
+returns-2 : tie.Need-returns-2
+returns-2 c =
+    let back8 = c .before .before .before .before .before .before .before .before in
+    let back13 = back8 .before .before .before .before .before in
+    let back15 = back13 .before .before in
+    let start = back15 .before .before .before .before .before .before .before .before .before .before in
+    let a = start .args in
+    by-taking _ (a .roster .now) (a .triples .now) (a .summary .now) (a .map .now) (a .work .now) (a .held) (a .summarised)
+    (triple (a .s) (a .p) (a .o)) _ (back15 .feed-refusal .ensures) (back13 .enum-told .given .1) _ _ _ (back8 .take-in .ensures)
+
+pub feed-lists-spec : {M : Type 1} → statement M
+feed-lists-spec =
+    tie.close
+    (tie.spec
+    feed-refusal-requires
+    enum-known-r
+    refuse-requires
+    enum-told
+    take-in-requires
+    same-length
+    same-length-2
+    same-length-3
+    same-length-4
+    returns
+    same-length-5
+    same-length-6
+    same-length-7
+    same-length-8
+    returns-2)

@@ -1,0 +1,97 @@
+-- Searching a place among triples that need not be rising, the image of a triple, and wrong triples that are held.
+-- Assumes nothing.
+use Prim.Native.Nat.{ℕ, _+_, _-_, _/_, _<_, _≤_}
+use mathlib.Core.Path.{_≡_, sym, _∙_, ap, subst}
+use mathlib.Core.Bool.{Bool, true, false, not, true≢false}
+use mathlib.Core.List.{List, List·Memᴰ as Mem}
+use native.Mathlib.Omega.{arith}
+use native.Mathlib.Nat.{sub-zero}
+use lib.Dec.{eqb}
+use lib.ListN.{length, getD}
+use borrow.Author.Tests.{eqb-false}
+use Rattle.model.specs.declared.Triple.{Triple}
+use Rattle.model.specs.declared.Vocabulary.{Vocabulary}
+use Rattle.model.specs.Codes.{absent}
+use Rattle.model.specs.Lists.{any, tabulate}
+use Rattle.model.specs.Triples.{triple, same, holds}
+use Rattle.model.specs.Roster.{coversTriple, wrongTriple}
+use Rattle.model.specs.Partition.{label}
+use Rattle.model.specs.Summary.{moved}
+use Rattle.theory.proofs.Tests.{or-left, or-right, or-neither}
+use Rattle.theory.proofs.Lists.{mem-tabulate}
+use Rattle.theory.proofs.Order.{same-eq}
+use Rattle.theory.specs.Tables.{Below}
+use Rattle.theory.proofs.Covered.{codes-right}
+use Rattle.lists.specs.Flat.{at}
+use Rattle.lists.proofs.Places.{any-at, any-nowhere, same-default}
+use Rattle.lists.proofs.Compare.{Cmp, lt, eq, gt, cmp}
+use Rattle.lists.proofs.Search.{bound-here, bound-past}
+use Rattle.builder.specs.Builder.{first}
+use Rattle.intake_insertion.specs.Places.{StandsAt, Known, bad}
+
+-- ── a triple at a place ──
+module _ (l : List ℕ) (n i : ℕ) (t : Triple) where
+  all : tabulate (at l) 0 (n - 0) ≡ first l n
+  all = ap (λ (k : ℕ). tabulate (at l) 0 k) (sub-zero n)
+
+  pub stands-here : i < n → (r : Bool) → r ≡ same t (at l i) → StandsAt l n i t r
+  stands-here h r e =
+      record {
+        held = λ q. subst (λ (z : Triple). Mem z (first l n)) (sym (same-eq t (at l i) (sym e ∙ q))) (mem-tabulate (at l) 0 n i (omega arith) (omega arith));
+        exact = λ w b. e ∙ bound-here (at l) 0 n t i w b h ∙ ap (holds t) all;
+      }
+
+  pub stands-past : n ≤ i → StandsAt l n i t false
+  stands-past h = record { held = λ q. absurd (true≢false (sym q)); exact = λ w b. bound-past (at l) 0 n t i w b h ∙ ap (holds t) all }
+
+-- ── the image of a triple ──
+pub known-false : {P : Type 0} → false ≡ true → P
+known-false e = absurd (true≢false (sym e))
+
+module _ (summary : List ℕ) (n : ℕ) (map : List ℕ) (t : Triple) (below : Below (length map) t) (fits : n ≤ length summary / 3) where
+  pub known-is : (a b : ℕ) → a ≡ t .subject → b ≡ t .object → eqb (getD map a 0) absent ≡ false → eqb (getD map b 0) absent ≡ false
+      → (i : ℕ) (r : Bool) → StandsAt summary n i (triple (getD map a 0) (t .property) (getD map b 0)) r → r ≡ true → Known summary n map t
+  known-is a b p q x y i r w h =
+      let s : getD map a 0 ≡ label map (t .subject) = ap (λ (z : ℕ). getD map z 0) p ∙ same-default map (t .subject) 0 absent (below .subject) in
+      let o : getD map b 0 ≡ label map (t .object) = ap (λ (z : ℕ). getD map z 0) q ∙ same-default map (t .object) 0 absent (below .object) in
+      let e : triple (getD map a 0) (t .property) (getD map b 0) ≡ moved (label map) t = λ k. triple (s k) (t .property) (o k) in
+      record {
+        subject = λ z. eqb-false (getD map a 0) absent x (s ∙ z);
+        object = λ z. eqb-false (getD map b 0) absent y (o ∙ z);
+        fits = omega arith;
+        image = subst (λ (z : Triple). Mem z (first summary n)) e (w .held h);
+      }
+
+module _ (v : Vocabulary) where
+  -- ── held triples that are wrong ──
+  pub record GoodBefore (l roster : List ℕ) (i : ℕ) : Type 0 where
+    pub good : (k : ℕ) → k < i → bad v roster (at l k) ≡ false
+
+  pub good-start : (l roster : List ℕ) → GoodBefore l roster 0
+  good-start l roster = record { good = λ k h. absurd (omega arith) }
+
+  module _ (l roster : List ℕ) (i : ℕ) (t : Triple) (e : t ≡ at l i) where
+    pub good-step : GoodBefore l roster i → wrongTriple v (length roster) t ≡ false → coversTriple v roster t ≡ true → GoodBefore l roster (i + 1)
+    unfolding bad
+    good-step g a b = record { good = λ k h. go k h (cmp k i) }
+      where
+        go : (k : ℕ) → k < i + 1 → Cmp k i → bad v roster (at l k) ≡ false
+        go k h (lt x) = g .good k x
+        go k h (eq x) =
+            ap (λ (z : ℕ). bad v roster (at l z)) x ∙ ap (bad v roster) (sym e)
+            ∙ or-neither (wrongTriple v (length roster) t) _ a (ap not b)
+        go k h (gt x) = absurd (omega arith)
+
+    pub bad-code : (n : ℕ) → i < n → wrongTriple v (length roster) t ≡ true → true ≡ any (bad v roster) (first l n)
+    unfolding bad
+    bad-code n h a = any-at (bad v roster) (at l) n i h (ap (bad v roster) (sym e) ∙ or-left (wrongTriple v (length roster) t) _ a)
+
+    pub bad-cover : (n : ℕ) → i < n → coversTriple v roster t ≡ false → true ≡ any (bad v roster) (first l n)
+    unfolding bad
+    bad-cover n h a = any-at (bad v roster) (at l) n i h (ap (bad v roster) (sym e) ∙ or-right (wrongTriple v (length roster) t) _ (ap not a))
+
+  pub good-end : (l roster : List ℕ) (i n : ℕ) → GoodBefore l roster i → n ≤ i → false ≡ any (bad v roster) (first l n)
+  good-end l roster i n g h = any-nowhere (bad v roster) (at l) n i h (g .good)
+
+  pub below-of : (n : ℕ) (t : Triple) → wrongTriple v n t ≡ false → Below n t
+  below-of n t h = (codes-right v n t h) .below

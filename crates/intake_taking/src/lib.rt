@@ -1,0 +1,59 @@
+// A feed that no check refuses: the triple's place, whether it is held, and taking it in.
+
+ghost use Rattle.model.specs.Outcomes.{found};
+ghost use Rattle.intake_opening.specs.Opening.{atEntry, atExit};
+ghost use Rattle.intake_adding.specs.Adding.{FeedReady};
+ghost use Rattle.intake_taking.specs.Feeding.{Taken};
+use intake_adding::FedCounts;
+use intake_adding::add;
+use intake_adding::not_new;
+use intake_adding::refuse;
+use intake_insertion::stands_at;
+use lists::clear;
+use lists::lower_bound;
+use model::Refusal;
+use model::Triple;
+use model::Vocabulary;
+
+// A feed that no check refuses.
+pub fn take_in(
+    held: usize,
+    summarised: usize,
+    words: Vocabulary,
+    roster: &[u8],
+    triples: &mut [u32],
+    summary: &mut [u32],
+    map: &mut [u32],
+    work: &mut [u32],
+    t: Triple,
+) -> FedCounts
+    requires { ⌜ FeedReady words (now roster) (now triples) (now summary) (now map) (now work) t ⌝ }
+    ensures { λ r. ⌜ Taken words (now (roster .entry))
+        (atEntry triples summary map held summarised) (now (work .entry)) t (found (r .answer))
+        (atExit triples summary map (r .counts .held) (r .counts .summarised)) (now (work .exit)) ⌝ }
+{
+    let slots = triples.len() / 3;
+    if slots < held {
+        return refuse(Refusal::Full, held, summarised); // only where the record was altered by hand
+    }
+    let i = lower_bound(triples, 0, held, t);
+    if stands_at(triples, held, i, t) {
+        clear(work, 0, work.len());
+        return not_new(held, summarised);
+    }
+    if held < slots {
+        return add(
+            held,
+            summarised,
+            words,
+            roster,
+            triples,
+            summary,
+            map,
+            work,
+            t,
+            i,
+        );
+    }
+    refuse(Refusal::Full, held, summarised)
+}

@@ -1,0 +1,189 @@
+// The plain intake. After an accepted opening and every feed its lists are H, the set of triples that were new, in rising order, its summary and its map.
+use naive_checks::covered;
+use naive_checks::roster_wrong;
+use naive_checks::size_wrong;
+use naive_checks::triple_wrong;
+use naive_checks::words_wrong;
+use naive_lists::ABSENT;
+use naive_lists::Triple;
+use naive_lists::Words;
+use naive_lists::fill;
+use naive_lists::holds;
+use naive_lists::put;
+use naive_lists::sort;
+use naive_lists::triple_of;
+use naive_summary::summarise;
+
+// N as for any call, a map of N numbers, equal slots and not too many.
+fn lengths_wrong(n: usize, triples: usize, summary: usize, map: usize) -> bool {
+    if size_wrong(n) || map != n {
+        return true;
+    }
+    triples / 3 != summary / 3 || 1048576 < triples / 3
+}
+
+// Opening: both triple lists zero, the map absent.
+pub fn open(
+    words: Words,
+    roster: &[u8],
+    triples: &mut [u32],
+    summary: &mut [u32],
+    map: &mut [u32],
+) -> u32 {
+    if lengths_wrong(roster.len(), triples.len(), summary.len(), map.len()) {
+        return 1;
+    }
+    if words_wrong(words, roster.len()) {
+        return 10;
+    }
+    if roster_wrong(words, roster) {
+        return 2;
+    }
+    fill(triples, 0);
+    fill(summary, 0);
+    fill(map, ABSENT);
+    0
+}
+
+// The answer to a feed, a refusal's number or 0, whether the triple was new, and the sizes of H and of its summary afterwards.
+pub struct Fed {
+    pub refused: u32,
+    pub new: bool,
+    pub held: usize,
+    pub summarised: usize,
+}
+
+// All stays as it is.
+fn as_before(refused: u32, held: usize, summarised: usize) -> Fed {
+    Fed {
+        refused: refused,
+        new: false,
+        held: held,
+        summarised: summarised,
+    }
+}
+
+// The work list has 2 * N numbers.
+fn work_wrong(n: usize, work: usize) -> bool {
+    work / 2 != n || work % 2 != 0
+}
+
+// The checks 10, 2, 3, 4 of a feed: the refusal's number, or 0.
+fn feed_refusal(words: Words, roster: &[u8], t: Triple) -> u32 {
+    let n = roster.len();
+    if words_wrong(words, n) {
+        return 10;
+    }
+    if roster_wrong(words, roster) {
+        return 2;
+    }
+    if triple_wrong(words, t, n) {
+        return 3;
+    }
+    if !covered(words, roster, t) {
+        return 4;
+    }
+    0
+}
+
+// A triple that is not in H: refused with 7 if every slot holds one, else it joins H, and the summary and the map are made anew.
+fn take_in(
+    held: usize,
+    summarised: usize,
+    words: Words,
+    roster: &[u8],
+    triples: &mut [u32],
+    summary: &mut [u32],
+    map: &mut [u32],
+    work: &mut [u32],
+    t: Triple,
+) -> Fed {
+    if triples.len() / 3 <= held {
+        return as_before(7, held, summarised);
+    }
+    let count = held + 1;
+    put(triples, held, t);
+    sort(triples, count);
+    let answer = summarise(
+        words,
+        false,
+        &triples[0..3 * count],
+        roster,
+        summary,
+        map,
+        work,
+    );
+    Fed {
+        refused: 0,
+        new: true,
+        held: count,
+        summarised: answer.count,
+    }
+}
+
+// A feed that check 1 does not refuse; H is the first `held` triples.
+fn judge(
+    held: usize,
+    summarised: usize,
+    words: Words,
+    roster: &[u8],
+    triples: &mut [u32],
+    summary: &mut [u32],
+    map: &mut [u32],
+    work: &mut [u32],
+    t: Triple,
+) -> Fed {
+    let refused = feed_refusal(words, roster, t);
+    if refused != 0 {
+        return as_before(refused, held, summarised);
+    }
+    if holds(triples, held, t) {
+        fill(work, 0);
+        return as_before(0, held, summarised);
+    }
+    take_in(
+        held,
+        summarised,
+        words,
+        roster,
+        triples,
+        summary,
+        map,
+        work,
+        t,
+    )
+}
+
+// Feeds a triple to an intake with those two counts.
+pub fn feed(
+    held: usize,
+    summarised: usize,
+    words: Words,
+    roster: &[u8],
+    triples: &mut [u32],
+    summary: &mut [u32],
+    map: &mut [u32],
+    work: &mut [u32],
+    s: u32,
+    p: u32,
+    o: u32,
+) -> Fed {
+    let n = roster.len();
+    if lengths_wrong(n, triples.len(), summary.len(), map.len()) {
+        return as_before(1, held, summarised);
+    }
+    if work_wrong(n, work.len()) {
+        return as_before(1, held, summarised);
+    }
+    judge(
+        held,
+        summarised,
+        words,
+        roster,
+        triples,
+        summary,
+        map,
+        work,
+        triple_of(s, p, o),
+    )
+}

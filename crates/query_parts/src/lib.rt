@@ -1,0 +1,188 @@
+// The check of a query, an end against a node, and the first place of a table that may fit a pattern.
+
+ghost use mathlib.Core.Path.{_≡_};
+ghost use mathlib.Core.Bool.{false};
+ghost use Prim.Native.Nat.{_+_, _*_, _<_, _≤_};
+ghost use lib.ListN.{length};
+ghost use Rattle.lists.specs.Flat.{at, RisingPart};
+ghost use Rattle.query.specs.Ask.{fitEnd, wrongPatternEnd, wrongPattern, wrongQuery};
+ghost use Rattle.query_parts.specs.Parts.{FirstWith, FirstOf, FirstFit, front, wantedOf, InOrder};
+use lists::Code;
+use lists::lower_bound;
+use model::Triple;
+use query::End;
+use query::Fit;
+use query::Pattern;
+use query::Query;
+
+// The node that an end must have, or any.
+pub enum Wanted {
+    Any,
+    Node(u32),
+}
+
+fn end_wrong(e: End, n: usize) -> bool
+    ensures { λ r. ⌜ r ≡ wrongPatternEnd n e ⌝ }
+{
+    match e {
+        End::Var(v) => 7 < v,
+        End::Code(c) => n <= c as usize,
+    }
+}
+
+fn pattern_wrong(p: Pattern, n: usize) -> bool
+    ensures { λ r. ⌜ r ≡ wrongPattern n p ⌝ }
+{
+    let subject = p.subject;
+    if end_wrong(subject, n) {
+        return true;
+    }
+    if n <= p.property as usize {
+        return true;
+    }
+    let object = p.object;
+    end_wrong(object, n)
+}
+
+// Refusal 6, for a site of size n.
+pub fn query_wrong(q: Query, n: usize) -> bool
+    ensures { λ r. ⌜ r ≡ wrongQuery n q ⌝ }
+{
+    let count = q.count as usize;
+    if count == 0 {
+        return true;
+    }
+    if 8 < count {
+        return true;
+    }
+    let mut k = 0;
+    while k < count {
+        let p = q.patterns[k];
+        if pattern_wrong(p, n) {
+            return true;
+        }
+        k += 1;
+    }
+    false
+}
+
+// An end against the node x. A code stands for its map entry; a variable without a node takes x.
+pub fn fit_end(map: &[u32], e: End, x: u32, bindings: [u32; 8]) -> Fit
+    requires { ⌜ wrongPatternEnd (length (now map)) e ≡ false ⌝ }
+    ensures { λ r. ⌜ r ≡ fitEnd (now (map .entry)) e x bindings ⌝ }
+{
+    match e {
+        End::Var(v) => {
+            let node = bindings[v as usize];
+            if Code(node).is_absent() {
+                let mut more = bindings;
+                more[v as usize] = x;
+                return Fit {
+                    fits: true,
+                    bindings: more,
+                };
+            }
+            Fit {
+                fits: node == x,
+                bindings: bindings,
+            }
+        }
+        End::Code(c) => {
+            let entry = map[c as usize];
+            Fit {
+                fits: entry == x,
+                bindings: bindings,
+            }
+        }
+    }
+}
+
+// The first place from..to whose triple has property p, or `to`.
+fn first_with(table: &[u32], p: u32, from: usize, to: usize) -> usize
+    requires { ⌜ (from ≤ to) × (3 * to ≤ length (now table)) ⌝ }
+    ensures { λ r. ⌜ FirstWith (at (now (table .entry))) p from to r ⌝ }
+{
+    let mut i = from;
+    while i < to {
+        if table[3 * i + 1] == p {
+            return i;
+        }
+        i += 1;
+    }
+    to
+}
+
+// The node that an end must have, if there is one: a code stands for its map entry, and a variable may have a node already.
+fn node_wanted(map: &[u32], e: End, bindings: [u32; 8]) -> Wanted
+    requires { ⌜ wrongPatternEnd (length (now map)) e ≡ false ⌝ }
+    ensures { λ r. ⌜ r ≡ wantedOf (now (map .entry)) e bindings ⌝ }
+{
+    match e {
+        End::Var(v) => {
+            let node = bindings[v as usize];
+            if Code(node).is_absent() {
+                return Wanted::Any;
+            }
+            Wanted::Node(node)
+        }
+        End::Code(c) => {
+            let entry = map[c as usize];
+            Wanted::Node(entry)
+        }
+    }
+}
+
+// Whether the triple at place i has this subject and property.
+fn has_front(table: &[u32], i: usize, subject: u32, property: u32) -> bool
+    requires { ⌜ 3 * i + 2 < length (now table) ⌝ }
+    ensures { λ r. ⌜ r ≡ front subject property (at (now (table .entry)) i) ⌝ }
+{
+    if table[3 * i] == subject {
+        return table[3 * i + 1] == property;
+    }
+    false
+}
+
+// In rising order: the first place from..to with this subject and property, or `to`.
+fn first_of(table: &[u32], subject: u32, property: u32, from: usize, to: usize) -> usize
+    requires { ⌜ (from ≤ to) × (3 * to ≤ length (now table)) × RisingPart (at (now table)) from to ⌝ }
+    ensures { λ r. ⌜ FirstOf (at (now (table .entry))) subject property from to r ⌝ }
+{
+    let key = Triple {
+        subject: subject,
+        property: property,
+        object: 0,
+    };
+    let i = lower_bound(table, from, to, key);
+    if i < to {
+        if has_front(table, i, subject, property) {
+            return i;
+        }
+    }
+    to
+}
+
+// The first place from..to whose triple has the pattern's property and may fit, or `to`. In rising order a subject that must be
+// one node is searched for.
+pub fn first_fit(
+    table: &[u32],
+    map: &[u32],
+    p: Pattern,
+    bindings: [u32; 8],
+    from: usize,
+    to: usize,
+    rising: bool,
+) -> usize
+    requires { ⌜ (wrongPatternEnd (length (now map)) (p .subject) ≡ false) × (from ≤ to) × (3 * to ≤ length (now table)) × InOrder (now table) rising ⌝ }
+    ensures { λ r. ⌜ FirstFit (at (now (table .entry))) (now (map .entry)) p bindings from to r ⌝ }
+{
+    let property = p.property;
+    if !rising {
+        return first_with(table, property, from, to);
+    }
+    let subject = p.subject;
+    let Wanted::Node(node) = node_wanted(map, subject, bindings) else {
+        return first_with(table, property, from, to);
+    };
+    first_of(table, node, property, from, to)
+}

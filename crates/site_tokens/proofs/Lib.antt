@@ -1,0 +1,4 @@
+pub mod Numbers
+pub mod Words
+pub mod Steps
+pub mod Ends

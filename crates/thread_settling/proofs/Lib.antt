@@ -1,0 +1,3 @@
+pub mod Threads
+pub mod Stores
+pub mod Loops
