@@ -10,21 +10,22 @@
 The parameters are those of record_walk.Params. No requires on either function. Run at the repository's root it writes the proofs of
 intake_by_value.
 """
-from record_walk import Params, lst, tup, prod, toks, proj, dash, structval, trim, uses, cites, opening, arguments, reborrows, operands, ending
+from record_walk import HOMES, first_line, Params, lst, tup, prod, toks, proj, dash, structval, trim, uses, cites, opening, arguments, reborrows, operands, ending
 
-CRATE, HOME = 'intake_by_value', 'intake'
+CRATE = 'intake_by_value'
 
 def generate(fn,name,rec,fields,res,enum,params,said,specuses):
     """said: the callee's ensures as a type in the answer y, the record's last value z and the last lists z1.. (by parameter number), over h,
        y1.., v1.."""
-    callee=(f'{HOME}·{dash(name)}',name)
+    HOME=HOMES[name]
+    callee=(f'{dash(HOME)}·{dash(name)}',name)
     p_=Params(params,0); n,refs,muts,Ks,Qs=p_.n,p_.refs,p_.muts,p_.Ks,p_.Qs
     kst=tup(Ks); qst=tup(Qs); c=callee[0]
     rowty,mval=p_.row,p_.value
-    out=[f'-- `{CRATE}::{fn}` meets its contract: a walk of its MIR, by hand.',
+    out=[first_line('adapt_record.py',CRATE,fn),
       f'-- The record is copied to a local, lent to `{HOME}::{name}` for a lifetime of the call, and put into the result.','-- Assumes nothing.']
     e=out.append
-    out+=uses(p_,fields,specuses)+cites(p_,(f'Rattle.{HOME}.specs',f'Rattle.{HOME}.proofs'),rec,res,enum,callee,fn,CRATE)
+    out+=uses(p_,fields,specuses)+cites(p_,rec,res,enum,callee,fn,CRATE)
     out+=opening(p_,'stay-none (λ _. T.the-row) yes',f' (h : {rec}) (made : Is T.the-row h ({structval("h",fields)} ∷ []))')
     e('  -- the machine values of a record and of an answer')
     e(f'  abbrev mach : {rec} → Val'); e(f'  mach z = {structval("z",fields)}'); e('')
@@ -172,10 +173,10 @@ def generate(fn,name,rec,fields,res,enum,params,said,specuses):
 if __name__ == '__main__':
     rec=[('held','usize'),('summarised','usize')]
     lists=[('val','Vocabulary'),('shr','u8'),('mut','u32'),('mut','u32'),('mut','u32')]
-    def write(fn,text): open(f'crates/intake_by_value/proofs/{fn}/Proof.antt','w').write(text)
+    def write(fn,text): open(f'crates/{CRATE}/proofs/{fn}/Proof.antt','w').write(text)
     write('open_by_value',generate('open_by_value','open','Counts',rec,'OpenedCounts','Done',lists,
       said='Opens v1 y2 (stateWith y3 y4 y5 (h .held) (h .summarised)) (outcome y) (stateWith z3 z4 z5 (z .held) (z .summarised))',
-      specuses=['use Rattle.model.specs.Outcomes.{done as outcome}','use Rattle.intake.specs.Opening.{stateWith, Opens}']))
+      specuses=['use Rattle.model.specs.Outcomes.{done as outcome}','use Rattle.intake_opening.specs.Opening.{stateWith, Opens}']))
     write('feed_by_value',generate('feed_by_value','feed','Counts',rec,'FedCounts','Found',lists+[('mut','u32'),('num','u32'),('num','u32'),('num','u32')],
       said='Fed v1 y2 (stateWith y3 y4 y5 (h .held) (h .summarised)) y6 (triple v7 v8 v9) (found y) (stateWith z3 z4 z5 (z .held) (z .summarised)) z6',
-      specuses=['use Rattle.model.specs.Triples.{triple}','use Rattle.model.specs.Outcomes.{found}','use Rattle.model.specs.Intake.{Fed}','use Rattle.intake.specs.Opening.{stateWith}']))
+      specuses=['use Rattle.model.specs.Triples.{triple}','use Rattle.model.specs.Outcomes.{found}','use Rattle.model.specs.Intake.{Fed}','use Rattle.intake_opening.specs.Opening.{stateWith}']))

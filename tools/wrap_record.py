@@ -10,20 +10,20 @@
 The parameters are those of record_walk.Params. No requires on either function. Run at the repository's root it writes the proofs of
 intake's open and feed.
 """
-from record_walk import W, B, Params, lst, tup, prod, toks, proj, dash, structval, trim, uses, cites, opening, arguments, reborrows, operands, ending
+from record_walk import W, B, HOMES, first_line, Params, lst, tup, prod, toks, proj, dash, structval, trim, uses, cites, opening, arguments, reborrows, operands, ending
 
 CRATE = 'intake'
 
 def generate(fn,name,rec,fields,res,enum,params,said,specuses):
     """said: the callee's ensures as a type in r and the last lists z1.. (by parameter number), over h, y1.., v1.."""
-    callee=(f'{CRATE}·{dash(name)}',name)
+    callee=(f'{dash(HOMES[name])}·{dash(name)}',name)
     p_=Params(params,1); n,refs,muts,Ks,Qs,X=p_.n,p_.refs,p_.muts,p_.Ks,p_.Qs,p_.X
     rowty,mval=p_.row,p_.value
-    out=[f'-- `{CRATE}::{fn}` meets its contract: a walk of its MIR, by hand.',
+    out=[first_line('wrap_record.py',CRATE,fn),
       f'-- The record\'s borrow is opened and its fields are read; the other arguments go to `{name}` for good, each at its own lifetime; the counts of the result are stored, and the borrow is closed at the new record.',
       '-- Assumes nothing.']
     e=out.append
-    out+=uses(p_,fields,specuses)+cites(p_,(f'Rattle.{CRATE}.specs',f'Rattle.{CRATE}.proofs'),rec,res,enum,callee,fn,CRATE)
+    out+=uses(p_,fields,specuses)+cites(p_,rec,res,enum,callee,fn,CRATE)
     out+=opening(p_,'stay-ref (0 ∷ []) tt (plain (λ _. T.the-row))',f' (b o : ℕ) (γ : GName) (h : {rec})')
     out+=arguments(p_,f'RefT {rec}','record { ptr = (b, o); name = γ; now = h }','vptr b o')
     kst=tup(Ks); qst=tup(Qs); c=callee[0]
@@ -171,10 +171,10 @@ def generate(fn,name,rec,fields,res,enum,params,said,specuses):
 if __name__ == '__main__':
     rec=[('held','usize'),('summarised','usize')]
     lists=[('val','Vocabulary'),('shr','u8'),('mut','u32'),('mut','u32'),('mut','u32')]
-    def write(fn,text): open(f'crates/intake/proofs/{fn}/Proof.antt','w').write(text)
+    def write(fn,text): open(f'crates/{CRATE}/proofs/{fn}/Proof.antt','w').write(text)
     write('open',generate('open','open_counts','Counts',rec,'OpenedCounts','Done',lists,
       said='Opens v1 y2 (stateWith y3 y4 y5 (h .held) (h .summarised)) (outcome (r .answer)) (stateWith z3 z4 z5 (r .counts .held) (r .counts .summarised))',
-      specuses=['use Rattle.model.specs.Outcomes.{done as outcome}','use Rattle.intake.specs.Opening.{stateWith, Opens}']))
+      specuses=['use Rattle.model.specs.Outcomes.{done as outcome}','use Rattle.intake_opening.specs.Opening.{stateWith, Opens}']))
     write('feed',generate('feed','feed_lists','Counts',rec,'FedCounts','Found',lists+[('mut','u32'),('num','u32'),('num','u32'),('num','u32')],
       said='Fed v1 y2 (stateWith y3 y4 y5 (h .held) (h .summarised)) y6 (triple v7 v8 v9) (found (r .answer)) (stateWith z3 z4 z5 (r .counts .held) (r .counts .summarised)) z6',
-      specuses=['use Rattle.model.specs.Triples.{triple}','use Rattle.model.specs.Outcomes.{found}','use Rattle.model.specs.Intake.{Fed}','use Rattle.intake.specs.Opening.{stateWith}']))
+      specuses=['use Rattle.model.specs.Triples.{triple}','use Rattle.model.specs.Outcomes.{found}','use Rattle.model.specs.Intake.{Fed}','use Rattle.intake_opening.specs.Opening.{stateWith}']))

@@ -2,6 +2,8 @@
 
 use std::fmt;
 
+/// More refusals may follow: a `match` needs a last arm for them.
+#[non_exhaustive]
 #[derive(Clone, Copy, PartialEq, Eq, Debug)]
 pub enum Refusal {
     /// 1: a list has a wrong length, or N is out of range.
