@@ -37,6 +37,7 @@ use comparison_report::report::OWN_ROSTER;
 use comparison_report::report::SATURATE;
 use comparison_report::report::STRONG;
 use comparison_report::report::SUMMARISE;
+use comparison_report::report::TALLY;
 use comparison_report::report::check;
 use comparison_report::report::small;
 use lists::rdfs_words;
@@ -84,7 +85,7 @@ struct Setting {
 
 // A call with lists of those lengths.
 fn case(
-    tally: &mut [u64; 145],
+    tally: &mut [u64; TALLY],
     call: usize,
     name: &[u8],
     expected: u32,
@@ -98,7 +99,7 @@ fn case(
 }
 
 fn every_call(
-    tally: &mut [u64; 145],
+    tally: &mut [u64; TALLY],
     name: &[u8],
     expected: u32,
     words: Vocabulary,
@@ -125,7 +126,7 @@ fn every_call(
 
 // A call into a result of just that length, and into one that is a number shorter.
 fn just(
-    tally: &mut [u64; 145],
+    tally: &mut [u64; TALLY],
     call: usize,
     name: &[u8],
     words: Vocabulary,
@@ -187,7 +188,7 @@ fn short_is_zero(words: Vocabulary, table: &[u32], roster: &[u8], length: usize)
     leaves(words, table, roster, &zeros[0..end])
 }
 
-fn look_up(tally: &mut [u64; 145], name: &[u8], table: &[u32], row: &[u32]) {
+fn look_up(tally: &mut [u64; TALLY], name: &[u8], table: &[u32], row: &[u32]) {
     let s = get(row, 1);
     let p = get(row, 2);
     let o = get(row, 3);
@@ -196,7 +197,7 @@ fn look_up(tally: &mut [u64; 145], name: &[u8], table: &[u32], row: &[u32]) {
 }
 
 fn ask(
-    tally: &mut [u64; 145],
+    tally: &mut [u64; TALLY],
     name: &[u8],
     words: Vocabulary,
     table: &[u32],
@@ -210,7 +211,7 @@ fn ask(
 }
 
 fn ask_itself(
-    tally: &mut [u64; 145],
+    tally: &mut [u64; TALLY],
     name: &[u8],
     words: Vocabulary,
     table: &[u32],
@@ -225,7 +226,7 @@ fn ask_itself(
 }
 
 fn ask_zero(
-    tally: &mut [u64; 145],
+    tally: &mut [u64; TALLY],
     name: &[u8],
     words: Vocabulary,
     table: &[u32],
@@ -259,7 +260,7 @@ fn length_at(row: &[u32], i: usize) -> usize {
 }
 
 fn table_case(
-    tally: &mut [u64; 145],
+    tally: &mut [u64; TALLY],
     kind: u8,
     name: &[u8],
     words: Vocabulary,
@@ -290,7 +291,7 @@ fn table_case(
 }
 
 fn gives_summary(
-    tally: &mut [u64; 145],
+    tally: &mut [u64; TALLY],
     name: &[u8],
     words: Vocabulary,
     table: &[u32],
@@ -306,7 +307,7 @@ fn gives_summary(
 
 // A case with `count` numbers.
 fn any_case(
-    tally: &mut [u64; 145],
+    tally: &mut [u64; TALLY],
     kind: u8,
     name: &[u8],
     words: Vocabulary,
@@ -337,7 +338,7 @@ fn any_case(
 
 // Reads a case, whose name begins at a place, and works it; the place of the next line.
 fn case_line(
-    tally: &mut [u64; 145],
+    tally: &mut [u64; TALLY],
     kind: u8,
     text: &[u8],
     from: usize,
@@ -391,7 +392,7 @@ fn setting_line(
 }
 
 fn line(
-    tally: &mut [u64; 145],
+    tally: &mut [u64; TALLY],
     text: &[u8],
     now: Setting,
     table: &mut [u32],
@@ -421,7 +422,7 @@ fn line(
     next
 }
 
-fn lines(tally: &mut [u64; 145], text: &[u8], table: &mut [u32], roster: &mut [u8]) {
+fn lines(tally: &mut [u64; TALLY], text: &[u8], table: &mut [u32], roster: &mut [u8]) {
     let mut setting = Setting {
         at: 0,
         n: 0,
@@ -439,7 +440,7 @@ fn lines(tally: &mut [u64; 145], text: &[u8], table: &mut [u32], roster: &mut [u
 }
 
 // Works a text of at most 1,000 lines.
-pub fn all(tally: &mut [u64; 145], text: &[u8]) {
+pub fn all(tally: &mut [u64; TALLY], text: &[u8]) {
     let mut table = [0u32; 60];
     let mut roster = [0u8; 311];
     lines(tally, text, &mut table, &mut roster);

@@ -8,10 +8,11 @@ mod sites;
 mod sizes;
 
 use comparison_report::report;
+use comparison_report::report::TALLY;
 use libc::STDIN_FILENO;
 
 fn main() {
-    let mut tally = [0u64; 145];
+    let mut tally = [0u64; TALLY];
     let mut text = [0u8; 8192];
     let n = io::read_full(STDIN_FILENO, &mut text);
     cases::all(&mut tally, &text[0..n]);

@@ -2,6 +2,7 @@
 ghost use Prim.Native.Nat.{_≤_};
 ghost use lib.ListN.{length};
 use comparison::calls;
+use comparison_report::report::TALLY;
 use model::Vocabulary;
 use random_sites::random::at_most;
 use random_sites::random::chance;
@@ -115,7 +116,7 @@ fn summary_end(
 }
 
 // A query on a list and on its summary, with its map of that length.
-fn ask_both(tally: &mut [u64; 145], seed: u64, list: &[u32], roster: &[u8], length: usize) {
+fn ask_both(tally: &mut [u64; TALLY], seed: u64, list: &[u32], roster: &[u8], length: usize) {
     let mut summary_space = [0u32; 240];
     let mut map_space = [0u32; 50];
     let mut query_space = [0u32; 41];
@@ -133,7 +134,7 @@ fn ask_both(tally: &mut [u64; 145], seed: u64, list: &[u32], roster: &[u8], leng
 }
 
 // A query with the codes as they are.
-fn ask_plain(tally: &mut [u64; 145], seed: u64, given: Vocabulary, list: &[u32], length: usize) {
+fn ask_plain(tally: &mut [u64; TALLY], seed: u64, given: Vocabulary, list: &[u32], length: usize) {
     let mut map_space = [0u32; 50];
     let mut query_space = [0u32; 41];
     let m = at_most(length, 50);
@@ -144,7 +145,7 @@ fn ask_plain(tally: &mut [u64; 145], seed: u64, given: Vocabulary, list: &[u32],
     calls::ask(tally, seed, given, list, map, query);
 }
 
-fn ask_case(tally: &mut [u64; 145], seed: u64) {
+fn ask_case(tally: &mut [u64; TALLY], seed: u64) {
     let mut table = [0u32; 62];
     let mut roster_space = [0u8; 24];
     let mut closed_space = [0u32; 240];
@@ -160,7 +161,7 @@ fn ask_case(tally: &mut [u64; 145], seed: u64) {
     ask_plain(tally, seed, words::given(seed, n), list, m);
 }
 
-pub fn all(tally: &mut [u64; 145]) {
+pub fn all(tally: &mut [u64; TALLY]) {
     let mut seed = 1000000;
     while seed < 1100000 {
         ask_case(tally, seed);

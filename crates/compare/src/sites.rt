@@ -7,6 +7,7 @@ use comparison_report::report::OWN_ROSTER;
 use comparison_report::report::SATURATE;
 use comparison_report::report::STRONG;
 use comparison_report::report::SUMMARISE;
+use comparison_report::report::TALLY;
 use model::Vocabulary;
 use random_sites::random::at_most;
 use random_sites::random::get;
@@ -20,7 +21,13 @@ use random_sites::sites::size;
 use random_sites::sites::table_length;
 use random_sites::words;
 
-fn table_cases(tally: &mut [u64; 145], seed: u64, given: Vocabulary, table: &[u32], roster: &[u8]) {
+fn table_cases(
+    tally: &mut [u64; TALLY],
+    seed: u64,
+    given: Vocabulary,
+    table: &[u32],
+    roster: &[u8],
+) {
     let n = roster.len();
     let sides = of_lengths(0, near(seed, 30, n), near(seed, 31, n));
     let result = of_lengths(room(seed), 0, 0);
@@ -30,7 +37,7 @@ fn table_cases(tally: &mut [u64; 145], seed: u64, given: Vocabulary, table: &[u3
 }
 
 fn summary_cases(
-    tally: &mut [u64; 145],
+    tally: &mut [u64; TALLY],
     seed: u64,
     given: Vocabulary,
     list: &[u32],
@@ -43,7 +50,7 @@ fn summary_cases(
 }
 
 // Summaries are of the table, or every other time of its saturation.
-fn site_cases(tally: &mut [u64; 145], seed: u64) {
+fn site_cases(tally: &mut [u64; TALLY], seed: u64) {
     let mut table_space = [0u32; 62];
     let mut roster_space = [0u8; 24];
     let mut closed_space = [0u32; 600];
@@ -60,7 +67,7 @@ fn site_cases(tally: &mut [u64; 145], seed: u64) {
 }
 
 // A triple of the table, and one with another object.
-fn look_ups(tally: &mut [u64; 145], seed: u64, table: &[u32]) {
+fn look_ups(tally: &mut [u64; TALLY], seed: u64, table: &[u32]) {
     let k = 3 * place_in(seed, 40, table.len() / 3);
     let s = get(table, k);
     let p = get(table, k + 1);
@@ -69,7 +76,7 @@ fn look_ups(tally: &mut [u64; 145], seed: u64, table: &[u32]) {
     look_up(tally, seed, table, s, p, 5 + pick(seed, 41, 20));
 }
 
-fn look_up_cases(tally: &mut [u64; 145], seed: u64) {
+fn look_up_cases(tally: &mut [u64; TALLY], seed: u64) {
     let mut space = [0u32; 62];
     let t = table_length(seed);
     let table: &mut [u32] = &mut space[0..t];
@@ -77,12 +84,12 @@ fn look_up_cases(tally: &mut [u64; 145], seed: u64) {
     look_ups(tally, seed, table);
 }
 
-fn seed_cases(tally: &mut [u64; 145], seed: u64) {
+fn seed_cases(tally: &mut [u64; TALLY], seed: u64) {
     site_cases(tally, seed);
     look_up_cases(tally, seed);
 }
 
-pub fn all(tally: &mut [u64; 145]) {
+pub fn all(tally: &mut [u64; TALLY]) {
     let mut seed = 0;
     while seed < 200000 {
         seed_cases(tally, seed);

@@ -8,6 +8,7 @@ use comparison_report::report::OWN_ROSTER;
 use comparison_report::report::SATURATE;
 use comparison_report::report::STRONG;
 use comparison_report::report::SUMMARISE;
+use comparison_report::report::TALLY;
 use comparison_report::report::sized;
 use lists::rdfs_words;
 use random_sites::random::at_most;
@@ -15,7 +16,7 @@ use random_sites::random::set_mark;
 
 // With a result of six numbers, a map or sources of n, and that length for the work list or targets.
 fn case(
-    tally: &mut [u64; 145],
+    tally: &mut [u64; TALLY],
     call: usize,
     expected: u32,
     table: &[u32],
@@ -28,7 +29,7 @@ fn case(
     sized(call, n, expected, seen.refused);
 }
 
-fn cases(tally: &mut [u64; 145], expected: u32, table: &[u32], roster: &[u8]) {
+fn cases(tally: &mut [u64; TALLY], expected: u32, table: &[u32], roster: &[u8]) {
     let n = at_most(roster.len(), 65537);
     case(tally, OWN_ROSTER, expected, table, roster, n);
     case(tally, SATURATE, expected, table, roster, n);
@@ -38,7 +39,7 @@ fn cases(tally: &mut [u64; 145], expected: u32, table: &[u32], roster: &[u8]) {
 }
 
 // Asks for a triple with property 0 between any two nodes, of which there is none.
-fn ask(tally: &mut [u64; 145], n: usize, table: &[u32]) -> u32 {
+fn ask(tally: &mut [u64; TALLY], n: usize, table: &[u32]) -> u32 {
     let map = [0u32; 65537];
     let mut query = [0u32; 41];
     query[0] = 1;
@@ -47,7 +48,7 @@ fn ask(tally: &mut [u64; 145], n: usize, table: &[u32]) -> u32 {
 }
 
 // Property 5 is marked: that covers the table.
-fn at_size(tally: &mut [u64; 145], n: usize, table: &[u32], expected: u32) {
+fn at_size(tally: &mut [u64; TALLY], n: usize, table: &[u32], expected: u32) {
     let mut roster = [0u8; 65537];
     let m = at_most(n, 65537);
     set_mark(&mut roster, 5, 2);
@@ -55,7 +56,7 @@ fn at_size(tally: &mut [u64; 145], n: usize, table: &[u32], expected: u32) {
     sized(ASK, n, expected, ask(tally, n, table));
 }
 
-pub fn all(tally: &mut [u64; 145]) {
+pub fn all(tally: &mut [u64; TALLY]) {
     let table = [65535u32, 5, 65534];
     at_size(tally, 4, &[], 1);
     at_size(tally, 5, &[], 0);

@@ -1,5 +1,6 @@
 // Random lists of feeds to random sites.
 ghost use Prim.Native.Nat.{_≤_};
+use comparison_report::report::TALLY;
 use fed_intakes::both::compare;
 use fed_intakes::both::record_feeds;
 use fed_intakes::both::record_open;
@@ -130,7 +131,13 @@ fn draw(seed: u64, table: &mut [u32], roster: &mut [u8], spoilt: &mut [u8], feed
     fill_feeds(seed, given, table, n, feeds);
 }
 
-fn play<'a>(tally: &mut [u64; 145], seed: u64, roster: &'a [u8], spoilt: &'a [u8], feeds: &[u32]) {
+fn play<'a>(
+    tally: &mut [u64; TALLY],
+    seed: u64,
+    roster: &'a [u8],
+    spoilt: &'a [u8],
+    feeds: &[u32],
+) {
     let case = case_of(seed, roster.len());
     let state = compare(tally, seed, case, feeds, roster, spoilt);
     record_open(tally, state);
@@ -138,7 +145,7 @@ fn play<'a>(tally: &mut [u64; 145], seed: u64, roster: &'a [u8], spoilt: &'a [u8
 }
 
 fn fed_of(
-    tally: &mut [u64; 145],
+    tally: &mut [u64; TALLY],
     seed: u64,
     table: &mut [u32],
     roster: &mut [u8],
@@ -149,7 +156,7 @@ fn fed_of(
     play(tally, seed, roster, spoilt, feeds);
 }
 
-fn fed_case(tally: &mut [u64; 145], seed: u64) {
+fn fed_case(tally: &mut [u64; TALLY], seed: u64) {
     let mut table = [0u32; 90];
     let mut roster = [0u8; 24];
     let mut spoilt = [0u8; 24];
@@ -165,7 +172,7 @@ fn fed_case(tally: &mut [u64; 145], seed: u64) {
     );
 }
 
-pub fn all(tally: &mut [u64; 145]) {
+pub fn all(tally: &mut [u64; TALLY]) {
     let mut seed = 2000000;
     while seed < 2030000 {
         fed_case(tally, seed);

@@ -6,9 +6,10 @@ mod sizes;
 mod small;
 
 use comparison_report::report;
+use comparison_report::report::TALLY;
 
 fn main() {
-    let mut tally = [0u64; 145];
+    let mut tally = [0u64; TALLY];
     small::all(&mut tally);
     sizes::all(&mut tally);
     feeds::all(&mut tally);

@@ -1,6 +1,7 @@
 // Opening and feeding at the sizes 4, 5, 65,536 and 65,537.
 use comparison_report::report::FEED;
 use comparison_report::report::OPEN;
+use comparison_report::report::TALLY;
 use comparison_report::report::sized;
 use fed_intakes::both::compare_small;
 use fed_intakes::both::record_last;
@@ -24,7 +25,7 @@ fn mark(opens: bool, feeds: usize) -> u8 {
 }
 
 fn run(
-    tally: &mut [u64; 145],
+    tally: &mut [u64; TALLY],
     n: usize,
     opens: bool,
     feeds: usize,
@@ -48,14 +49,14 @@ fn run(
     compare_small(tally, case, &list, &roster[0..m])
 }
 
-fn open(tally: &mut [u64; 145], n: usize, expected: u32) {
+fn open(tally: &mut [u64; TALLY], n: usize, expected: u32) {
     let state = run(tally, n, true, 0, 0, 0, 0);
     record_open(tally, state);
     sized(OPEN, n, expected, state.opened);
 }
 
 // An opened intake is fed 65535 5 65534.
-fn feed(tally: &mut [u64; 145], n: usize, expected: u32) {
+fn feed(tally: &mut [u64; TALLY], n: usize, expected: u32) {
     let state = run(tally, n, true, 1, 65535, 5, 65534);
     record_open(tally, state);
     record_last(tally, state);
@@ -63,13 +64,13 @@ fn feed(tally: &mut [u64; 145], n: usize, expected: u32) {
 }
 
 // A size that is refused.
-fn feed_refused(tally: &mut [u64; 145], n: usize, expected: u32) {
+fn feed_refused(tally: &mut [u64; TALLY], n: usize, expected: u32) {
     let state = run(tally, n, false, 1, 10, 5, 12);
     record_last(tally, state);
     sized(FEED, n, expected, state.seen.refused);
 }
 
-pub fn all(tally: &mut [u64; 145]) {
+pub fn all(tally: &mut [u64; TALLY]) {
     open(tally, 4, 1);
     open(tally, 5, 0);
     open(tally, 65536, 0);

@@ -1,6 +1,7 @@
 // Opening and feeding: every refusal, and a full intake.
 use comparison_report::report::FEED;
 use comparison_report::report::OPEN;
+use comparison_report::report::TALLY;
 use comparison_report::report::small;
 use fed_intakes::both::compare_small;
 use fed_intakes::both::record_last;
@@ -41,7 +42,7 @@ fn case_of(
 
 // Opens with such words and lists.
 fn open(
-    tally: &mut [u64; 145],
+    tally: &mut [u64; TALLY],
     name: &[u8],
     expected: u32,
     first: u32,
@@ -57,7 +58,7 @@ fn open(
     small(OPEN, name, expected, state.opened);
 }
 
-fn opens(tally: &mut [u64; 145]) {
+fn opens(tally: &mut [u64; TALLY]) {
     open(tally, b"equal-slots", 0, 0, 4, &SIX_ROSTER, 7, 8, 14);
     open(tally, b"unequal-slots", 1, 0, 4, &SIX_ROSTER, 8, 9, 14);
     open(tally, b"13-map", 1, 0, 4, &SIX_ROSTER, 6, 6, 13);
@@ -68,7 +69,7 @@ fn opens(tally: &mut [u64; 145]) {
 
 // With other words: a code that is reserved by them may not be marked, and 0 may be. With wrong words: 1 comes before 10, and 10
 // before 2.
-fn opens_loaded(tally: &mut [u64; 145]) {
+fn opens_loaded(tally: &mut [u64; TALLY]) {
     open(tally, b"word-9-marked", 2, 9, 4, &SIX_ROSTER, 6, 6, 14);
     open(tally, b"0-marked", 0, 10, 4, &ZERO, 6, 6, 14);
     open(tally, b"equal-words", 10, 0, 3, &SIX_ROSTER, 6, 6, 14);
@@ -100,7 +101,7 @@ fn fill_last(list: &mut [u32]) {
 }
 
 // The last of so many of them.
-fn feed(tally: &mut [u64; 145], feeds: usize, name: &[u8], expected: u32) {
+fn feed(tally: &mut [u64; TALLY], feeds: usize, name: &[u8], expected: u32) {
     let mut list = [0u32; 100];
     fill_first(&mut list);
     fill_last(&mut list);
@@ -110,7 +111,7 @@ fn feed(tally: &mut [u64; 145], feeds: usize, name: &[u8], expected: u32) {
     small(FEED, name, expected, state.seen.refused);
 }
 
-fn feeds(tally: &mut [u64; 145]) {
+fn feeds(tally: &mut [u64; TALLY]) {
     feed(tally, 1, b"new", 0);
     feed(tally, 2, b"27-work", 1);
     feed(tally, 3, b"10-5-14", 3);
@@ -125,7 +126,7 @@ fn feeds(tally: &mut [u64; 145]) {
 
 // A feed of 10 5 12 that is refused before the state matters: it leaves all as it was, also what no opening left there.
 fn feed_refused(
-    tally: &mut [u64; 145],
+    tally: &mut [u64; TALLY],
     name: &[u8],
     expected: u32,
     first: u32,
@@ -146,14 +147,14 @@ fn feed_refused(
     small(FEED, name, expected, state.seen.refused);
 }
 
-fn feeds_refused(tally: &mut [u64; 145]) {
+fn feeds_refused(tally: &mut [u64; TALLY]) {
     feed_refused(tally, b"unequal-slots", 1, 0, 4, &SIX_ROSTER, 9, 14);
     feed_refused(tally, b"13-map", 1, 0, 4, &SIX_ROSTER, 6, 13);
     feed_refused(tally, b"value-4", 2, 0, 4, &OVER, 6, 14);
     feed_refused(tally, b"reserved-marked", 2, 0, 4, &ZERO, 6, 14);
 }
 
-fn feeds_loaded(tally: &mut [u64; 145]) {
+fn feeds_loaded(tally: &mut [u64; TALLY]) {
     feed_refused(tally, b"word-9-marked", 2, 9, 4, &SIX_ROSTER, 6, 14);
     feed_refused(tally, b"word-10-subject", 3, 10, 4, &SIX_ROSTER, 6, 14);
     feed_refused(tally, b"equal-words", 10, 0, 3, &SIX_ROSTER, 6, 14);
@@ -162,7 +163,7 @@ fn feeds_loaded(tally: &mut [u64; 145]) {
     feed_refused(tally, b"equal-words-no-marks", 10, 0, 3, &NONE, 6, 14);
 }
 
-pub fn all(tally: &mut [u64; 145]) {
+pub fn all(tally: &mut [u64; TALLY]) {
     opens(tally);
     feeds(tally);
     feeds_refused(tally);

@@ -7,9 +7,10 @@ mod sites;
 mod small;
 
 use comparison_report::report;
+use comparison_report::report::TALLY;
 
 fn main() {
-    let mut tally = [0u64; 145];
+    let mut tally = [0u64; TALLY];
     small::all(&mut tally);
     sites::all(&mut tally);
     report::counts(&tally);

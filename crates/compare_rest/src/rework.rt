@@ -14,6 +14,7 @@ use comparison_report::digest::Seen;
 use comparison_report::digest::same;
 use comparison_report::report::SATURATE;
 use comparison_report::report::STRONG;
+use comparison_report::report::TALLY;
 use comparison_report::report::check;
 use model::Counted;
 use model::Vocabulary;
@@ -48,7 +49,7 @@ pub fn left_condensed(summary: &[u32], map: &[u32]) -> Seen {
 }
 
 fn saturate_again(
-    tally: &mut [u64; 145],
+    tally: &mut [u64; TALLY],
     call: usize,
     seed: u64,
     words: Vocabulary,
@@ -63,7 +64,7 @@ fn saturate_again(
 
 // Reworks a summary that came with a map. `second` is the map that it has at rest.
 fn rework(
-    tally: &mut [u64; 145],
+    tally: &mut [u64; TALLY],
     call: usize,
     seed: u64,
     words: Vocabulary,
@@ -122,7 +123,7 @@ pub fn closure(words: Vocabulary, table: &[u32], roster: &[u8], closed: &mut [u3
 }
 
 fn ship_into(
-    tally: &mut [u64; 145],
+    tally: &mut [u64; TALLY],
     call: usize,
     seed: u64,
     words: Vocabulary,
@@ -144,7 +145,7 @@ fn ship_into(
 // Summarises a saturated table into a result list and reworks what that leaves. Answers how many numbers the summary's triples
 // take.
 pub fn ship(
-    tally: &mut [u64; 145],
+    tally: &mut [u64; TALLY],
     call: usize,
     seed: u64,
     words: Vocabulary,

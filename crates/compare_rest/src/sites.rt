@@ -6,13 +6,14 @@ use comparison::engines::of_lengths;
 use comparison_report::report::SATURATE;
 use comparison_report::report::STRONG;
 use comparison_report::report::SUMMARISE;
+use comparison_report::report::TALLY;
 use comparison_report::report::reworked;
 use model::Vocabulary;
 use random_sites::sites;
 use random_sites::words;
 
 // Both summaries of a saturated table.
-fn ship_both(tally: &mut [u64; 145], seed: u64, words: Vocabulary, table: &[u32], roster: &[u8]) {
+fn ship_both(tally: &mut [u64; TALLY], seed: u64, words: Vocabulary, table: &[u32], roster: &[u8]) {
     let mut weak = [0u32; 600];
     let mut strong = [0u32; 600];
     ship(tally, SUMMARISE, seed, words, table, roster, &mut weak);
@@ -21,7 +22,7 @@ fn ship_both(tally: &mut [u64; 145], seed: u64, words: Vocabulary, table: &[u32]
 
 // Answers 1 if the table is accepted.
 fn saturate_and_ship(
-    tally: &mut [u64; 145],
+    tally: &mut [u64; TALLY],
     seed: u64,
     words: Vocabulary,
     table: &[u32],
@@ -40,7 +41,7 @@ fn saturate_and_ship(
     1
 }
 
-fn site_case(tally: &mut [u64; 145], seed: u64) -> u64 {
+fn site_case(tally: &mut [u64; TALLY], seed: u64) -> u64 {
     let mut table_space = [0u32; 62];
     let mut roster_space = [0u8; 24];
     let n = sites::size(seed);
@@ -51,7 +52,7 @@ fn site_case(tally: &mut [u64; 145], seed: u64) -> u64 {
     saturate_and_ship(tally, seed, words::right(seed, n), table, roster)
 }
 
-pub fn all(tally: &mut [u64; 145]) {
+pub fn all(tally: &mut [u64; TALLY]) {
     let mut count = 0;
     let mut seed = 0;
     while seed < 100000 {

@@ -11,6 +11,7 @@ use comparison_report::digest::same;
 use comparison_report::report::SATURATE;
 use comparison_report::report::STRONG;
 use comparison_report::report::SUMMARISE;
+use comparison_report::report::TALLY;
 use comparison_report::report::check;
 use comparison_report::report::small;
 use lists::rdfs_words;
@@ -164,7 +165,7 @@ fn keeps(call: usize, roster: &[u8], summary: &[u32], map: &[u32]) -> bool {
 
 // Ships the summary of a saturated table, and checks it and the second map.
 fn expect_shipped(
-    tally: &mut [u64; 145],
+    tally: &mut [u64; TALLY],
     call: usize,
     name: &[u8],
     table: &[u32],
@@ -191,7 +192,7 @@ fn expect_shipped(
 
 // A table, the summary of its saturation, and the map when that is summarised again; N is the map's length.
 fn expect(
-    tally: &mut [u64; 145],
+    tally: &mut [u64; TALLY],
     call: usize,
     name: &[u8],
     table: &[u32],
@@ -213,7 +214,7 @@ fn expect(
 
 // The same of a list with a table that ends at one place and a summary that ends at another, and then the map.
 fn expect_in(
-    tally: &mut [u64; 145],
+    tally: &mut [u64; TALLY],
     call: usize,
     name: &[u8],
     list: &[u32],
@@ -226,12 +227,12 @@ fn expect_in(
     expect(tally, call, name, &list[0..t], &list[t..s], &list[s..end]);
 }
 
-fn both_sixes(tally: &mut [u64; 145], list: &[u32]) {
+fn both_sixes(tally: &mut [u64; TALLY], list: &[u32]) {
     expect_in(tally, SUMMARISE, b"six-again", list, 18, 60);
     expect_in(tally, STRONG, b"six-again", list, 18, 60);
 }
 
-pub fn all(tally: &mut [u64; 145]) {
+pub fn all(tally: &mut [u64; TALLY]) {
     both_sixes(tally, &SIX);
     expect_in(tally, SUMMARISE, b"chain-again", &CHAIN, 6, 9);
     expect_in(tally, STRONG, b"chain-again", &APART, 6, 12);

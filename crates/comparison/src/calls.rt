@@ -9,6 +9,7 @@ use comparison_report::digest::answered;
 use comparison_report::digest::same;
 use comparison_report::report::ASK;
 use comparison_report::report::LOOK_UP;
+use comparison_report::report::TALLY;
 use comparison_report::report::YES;
 use comparison_report::report::differs;
 use comparison_report::report::record;
@@ -38,7 +39,7 @@ fn plain(show: bool) -> Run {
 
 // Counts an answer, and a difference if there is one; whether the lists are to be printed.
 fn settle(
-    tally: &mut [u64; 145],
+    tally: &mut [u64; TALLY],
     call: usize,
     seed: u64,
     column: u32,
@@ -54,7 +55,7 @@ fn settle(
 
 // A call on a table with a roster, with lists of those lengths. The own roster is as long as the roster.
 pub fn table_call(
-    tally: &mut [u64; 145],
+    tally: &mut [u64; TALLY],
     call: usize,
     seed: u64,
     words: Vocabulary,
@@ -81,7 +82,7 @@ fn column(a: Answer) -> u32 {
 
 // Counts the answers of a call that leaves no lists; answers the engine's column.
 fn settle_answers(
-    tally: &mut [u64; 145],
+    tally: &mut [u64; TALLY],
     call: usize,
     seed: u64,
     got: Answer,
@@ -96,7 +97,7 @@ fn settle_answers(
     column(got)
 }
 
-pub fn look_up(tally: &mut [u64; 145], seed: u64, list: &[u32], s: u32, p: u32, o: u32) -> u32 {
+pub fn look_up(tally: &mut [u64; TALLY], seed: u64, list: &[u32], s: u32, p: u32, o: u32) -> u32 {
     let t = Triple {
         subject: s,
         property: p,
@@ -141,7 +142,7 @@ fn query_of(query: &[u32]) -> Query {
 }
 
 pub fn ask(
-    tally: &mut [u64; 145],
+    tally: &mut [u64; TALLY],
     seed: u64,
     words: Vocabulary,
     table: &[u32],

@@ -10,7 +10,12 @@ pub const YES: u32 = 15;
 // The same as a column; the refusals are before it.
 const YES_COLUMN: usize = 15;
 
-const DIFFERENCES: usize = 144;
+const CALLS: usize = 9;
+
+const DIFFERENCES: usize = CALLS * COLUMNS;
+
+// The length of the tally.
+pub const TALLY: usize = DIFFERENCES + 1;
 
 // Of so many differences the lists are printed.
 const SHOWN: u64 = 3;
@@ -77,16 +82,16 @@ fn print_call(call: usize) {
     print(b"feed");
 }
 
-fn add_one(tally: &mut [u64; 145], i: usize) {
-    if i < 145 {
+fn add_one(tally: &mut [u64; TALLY], i: usize) {
+    if i < TALLY {
         tally[i] = std::num::wrapping_add_u64(tally[i], 1);
     }
 }
 
 // Counts an answer of a call.
-pub fn record(tally: &mut [u64; 145], call: usize, answer: u32) {
+pub fn record(tally: &mut [u64; TALLY], call: usize, answer: u32) {
     let column = answer as usize;
-    if call < 9 {
+    if call < CALLS {
         if column < COLUMNS {
             add_one(tally, call * COLUMNS + column);
         }
@@ -94,7 +99,7 @@ pub fn record(tally: &mut [u64; 145], call: usize, answer: u32) {
 }
 
 // Reports what differs.
-pub fn check(tally: &mut [u64; 145], call: usize, seed: u64, what: &[u8], ok: bool) {
+pub fn check(tally: &mut [u64; TALLY], call: usize, seed: u64, what: &[u8], ok: bool) {
     if ok {
         return;
     }
@@ -109,7 +114,7 @@ pub fn check(tally: &mut [u64; 145], call: usize, seed: u64, what: &[u8], ok: bo
 }
 
 // Reports that the engines left different answers or lists; whether the lists are to be printed.
-pub fn differs(tally: &mut [u64; 145], call: usize, seed: u64) -> bool {
+pub fn differs(tally: &mut [u64; TALLY], call: usize, seed: u64) -> bool {
     add_one(tally, DIFFERENCES);
     print(b"(different ");
     print_call(call);
@@ -217,7 +222,7 @@ pub fn reworked(tables: u64) {
     print(b")\n");
 }
 
-fn sum(tally: &[u64; 145], call: usize) -> u64 {
+fn sum(tally: &[u64; TALLY], call: usize) -> u64 {
     let mut total = 0;
     let mut column = 0;
     while column < COLUMNS {
@@ -227,8 +232,8 @@ fn sum(tally: &[u64; 145], call: usize) -> u64 {
     total
 }
 
-fn count_of(tally: &[u64; 145], call: usize, column: usize) -> u64 {
-    if call < 9 {
+fn count_of(tally: &[u64; TALLY], call: usize, column: usize) -> u64 {
+    if call < CALLS {
         if column < COLUMNS {
             return tally[call * COLUMNS + column];
         }
@@ -237,7 +242,7 @@ fn count_of(tally: &[u64; 145], call: usize, column: usize) -> u64 {
 }
 
 // A refusal's count, if there are any.
-fn print_refusal(tally: &[u64; 145], call: usize, number: usize) {
+fn print_refusal(tally: &[u64; TALLY], call: usize, number: usize) {
     let count = count_of(tally, call, number);
     if count == 0 {
         return;
@@ -248,7 +253,7 @@ fn print_refusal(tally: &[u64; 145], call: usize, number: usize) {
     print_number(count);
 }
 
-fn print_refusals(tally: &[u64; 145], call: usize) {
+fn print_refusals(tally: &[u64; TALLY], call: usize) {
     let mut number = 1;
     while number < YES_COLUMN {
         print_refusal(tally, call, number);
@@ -268,7 +273,7 @@ fn says_yes(call: usize) -> bool {
 }
 
 // The accepted answers of a call, yes and no apart where it says so.
-fn print_accepted(tally: &[u64; 145], call: usize) {
+fn print_accepted(tally: &[u64; TALLY], call: usize) {
     if says_yes(call) {
         print(b" yes ");
         print_number(count_of(tally, call, YES as usize));
@@ -279,7 +284,7 @@ fn print_accepted(tally: &[u64; 145], call: usize) {
 }
 
 // A call's counts, if there are any.
-fn print_line(tally: &[u64; 145], call: usize) {
+fn print_line(tally: &[u64; TALLY], call: usize) {
     let cases = sum(tally, call);
     if cases == 0 {
         return;
@@ -295,9 +300,9 @@ fn print_line(tally: &[u64; 145], call: usize) {
 }
 
 // A line for each call that was compared, and the number of differences.
-pub fn counts(tally: &[u64; 145]) {
+pub fn counts(tally: &[u64; TALLY]) {
     let mut call = 0;
-    while call < 9 {
+    while call < CALLS {
         print_line(tally, call);
         call += 1;
     }

@@ -9,6 +9,7 @@ use comparison_report::digest::same;
 use comparison_report::report::COLUMNS;
 use comparison_report::report::FEED;
 use comparison_report::report::OPEN;
+use comparison_report::report::TALLY;
 use comparison_report::report::YES;
 use comparison_report::report::differs;
 use comparison_report::report::record;
@@ -48,7 +49,7 @@ fn print_place(feeds: usize) {
 }
 
 // Reports the call after so many feeds; whether its lists are to be printed.
-fn report_difference(tally: &mut [u64; 145], seed: u64, feeds: usize) -> bool {
+fn report_difference(tally: &mut [u64; TALLY], seed: u64, feeds: usize) -> bool {
     if feeds == 0 {
         return differs(tally, OPEN, seed);
     }
@@ -59,7 +60,7 @@ fn report_difference(tally: &mut [u64; 145], seed: u64, feeds: usize) -> bool {
 
 // Finds the first call that differs, and prints its lists.
 fn explain<'a>(
-    tally: &mut [u64; 145],
+    tally: &mut [u64; TALLY],
     seed: u64,
     case: Case,
     feeds: &[u32],
@@ -76,7 +77,7 @@ fn explain<'a>(
 
 // Runs both engines and compares their digests; what the engine left.
 pub fn compare<'a>(
-    tally: &mut [u64; 145],
+    tally: &mut [u64; TALLY],
     seed: u64,
     case: Case,
     feeds: &[u32],
@@ -92,16 +93,16 @@ pub fn compare<'a>(
 }
 
 // The same of a small case, all of whose feeds lend the roster of the opening.
-pub fn compare_small(tally: &mut [u64; 145], case: Case, feeds: &[u32], roster: &[u8]) -> State {
+pub fn compare_small(tally: &mut [u64; TALLY], case: Case, feeds: &[u32], roster: &[u8]) -> State {
     compare(tally, 0, case, feeds, roster, roster)
 }
 
-pub fn record_open(tally: &mut [u64; 145], state: State) {
+pub fn record_open(tally: &mut [u64; TALLY], state: State) {
     record(tally, OPEN, state.opened);
 }
 
 // Counts the answer of the last feed.
-pub fn record_last(tally: &mut [u64; 145], state: State) {
+pub fn record_last(tally: &mut [u64; TALLY], state: State) {
     if state.seen.count == 1 {
         record(tally, FEED, YES);
         return;
@@ -110,7 +111,7 @@ pub fn record_last(tally: &mut [u64; 145], state: State) {
 }
 
 // Counts the answers of all feeds.
-pub fn record_feeds(tally: &mut [u64; 145], state: State) {
+pub fn record_feeds(tally: &mut [u64; TALLY], state: State) {
     let mut column = 0;
     while column < COLUMNS {
         let i = FEED * COLUMNS + column;

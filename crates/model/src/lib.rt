@@ -35,9 +35,11 @@ pub struct Rule {
     pub object: u32,
 }
 
+pub const RULE_COUNT: usize = 10;
+
 // The ten rules that saturation walks, each at its number less one: rdfs2, rdfs3, rdfs5, rdfs7, rdfs9, rdfs11, and the four by which
 // domains and ranges follow from others.
-pub const RULES: [Rule; 10] = [
+pub const RULES: [Rule; RULE_COUNT] = [
     // rdfs2: a domain c, s a o give s type c
     Rule {
         first: 3,
@@ -141,7 +143,7 @@ pub const RULES: [Rule; 10] = [
 ];
 
 // The table as a value: the constant is the definitions' table.
-pub fn rule_table() -> [Rule; 10]
+pub fn rule_table() -> [Rule; RULE_COUNT]
     ensures { λ r. ⌜ r ≡ rules ⌝ }
 {
     RULES

@@ -1,4 +1,5 @@
-// The plain intake. After an accepted opening and every feed its lists are H, the set of triples that were new, in rising order, its summary and its map.
+// The plain intake. After an accepted opening and every feed its lists are H, the set of triples that were new, in rising order, its
+// summary and its map.
 use naive_checks::covered;
 use naive_checks::roster_wrong;
 use naive_checks::size_wrong;

@@ -16,9 +16,6 @@ use model::Rule;
 use model::Triple;
 use model::Vocabulary;
 
-// The number of rules.
-pub const RULE_COUNT: usize = 10;
-
 // A rule of the table by its place.
 pub fn rule_at(k: usize) -> Rule
     requires { ⌜ k < ruleCount ⌝ }
