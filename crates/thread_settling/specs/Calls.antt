@@ -1,4 +1,4 @@
--- What the functions require and ensure.
+-- What the functions of this crate and of strong_map require and ensure.
 -- Assumes nothing.
 use Prim.Native.Nat.{ℕ, _+_, _<_}
 use mathlib.Core.Path.{_≡_}
