@@ -5,6 +5,7 @@ mod asks;
 mod feeds;
 mod inputs;
 mod measure;
+mod rosters;
 mod tables;
 mod texts;
 
@@ -35,8 +36,9 @@ How it is measured:
 /// The name by which a section is chosen, and what prints it.
 type Section = (&'static str, fn(&Settings));
 
-const SECTIONS: [Section; 9] = [
+const SECTIONS: [Section; 10] = [
     ("roster", tables::own_rosters),
+    ("opening", rosters::all),
     ("saturate", tables::saturations),
     ("cliques", tables::clique_lists),
     ("summarise", tables::summaries),

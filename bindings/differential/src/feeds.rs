@@ -68,9 +68,9 @@ pub fn open(random: &mut Random, report: &mut Report) {
     compare_open(report, &lent);
 }
 
-/// Opens with these words, a blank roster of n bytes and lists of these slots.
-pub fn open_with(random: &mut Random, report: &mut Report, words: &Words, n: usize, slots: usize) {
-    let lent = junk_lists(random, words, &vec![0; n], slots);
+/// Opens with these words, this roster and lists of these slots.
+pub fn open_with(random: &mut Random, report: &mut Report, words: &Words, roster: &[u8], slots: usize) {
+    let lent = junk_lists(random, words, roster, slots);
     compare_open(report, &lent);
 }
 

@@ -9,6 +9,7 @@ mod long;
 mod random;
 mod report;
 mod rest;
+mod rosters;
 mod shapes;
 mod tables;
 mod texts;
@@ -23,7 +24,7 @@ pub struct Options {
     pub seed: u64,
     /// How many cases at least.
     pub cases: usize,
-    /// Whether the long cases run too.
+    /// Whether the long cases and the rosters with one value run too.
     pub long: bool,
     /// A mistake for the unverified engine to make.
     pub mistake: Mistake,
@@ -62,6 +63,7 @@ pub fn run(options: &Options) -> Report {
     }
     if options.long {
         long::all(&mut random, &mut report, options.mistake);
+        rosters::all(&mut random, &mut report);
     }
     report
 }

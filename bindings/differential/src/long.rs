@@ -110,13 +110,13 @@ fn limits(random: &mut Random, report: &mut Report) {
         let list = vec![5; 3 * amount];
         tables::compare_look_up(report, list.clone(), [5, 5, 5], 9);
         tables::compare_own_roster(report, (RDFS.to_vec(), list, random.junk_bytes(6)));
-        feeds::open_with(random, report, &RDFS, 6, amount);
+        feeds::open_with(random, report, &RDFS, &[0; 6], amount);
     }
     // Words that are right from five codes on, at the largest site only, and nowhere.
     for words in [RDFS, [4, 3, 2, 1, 0], [65_535, 0, 65_534, 1, 2], [0, 1, 2, 3, 65_536]] {
         for n in [4, 5, MAX_SIZE - 1, MAX_SIZE, MAX_SIZE + 1] {
             tables::compare_own_roster(report, (words.to_vec(), Vec::new(), random.junk_bytes(n)));
-            feeds::open_with(random, report, &words, n, 2);
+            feeds::open_with(random, report, &words, &vec![0; n], 2);
             let empty = lent(random, &words, &[], n, 2);
             tables::compare_summarise(report, Mistake::None, &WEAK, empty.clone());
             tables::compare_summarise(report, Mistake::None, &STRONG, empty.clone());

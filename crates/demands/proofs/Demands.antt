@@ -3,12 +3,13 @@
 use Rattle.model.specs.Classes.{mapOf, strongMapOf}
 use Rattle.model.proofs.Graphs as graphs
 use Rattle.query.proofs.Exact.{ask-exact}
+use Rattle.roster_values.proofs.Bytes.{word-test-exact}
 use Rattle.theory.proofs.Theorems as theorems
 use Rattle.site_form.proofs.Whole.{reads-exactly}
 use Rattle.site_form.proofs.Back.{written-is-read}
 use Rattle.site_form.proofs.Queries.{counts-patterns}
 use Rattle.site_form.proofs.Example.{sign-bytes, prints-example}
-use Rattle.demands.specs.Demands.{GraphsRight, StrongGraphsRight, ClosuresRight, Demand2, Demand3, AtRest, SiteForms}
+use Rattle.demands.specs.Demands.{GraphsRight, StrongGraphsRight, ClosuresRight, Demand2, Demand3, AtRest, RosterByWords, SiteForms}
 use Rattle.demands.proofs.NoneMeansNone.{none-means-none}
 use Rattle.demands.proofs.Feeds.{list-of-calls}
 use Rattle.demands.proofs.Routes.{accepted-calls, routes-of-calls, strong-routes-of-calls, shortcut-of-calls, strong-shortcut-of-calls}
@@ -73,6 +74,9 @@ at-rest =
       at-rest-of-calls = at-rest-of-calls;
       strong-at-rest-of-calls = strong-at-rest-of-calls;
     }
+
+pub roster-by-words : RosterByWords
+roster-by-words = record { word-test = word-test-exact }
 
 pub site-forms : SiteForms
 site-forms =

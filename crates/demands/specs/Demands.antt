@@ -12,6 +12,7 @@ use Rattle.model.specs.Codes.{rdfs, codes, kind, reserved, wrongWords}
 use Rattle.model.specs.Outcomes.{Outcome, Check, check, decided, wrongSize}
 use Rattle.model.specs.Graphs.{graphs, allRight, closures, allClosed, strongGraphs, allStrongRight}
 use Rattle.query.specs.Match.{AskExact}
+use Rattle.roster_values.specs.Bytes.{WordTest}
 use Rattle.site_form.specs.Reading.{ReadsExactly, CountsPatterns, loaded}
 use Rattle.site_form.specs.Writing.{WrittenIsRead, lineOf}
 use Rattle.site_form.specs.Example.{SignBytes, PrintsExample}
@@ -80,6 +81,12 @@ pub record AtRest : Type 0 where
   pub leaves-saturated : (v : Vocabulary) → LeavesSaturated v
   pub at-rest-of-calls : (v : Vocabulary) → AtRestOfCalls v
   pub strong-at-rest-of-calls : (v : Vocabulary) → StrongAtRestOfCalls v
+
+-- 02: "The check should take eight roster bytes as one u64 word at a time; show for every u64 that one test of the word passes exactly if
+-- none of its eight bytes is over 3." The code has the test in roster_values' `word_over_three`, which is called for each word; that rosters of
+-- every length keep their answers is the contract of roster_checks' `roster_wrong`.
+pub record RosterByWords : Type 0 where
+  pub word-test : WordTest
 
 -- the site form: read exactly, read back as written, and the example printed
 pub record SiteForms : Type 0 where

@@ -1,4 +1,4 @@
 pub mod Sides
 pub mod Covering
 pub mod Tables
-pub mod Values
+pub mod Wrong

@@ -9,7 +9,7 @@ ghost use Rattle.model.specs.Triples.{triples};
 ghost use Rattle.theory.specs.Tables.{Below, AllBelow};
 ghost use Rattle.model.specs.Cliques.{sideOf, end, links};
 ghost use Rattle.model.specs.Roster.{isClass, isProperty, unmarked, wrongRoster, coversTriple, covers};
-ghost use Rattle.roster_checks.specs.Halves.{overThree, marked};
+ghost use Rattle.roster_checks.specs.Reserved.{marked};
 use lists::Code;
 use lists::DATA;
 use lists::SUBCLASS;
@@ -19,6 +19,7 @@ use lists::triple_at;
 use lists::wide;
 use model::Triple;
 use model::Vocabulary;
+use roster_values::value_wrong;
 
 // Whether a mark says class.
 fn is_class(mark: u8) -> bool
@@ -120,21 +121,6 @@ pub fn uncovered(words: Vocabulary, table: &[u32], roster: &[u8]) -> bool
     while i < n {
         let t = triple_at(table, i);
         if !covers_triple(words, roster, t) {
-            return true;
-        }
-        i += 1;
-    }
-    false
-}
-
-// Whether a value of the roster is over 3.
-fn value_wrong(roster: &[u8]) -> bool
-    ensures { λ r. ⌜ r ≡ overThree (now (roster .entry)) ⌝ }
-{
-    let n = roster.len();
-    let mut i = 0;
-    while i < n {
-        if 3 < roster[i] {
             return true;
         }
         i += 1;

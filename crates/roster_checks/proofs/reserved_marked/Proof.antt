@@ -1,7 +1,7 @@
 use mathlib.Core.Path.{refl, sym, _∙_}
 use mathlib.Core.List.{List·Memᴰ·head as here, List·Memᴰ·tail as there}
 use Rattle.theory.proofs.Accepted.{words-below}
-use Rattle.roster_checks.proofs.Values.{marked-0, marked-1, marked-2, marked-3, marked-4}
+use Rattle.roster_checks.proofs.Wrong.{marked-0, marked-1, marked-2, marked-3, marked-4}
 use Rattle.roster_checks.proofs.reserved_marked.Statement.{statement}
 use Rattle.roster_checks.proofs.reserved_marked.Tie as tie
 

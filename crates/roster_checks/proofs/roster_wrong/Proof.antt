@@ -1,5 +1,5 @@
 use mathlib.Core.Path.{sym, _∙_}
-use Rattle.roster_checks.proofs.Values.{wrong-value, wrong-mark}
+use Rattle.roster_checks.proofs.Wrong.{wrong-value, wrong-mark}
 use borrow.Author.Needs.{needs}
 use Rattle.roster_checks.proofs.roster_wrong.Statement.{statement}
 use Rattle.roster_checks.proofs.roster_wrong.Tie as tie

@@ -1,34 +1,20 @@
--- The values of a roster.
+-- Check 2: a value over 3, or a reserved code marked, one after the other.
 -- Assumes nothing.
-use Prim.Native.Nat.{ℕ, zero, suc, _<_, _≤_}
-use mathlib.Core.Path.{_≡_, refl, sym, _∙_, ap}
+use Prim.Native.Nat.{ℕ}
+use mathlib.Core.Path.{_≡_, sym, _∙_, ap}
 use mathlib.Core.Bool.{Bool, true, false, not, _||_, or-false}
-use mathlib.Core.List.{List, [], _∷_}
-use native.Mathlib.Omega.{arith}
+use mathlib.Core.List.{List}
 use lib.Dec.{ltb}
-use lib.ListN.{length, getD}
-use borrow.Author.Tests.{lt-ltb}
 use Rattle.model.specs.Lists.{any}
-use Rattle.roster_checks.specs.Halves.{overThree, marked}
+use Rattle.roster_values.specs.Bytes.{overThree}
+use Rattle.roster_checks.specs.Reserved.{marked}
 use Rattle.model.specs.declared.Vocabulary.{Vocabulary}
 use Rattle.model.specs.Codes.{codes}
 use Rattle.model.specs.Roster.{unmarked, wrongRoster}
-use Rattle.theory.proofs.Tests.{or-left, or-right, or-neither}
-
-pub over-at : (l : List ℕ) (i : ℕ) → i < length l → 3 < getD l i 0 → true ≡ overThree l
-unfolding overThree any
-over-at [] i h e = absurd (omega arith)
-over-at (x ∷ l) zero h e = sym (or-left (ltb 3 x) _ (lt-ltb _ _ e))
-over-at (x ∷ l) (suc i) h e = sym (or-right (ltb 3 x) _ (sym (over-at l i (omega arith) e)))
-
-pub over-nowhere : (l : List ℕ) (i : ℕ) → length l ≤ i → ((k : ℕ) → k < i → ltb 3 (getD l k 0) ≡ false) → false ≡ overThree l
-unfolding overThree any
-over-nowhere [] i h e = refl
-over-nowhere (x ∷ l) zero h e = absurd (omega arith)
-over-nowhere (x ∷ l) (suc i) h e = sym (or-neither (ltb 3 x) _ (e 0 (omega arith)) (sym (over-nowhere l i (omega arith) (λ k q. e (suc k) (omega arith)))))
+use Rattle.theory.proofs.Tests.{or-left}
 
 module _ (v : Vocabulary) where
-  -- ── the reserved codes, one after the other ──
+  -- ── the reserved codes ──
   module _ (l : List ℕ) where
     abbrev is-marked : ℕ → Bool
     is-marked c = not (unmarked l c)
