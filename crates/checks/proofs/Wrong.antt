@@ -18,7 +18,7 @@ use Rattle.model.specs.Roster.{wrongEnd, wrongTriple, wrongCodes}
 use Rattle.model.specs.Outcomes.{wrongSize, wrongLength, wrongWork}
 use Rattle.theory.proofs.Tests.{bool-cases}
 use Rattle.lists.specs.Flat.{at}
-use Rattle.checks.proofs.Places.{run-none, run-more, run-holds}
+use Rattle.theory.proofs.Runs.{run-none, run-more, run-holds}
 use Rattle.lists.proofs.Places.{triples-table}
 
 -- ── lengths ──

@@ -19,11 +19,12 @@ use Rattle.model.specs.Partition.{label}
 use Rattle.model.specs.Summary.{moved}
 use Rattle.theory.proofs.Tests.{or-left, or-right, or-neither}
 use Rattle.theory.proofs.Lists.{mem-tabulate}
+use Rattle.theory.proofs.Runs.{run-holds, run-fails}
 use Rattle.theory.proofs.Order.{same-eq}
 use Rattle.theory.specs.Tables.{Below}
 use Rattle.theory.proofs.Covered.{codes-right}
 use Rattle.lists.specs.Flat.{at}
-use Rattle.lists.proofs.Places.{any-at, any-nowhere, same-default}
+use Rattle.lists.proofs.Places.{same-default}
 use Rattle.lists.proofs.Compare.{Cmp, lt, eq, gt, cmp}
 use Rattle.lists.proofs.Search.{bound-here, bound-past}
 use Rattle.builder.specs.Builder.{first}
@@ -84,14 +85,14 @@ module _ (v : Vocabulary) where
 
     pub bad-code : (n : ℕ) → i < n → wrongTriple v (length roster) t ≡ true → true ≡ any (bad v roster) (first l n)
     unfolding bad
-    bad-code n h a = any-at (bad v roster) (at l) n i h (ap (bad v roster) (sym e) ∙ or-left (wrongTriple v (length roster) t) _ a)
+    bad-code n h a = sym (run-holds (bad v roster) (at l) 0 n i (omega arith) (omega arith) (ap (bad v roster) (sym e) ∙ or-left (wrongTriple v (length roster) t) _ a))
 
     pub bad-cover : (n : ℕ) → i < n → coversTriple v roster t ≡ false → true ≡ any (bad v roster) (first l n)
     unfolding bad
-    bad-cover n h a = any-at (bad v roster) (at l) n i h (ap (bad v roster) (sym e) ∙ or-right (wrongTriple v (length roster) t) _ (ap not a))
+    bad-cover n h a = sym (run-holds (bad v roster) (at l) 0 n i (omega arith) (omega arith) (ap (bad v roster) (sym e) ∙ or-right (wrongTriple v (length roster) t) _ (ap not a)))
 
   pub good-end : (l roster : List ℕ) (i n : ℕ) → GoodBefore l roster i → n ≤ i → false ≡ any (bad v roster) (first l n)
-  good-end l roster i n g h = any-nowhere (bad v roster) (at l) n i h (g .good)
+  good-end l roster i n g h = sym (run-fails (bad v roster) (at l) 0 n (λ k x y. g .good k (omega arith)))
 
   pub below-of : (n : ℕ) (t : Triple) → wrongTriple v n t ≡ false → Below n t
   below-of n t h = (codes-right v n t h) .below

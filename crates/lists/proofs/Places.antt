@@ -4,15 +4,14 @@ use Prim.Native.Nat.{ℕ, zero, suc, _+_, _*_, _/_, _<_, _≤_}
 use mathlib.Core.Path.{_≡_, refl, sym, _∙_, ap, subst}
 use mathlib.Core.Logic.{_⊎_, ⊎-elim}
 use mathlib.Core.List.{List, [], _∷_}
-use mathlib.Core.Bool.{Bool, true, false}
 use native.Mathlib.Omega.{arith}
 use lib.ListN.{length, getD, set, take, length-set}
 use lib.Seq.{getD-set-same, getD-set-other, lt-length-set, length-take-le}
 use Rattle.model.specs.declared.Triple.{Triple}
-use Rattle.model.specs.Lists.{any, tabulate}
+use Rattle.model.specs.Lists.{tabulate}
 use Rattle.model.specs.Triples.{triple, triples, flat}
 use Rattle.model.specs.Order.{Lt, Rising}
-use Rattle.theory.proofs.Lists.{any-holds, none-any, tabulate-mem, mem-tabulate}
+use Rattle.theory.proofs.Lists.{tabulate-mem, mem-tabulate}
 use Rattle.theory.proofs.Flat.{flat-triples}
 use Rattle.lists.specs.Flat.{at, putAt, swapped, RisingPart}
 use Rattle.lists.proofs.Compare.{Cmp, lt, eq, gt, cmp}
@@ -145,13 +144,6 @@ triples-all (s ∷ p ∷ o ∷ r) (suc n) h k =
 
 pub triples-table : (l : List ℕ) → triples l ≡ tabulate (at l) 0 (length l / 3)
 triples-table l = triples-all l (length l / 3) (omega arith) (omega arith)
-
--- a loop over places that looks for a value that passes a test
-pub any-at : {A : Type 0} (f : A → Bool) (g : ℕ → A) (n i : ℕ) → i < n → f (g i) ≡ true → true ≡ any f (tabulate g 0 n)
-any-at f g n i h e = sym (any-holds f (tabulate g 0 n) (g i) (mem-tabulate g 0 n i (omega arith) (omega arith)) e)
-
-pub any-nowhere : {A : Type 0} (f : A → Bool) (g : ℕ → A) (n i : ℕ) → n ≤ i → ((k : ℕ) → k < i → f (g k) ≡ false) → false ≡ any f (tabulate g 0 n)
-any-nowhere f g n i h e = sym (none-any f (tabulate g 0 n) (λ x m. let w = tabulate-mem g 0 n m in ap f (w .3) ∙ e (w .0) (omega (arith, w .2))))
 
 -- within a list the default is not read
 pub same-default : (l : List ℕ) (i d e : ℕ) → i < length l → getD l i d ≡ getD l i e

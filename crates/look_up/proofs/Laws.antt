@@ -4,6 +4,7 @@ use Prim.Native.Nat.{ℕ, _<_, _≤_, _/_}
 use mathlib.Core.Path.{_≡_, sym, _∙_, ap}
 use mathlib.Core.Bool.{Bool, true, false, cond}
 use mathlib.Core.List.{List}
+use native.Mathlib.Omega.{arith}
 use lib.ListN.{length}
 use Rattle.model.specs.declared.Triple.{Triple}
 use Rattle.model.specs.declared.Found.the-variants.{Yes, No, Refused}
@@ -13,7 +14,8 @@ use Rattle.model.specs.Triples.{triples, same, holds}
 use Rattle.model.specs.Outcomes.{refused, accepted, refusalNumber, found, decided, wrongLength}
 use Rattle.model.specs.Calls.{lookUpOutcome}
 use Rattle.lists.specs.Flat.{at}
-use Rattle.lists.proofs.Places.{triples-table, any-at, any-nowhere}
+use Rattle.theory.proofs.Runs.{run-holds, run-fails}
+use Rattle.lists.proofs.Places.{triples-table}
 
 module _ (l : List ℕ) (t : Triple) where
   places : any (same t) (Rattle.model.specs.Lists.tabulate (at l) 0 (length l / 3)) ≡ holds t (triples l)
@@ -21,10 +23,10 @@ module _ (l : List ℕ) (t : Triple) where
   places = ap (any (same t)) (sym (triples-table l))
 
   pub stands-at : (i : ℕ) → i < length l / 3 → same t (at l i) ≡ true → true ≡ holds t (triples l)
-  stands-at i h e = any-at (same t) (at l) (length l / 3) i h e ∙ places
+  stands-at i h e = sym (run-holds (same t) (at l) 0 (length l / 3) i (omega arith) (omega arith) e) ∙ places
 
   pub stands-nowhere : (i : ℕ) → length l / 3 ≤ i → ((k : ℕ) → k < i → same t (at l k) ≡ false) → false ≡ holds t (triples l)
-  stands-nowhere i h e = any-nowhere (same t) (at l) (length l / 3) i h e ∙ places
+  stands-nowhere i h e = sym (run-fails (same t) (at l) 0 (length l / 3) (λ k x y. e k (omega arith))) ∙ places
 
   -- ── the answers ──
   outcome-is : {a : Bool} → wrongLength (length l) ≡ a → lookUpOutcome l t ≡ cond a (refused 1) (accepted (holds t (triples l)))

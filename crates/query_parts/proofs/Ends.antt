@@ -11,7 +11,7 @@ use borrow.Author.Tests.{lt-ltb, le-ltb, le-leb, lt-leb, eq-eqb, ne-eqb, ltb-fal
 use Rattle.model.specs.Codes.{absent}
 use Rattle.model.specs.Lists.{any, tabulate}
 use Rattle.model.specs.Partition.{label}
-use Rattle.checks.proofs.Places.{run-none, run-more, run-holds}
+use Rattle.theory.proofs.Runs.{run-none, run-more, run-holds}
 use Rattle.query.specs.declared.End.{End}
 use Rattle.query.specs.declared.End.the-variants.{Var, Code}
 use Rattle.query.specs.declared.Pattern.{Pattern}

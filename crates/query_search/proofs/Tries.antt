@@ -11,7 +11,7 @@ use Rattle.model.specs.declared.Triple.{Triple}
 use Rattle.model.specs.Lists.{any, tabulate}
 use Rattle.model.specs.Triples.{triples}
 use Rattle.lists.specs.Flat.{at}
-use Rattle.checks.proofs.Places.{run-none, run-one, run-parts, run-fails}
+use Rattle.theory.proofs.Runs.{run-none, run-one, run-parts, run-fails}
 use Rattle.lists.proofs.Places.{triples-table}
 use Rattle.query.specs.declared.Pattern.{Pattern}
 use Rattle.query.specs.declared.Query.{Query}

@@ -3,7 +3,7 @@
 use Prim.Native.Nat.{ℕ, zero, suc, _+_, _-_, _/_, _≤_, _<_}
 use mathlib.Core.Path.{_≡_, refl, sym, _∙_, ap}
 use mathlib.Core.Logic.{⊎-elim}
-use mathlib.Core.Bool.{Bool, true, false, cond, _||_}
+use mathlib.Core.Bool.{Bool, true, false, cond, _||_, or-assoc}
 use mathlib.Core.List.{List, [], _∷_, List·Memᴰ as Mem, List·Memᴰ·head as here, List·Memᴰ·tail as there}
 use native.Mathlib.Omega.{arith}
 use native.Mathlib.Numerals.{add-one}
@@ -111,22 +111,18 @@ property-stands n l P Q d h s =
 stands-same : (n : ℕ) (l : List ℕ) (P Q P′ Q′ : ℕ → Bool) → ((c : ℕ) → P c ≡ P′ c) → ((c : ℕ) → Q c ≡ Q′ c) → Stands n l P Q → Stands n l P′ Q′
 stands-same n l P Q P′ Q′ p q s = record { size = s .size; entry = λ c h. s .entry c h ∙ (λ i. bits (p c i) (q c i)) }
 
-or-assoc : (a b d : Bool) → (a || (b || d)) ≡ ((a || b) || d)
-or-assoc true b d = refl
-or-assoc false b d = refl
-
 classes-stand : (n : ℕ) (cs l : List ℕ) (P Q : ℕ → Bool) → ((c : ℕ) → Mem c cs → c < n) → Stands n l P Q → Stands n (allMarked classMarked l cs) (λ c. among c cs || P c) Q
 unfolding allMarked among any
 classes-stand n [] l P Q h s = s
 classes-stand n (d ∷ cs) l P Q h s =
-    stands-same n (classMarked (allMarked classMarked l cs) d) (λ c. eqb c d || (among c cs || P c)) Q (λ c. among c (d ∷ cs) || P c) Q (λ c. or-assoc (eqb c d) (among c cs) (P c)) (λ c. refl)
+    stands-same n (classMarked (allMarked classMarked l cs) d) (λ c. eqb c d || (among c cs || P c)) Q (λ c. among c (d ∷ cs) || P c) Q (λ c. sym (or-assoc (eqb c d) (among c cs) (P c))) (λ c. refl)
     (class-stands n (allMarked classMarked l cs) (λ c. among c cs || P c) Q d (h d (here refl)) (classes-stand n cs l P Q (λ c m. h c (there m)) s))
 
 properties-stand : (n : ℕ) (cs l : List ℕ) (P Q : ℕ → Bool) → ((c : ℕ) → Mem c cs → c < n) → Stands n l P Q → Stands n (allMarked propertyMarked l cs) P (λ c. among c cs || Q c)
 unfolding allMarked among any
 properties-stand n [] l P Q h s = s
 properties-stand n (d ∷ cs) l P Q h s =
-    stands-same n (propertyMarked (allMarked propertyMarked l cs) d) P (λ c. eqb c d || (among c cs || Q c)) P (λ c. among c (d ∷ cs) || Q c) (λ c. refl) (λ c. or-assoc (eqb c d) (among c cs) (Q c))
+    stands-same n (propertyMarked (allMarked propertyMarked l cs) d) P (λ c. eqb c d || (among c cs || Q c)) P (λ c. among c (d ∷ cs) || Q c) (λ c. refl) (λ c. sym (or-assoc (eqb c d) (among c cs) (Q c)))
     (property-stands n (allMarked propertyMarked l cs) P (λ c. among c cs || Q c) d (h d (here refl)) (properties-stand n cs l P Q (λ c m. h c (there m)) s))
 
 -- (b or (a or p)) is ((a or b) or p)

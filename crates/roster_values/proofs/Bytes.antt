@@ -1,22 +1,22 @@
 -- The bytes of a word that is made of bytes, and the test of a word.
 -- Assumes nothing.
 use Prim.Native.Nat.{ℕ, zero, suc, _+_, _*_, _/_, _%_, _^_, _<_, _≤_}
-use mathlib.Core.Path.{_≡_, refl, sym, _∙_, ap}
+use mathlib.Core.Path.{_≡_, sym, _∙_, ap}
 use mathlib.Core.Logic.{⊎-elim}
-use mathlib.Core.Bool.{Bool, true, false, not}
+use mathlib.Core.Bool.{not}
 use mathlib.Core.List.{List, [], _∷_}
 use native.Mathlib.Omega.{arith}
 use native.Mathlib.Nat.{mod-lt, mod-eq-of-lt, div-one, div-div-eq-div-mul, mul-comm, pow-suc}
 use lib.Dec.{eqb, ltb, lit<}
 use lib.ListN.{length, getD}
 use lib.Pow.{pow-pos, split}
-use lib.Seq.{ext-getD}
 use lib.Bits.{bitAnd, and-block, and-high, and-zero-r}
 use borrow.Author.Tests.{eq-eqb, ne-eqb, ltb-true, ltb-false}
 use Rattle.model.specs.Lists.{tabulate}
 use Rattle.model.specs.Roster.{mark}
 use Rattle.theory.proofs.Tests.{bool-cases}
-use Rattle.theory.proofs.Lists.{any-found, any-none, tabulate-at, tabulate-mem, mem-tabulate}
+use Rattle.theory.proofs.Lists.{tabulate-list}
+use Rattle.theory.proofs.Runs.{run-found, run-each}
 use Rattle.roster_values.specs.Bytes.{overThree, values, byteOf, bytesOf, upperBits, WordTest}
 
 -- ── one byte after the other ──
@@ -69,9 +69,7 @@ module _ (l : List ℕ) (i a b c d e f g h : ℕ) where
   unfolding Bytes tabulate
   word-is xa xb xc xd xe xf xg xh =
       let all : Bytes eight = (xa .1, (xb .1, (xc .1, (xd .1, (xe .1, (xf .1, (xg .1, (xh .1, tt)))))))) in
-      let p : bytesOf sum ≡ eight =
-      ext-getD 0 (bytesOf sum) eight refl
-      (λ k x. tabulate-at (byteOf sum) 0 0 8 k x ∙ ap (byteOf sum) (omega arith) ∙ ap (λ (v : ℕ). byteOf v k) sum-is ∙ word-bytes eight all k x) in
+      let p : bytesOf sum ≡ eight = tabulate-list 0 (byteOf sum) eight (λ k x. ap (λ (v : ℕ). byteOf v k) sum-is ∙ word-bytes eight all k x) in
       let yb : b ≡ mark l (suc i) = xb .0 ∙ ap (mark l) (omega arith) in
       let yc : c ≡ mark l (suc (suc i)) = xc .0 ∙ ap (mark l) (omega arith) in
       let yd : d ≡ mark l (suc (suc (suc i))) = xd .0 ∙ ap (mark l) (omega arith) in
@@ -136,12 +134,9 @@ unfolding overs overThree
 word-test w =
     ⊎-elim
     (λ o.
-    let f = any-found (λ m. ltb 3 m) (bytesOf w) o in
-    let t = tabulate-mem (byteOf w) 0 8 (f .1) in
-    let x = ltb-true 3 (f .0) (f .2) in
-    ap not (ne-eqb _ 0 (λ z. let b = passed 8 w z (t .0) (omega (arith, t .2)) in omega (arith, b, t .3, x))) ∙ sym o)
+    let f = run-found (ltb 3) (byteOf w) 0 8 o in
+    let x = ltb-true 3 (byteOf w (f .0)) (f .3) in
+    ap not (ne-eqb _ 0 (λ z. let b = passed 8 w z (f .0) (omega (arith, f .2)) in omega (arith, b, x))) ∙ sym o)
     (λ o.
-    let right : (k : ℕ) → k < 8 → byteOf w k ≤ 3 =
-    λ k x. ltb-false 3 (byteOf w k) (any-none (λ m. ltb 3 m) (bytesOf w) o (byteOf w k) (mem-tabulate (byteOf w) 0 8 k (omega arith) (omega arith))) in
-    ap not (eq-eqb _ 0 (passes 8 w right)) ∙ sym o)
+    ap not (eq-eqb _ 0 (passes 8 w (λ k x. ltb-false 3 (byteOf w k) (run-each (ltb 3) (byteOf w) 0 8 o k (omega arith) (omega arith))))) ∙ sym o)
     (bool-cases (overThree (bytesOf w)))

@@ -13,7 +13,7 @@ use Rattle.model.specs.declared.Vocabulary.{Vocabulary}
 use Rattle.model.specs.Lists.{any, tabulate}
 use Rattle.model.specs.Triples.{flat}
 use Rattle.model.specs.Outcomes.{Outcome}
-use Rattle.theory.proofs.Lists.{any-holds, none-any, mem-tabulate, tabulate-mem}
+use Rattle.theory.proofs.Runs.{run-holds, run-fails}
 use Rattle.lists.proofs.Compare.{Cmp, lt, eq, gt, cmp}
 use Rattle.query.specs.declared.Asked.{Asked}
 use Rattle.query.specs.declared.Asked.the-variants.{Maybe, None, Refused}
@@ -57,14 +57,11 @@ module _ (answers : List Asked) where
 
   pub some-refused : (i n : ℕ) → i < n → isRefused (answerAt answers i) ≡ true → true ≡ any isRefused (answersIn answers n)
   unfolding answersIn
-  some-refused i n h e = sym (any-holds isRefused _ (answerAt answers i) (mem-tabulate (answerAt answers) 0 n i (omega arith) (omega arith)) e)
+  some-refused i n h e = sym (run-holds isRefused (answerAt answers) 0 n i (omega arith) (omega arith) e)
 
   pub none-refused : (i n : ℕ) → n ≤ i → Accepting i → false ≡ any isRefused (answersIn answers n)
   unfolding answersIn
-  none-refused i n h f =
-      sym (none-any isRefused _ (λ x m.
-      let w = tabulate-mem (answerAt answers) 0 n m in
-      ap isRefused (w .3) ∙ f .none (w .0) (omega (arith, w .2))))
+  none-refused i n h f = sym (run-fails isRefused (answerAt answers) 0 n (λ k x y. f .none k (omega arith)))
 
 -- ── the queries that were read ──
 shift : {A : Type 0} (f : ℕ → A) (i n : ℕ) → tabulate f (suc i) n ≡ tabulate (λ k. f (suc k)) i n

@@ -10,6 +10,8 @@ use mathlib.Core.List.{Memᴰ·append-right as append-right}
 use native.Mathlib.Omega.{arith}
 use lib.Dec.{eqb}
 use lib.ListN.{length, getD}
+use lib.Seq.{ext-getD}
+use native.Mathlib.Nat.{zero-add}
 use borrow.Author.Tests.{eqb-true, eq-eqb}
 use Rattle.model.specs.Lists.{any, all, collect, when, among, tabulate}
 use Rattle.theory.proofs.Tests.{or-true, or-left, or-right, and-true, and-both, cond-cases, bool-cases}
@@ -118,6 +120,13 @@ module _ {A : Type 0} (f : ℕ → A) where
   mem-tabulate i (suc n) x h k =
       ⊎-elim (λ (e : eqb x i ≡ true). here (ap f (eqb-true _ _ e)))
       (λ (e : eqb x i ≡ false). there (mem-tabulate (suc i) n x (omega (arith, borrow.Author.Tests.eqb-false x i e)) (omega arith))) (bool-cases (eqb x i))
+
+-- a list is its elements, place by place
+pub tabulate-list : {A : Type 0} (d : A) (f : ℕ → A) (xs : List A) → ((k : ℕ) → k < length xs → f k ≡ getD xs k d) → tabulate f 0 (length xs) ≡ xs
+tabulate-list d f xs h =
+    let n = length-tabulate f 0 (length xs) in
+    ext-getD d (tabulate f 0 (length xs)) xs n
+    (λ k x. let y : k < length xs = omega arith in tabulate-at f d 0 (length xs) k y ∙ ap f (zero-add k) ∙ h k y)
 
 pub among-mem : (c : ℕ) (xs : List ℕ) → among c xs ≡ true → Mem c xs
 unfolding among

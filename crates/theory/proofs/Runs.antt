@@ -5,7 +5,7 @@ use native.Mathlib.Nat.{zero-add, add-zero, suc-add, add-suc}
 use mathlib.Core.Path.{_≡_, refl, sym, ap, _∙_}
 use mathlib.Core.Bool.{Bool, true, false, _||_, or-assoc, or-false}
 use Rattle.model.specs.Lists.{any, tabulate}
-use Rattle.theory.proofs.Lists.{any-holds, none-any, mem-tabulate, tabulate-mem}
+use Rattle.theory.proofs.Lists.{any-found, any-holds, any-none, none-any, mem-tabulate, tabulate-mem}
 
 module _ {A : Type 0} (f : A → Bool) (g : ℕ → A) where
   pub run-none : (a : ℕ) → any f (tabulate g a 0) ≡ false
@@ -35,3 +35,13 @@ module _ {A : Type 0} (f : A → Bool) (g : ℕ → A) where
   -- it fails at each
   pub run-fails : (a n : ℕ) → ((i : ℕ) → a ≤ i → i < a + n → f (g i) ≡ false) → any f (tabulate g a n) ≡ false
   run-fails a n h = none-any f (tabulate g a n) (λ x m. let w = tabulate-mem g a n m in ap f (w .3) ∙ h (w .0) (w .1) (w .2))
+
+  -- and back: a number where it holds, and that it fails at each
+  pub run-found : (a n : ℕ) → any f (tabulate g a n) ≡ true → (i : ℕ) × (a ≤ i) × (i < a + n) × (f (g i) ≡ true)
+  run-found a n e =
+      let x = any-found f (tabulate g a n) e in
+      let w = tabulate-mem g a n (x .1) in
+      (w .0, w .1, w .2, ap f (sym (w .3)) ∙ x .2)
+
+  pub run-each : (a n : ℕ) → any f (tabulate g a n) ≡ false → (i : ℕ) → a ≤ i → i < a + n → f (g i) ≡ false
+  run-each a n e i l m = any-none f (tabulate g a n) e (g i) (mem-tabulate g a n i l m)
