@@ -45,7 +45,7 @@
  * Answers
  *   Each call returns WS_OK or the number of a refusal. The checks run in the order that stands at the call, each over all
  *   its input before the next.
- *   After 1, 10, 2, 3, 4, 6 and 7 nothing that was lent is altered.
+ *   After 1, 10, 2, 3, 4, 6, 12 and 7 nothing that was lent is altered.
  *   Each call that takes words refuses a list of other than WS_WORDS_NUMBERS numbers with 1, before all else, and then wrong
  *   words with 10, straight after 1.
  *   After 5 and 8 the lists are zero, as said at each call; the words of ws_read are 0 to 4.
@@ -121,6 +121,7 @@ extern "C" {
 #define WS_REFUSED_FULL 7   /* intake: the triple is new and every slot holds one */
 #define WS_REFUSED_FORM 8   /* the text is not in the site form */
 #define WS_REFUSED_WORDS 10 /* two words are equal, or one is not below N */
+#define WS_REFUSED_RETIRED 12 /* a counted pattern's property is subclass, subproperty, domain or range */
 
 /*
  * Own roster: the smallest roster that covers the table.
@@ -210,13 +211,14 @@ uint32_t ws_look_up(const uint32_t *list, size_t list_length, uint32_t subject, 
  *   map     a code at an end of a pattern stands for its entry here. A property is taken as it is.
  *   query   a flat query of WS_QUERY_NUMBERS numbers: the count of patterns, then five numbers for each of eight patterns:
  *           subject kind (WS_VARIABLE or WS_CODE), subject value, property, object kind, object value.
- *           Patterns past the count are not looked at. A property may be a word.
+ *           Patterns past the count are not looked at. Of the words only type may be a property.
  *   *maybe  1 for "maybe", 0 for "none". On a table without triples it is 0.
  * Refusals, in order
  *   1  the words not five; the query not of WS_QUERY_NUMBERS numbers; N out of range; the table not a multiple of 3, or over
  *      WS_MAX_TRIPLES triples
  *   10, 3
  *   6  a count of 0 or over 8; in a counted pattern a kind over 1, a variable over 7, or a code or property not below N
+ *   12 a counted pattern's property is subclass, subproperty, domain or range
  * They alter nothing.
  * "none" is safe only on the summary of a saturated table, asked by the map that came with that summary: then the saturated
  * table has no match, which is a choice of nodes that puts every pattern, its codes as they are, in it.
@@ -307,7 +309,8 @@ uint32_t ws_write(const uint32_t *words, size_t words_length, uint32_t n, const 
  *   *n       N as it stands in the text; any number of 32 bits.
  *   *count   the number of triples.
  *   *asks    the number of queries.
- * Reading judges the form only: N, words, codes and variables may be any numbers of 32 bits.
+ * Reading judges the form only: N, words, codes and variables may be any numbers of 32 bits. A query that ws_ask
+ * refuses with 6 or 12 is read.
  * Refusals, in order
  *   1  queries not of WS_QUERIES_NUMBERS numbers, or words not of WS_WORDS_NUMBERS: nothing is altered
  *   8  the text is not in the site form: list and queries are zero, words are 0 to 4, *n, *count and *asks are 0

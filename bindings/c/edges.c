@@ -1,5 +1,5 @@
-/* The edges of the C interface: the most bytes that are written, a summary as long as its table, lists of length 0, and
-   intakes that were altered between calls. The last line says how many checks failed. */
+/* The edges of the C interface: the most bytes that are written, a summary as long as its table, lists of length 0, retired
+   queries, and intakes that were altered between calls. The last line says how many checks failed. */
 #include <stdio.h>
 #include <string.h>
 
@@ -191,6 +191,31 @@ static void no_text(void) {
     check(ws_write(FIVE, 5, NONE, NONE, &count) == WS_REFUSED_SLOTS && count == 7, "no bytes to write into");
 }
 
+/* Asks one triple by the map and a query. */
+static uint32_t ask_triple(const uint32_t *triple, const uint32_t *query) {
+    number = 9;
+    return ws_ask(FIVE, triple, 3, map, N, query, WS_QUERY_NUMBERS, &number);
+}
+
+/* 12 comes after 3 and 6, and a pattern past the count is not looked at. */
+static void retired_queries(void) {
+    static const uint32_t wrong_code[3] = {10, 5, N};
+    uint32_t query[WS_QUERY_NUMBERS] = {2, WS_VARIABLE, 0, 5, WS_VARIABLE, 1, WS_VARIABLE, 0, RDFS[WS_DOMAIN], WS_VARIABLE, 1};
+    spoil();
+    check(ask_triple(ONE, query) == WS_REFUSED_RETIRED && number == 9 && all(map, N, 9), "the second pattern is retired");
+    check(ask_triple(wrong_code, query) == WS_REFUSED_CODE && number == 9, "a wrong triple comes before a retired query");
+    query[0] = 1;
+    check(ask_triple(ONE, query) == WS_OK && number == 1, "past the count no pattern is retired");
+    query[3] = RDFS[WS_SUBCLASS];
+    check(ask_triple(ONE, query) == WS_REFUSED_RETIRED && number == 9, "the only pattern is retired");
+    query[2] = 8;
+    check(ask_triple(ONE, query) == WS_REFUSED_QUERY && number == 9, "a wrong variable comes before it");
+    query[2] = 0;
+    query[4] = WS_CODE;
+    query[5] = N;
+    check(ask_triple(ONE, query) == WS_REFUSED_QUERY && number == 9, "a wrong code comes before it");
+}
+
 /* What is lent to a feed and may be altered by it. */
 struct intake {
     uint32_t triples[3 * SLOTS], summary[3 * SLOTS], map[N], work[2 * N], is_new;
@@ -257,6 +282,7 @@ int main(void) {
     no_slots();
     no_lists();
     no_text();
+    retired_queries();
     altered_intakes();
     printf("C edges: %d checks, %d failed\n", checks, failures);
     return failures != 0;

@@ -1,6 +1,6 @@
 /* The papers' example through the C interface, in the header's sequence: read, own roster, saturate, summarise, ask; also the
-   same on the summary, what ask says where the sequence is not kept, and an intake. Then all of it with other words than 0 to
-   4, and the two summaries of a chain. Each result is checked against the papers'. */
+   same on the summary, queries that are retired, what ask says where the sequence is not kept, and an intake. Then all of it
+   with other words than 0 to 4, and the two summaries of a chain. Each result is checked against the papers'. */
 #include <stdio.h>
 #include <string.h>
 
@@ -109,6 +109,20 @@ static void ask_both(uint32_t n, size_t count) {
     }
 }
 
+/* Asks whether something has the word at each place as a property. Of the words only type is answered. */
+static void ask_words(uint32_t n, size_t count) {
+    for (size_t k = 0; k < WS_WORDS_NUMBERS; k++) {
+        const uint32_t query[WS_QUERY_NUMBERS] = {1, WS_VARIABLE, 0, words[k], WS_VARIABLE, 1};
+        uint32_t maybe = 2;
+        uint32_t status = ws_ask(words, WS_WORDS_NUMBERS, summary, 3 * count, map, n, query, WS_QUERY_NUMBERS, &maybe);
+        if (k == WS_TYPE) {
+            check(status == WS_OK && maybe == 1, "a query about types: maybe");
+        } else {
+            check(status == WS_REFUSED_RETIRED && maybe == 2, "a query about constraints is refused with 12");
+        }
+    }
+}
+
 /* Asks whether a subject has a property, by a map. */
 static uint32_t ask_one(const uint32_t *list, size_t count, const uint32_t *by, uint32_t kind, uint32_t subject,
                         uint32_t property) {
@@ -168,6 +182,7 @@ static void the_papers_words(void) {
     check(memcmp(map, MAP, sizeof MAP) == 0, "map");
     rework(N, count);
     ask_both(N, count);
+    ask_words(N, count);
     wrong_none(count);
     feed_all(N);
 }
@@ -192,6 +207,7 @@ static void other_words(void) {
     check(absent && memcmp(map, OTHER_MAP, sizeof OTHER_MAP) == 0, "map, other words");
     rework(OTHER_N, count);
     ask_both(OTHER_N, count);
+    ask_words(OTHER_N, count);
     feed_all(OTHER_N);
     write_back();
 }

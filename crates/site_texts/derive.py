@@ -163,6 +163,10 @@ def wrong_query(query, n):
     return False
 
 
+def retired_query(query, words):
+    return any(p in words[1:] for a, x, p, b, y in query)
+
+
 def refusal(text, form):
     """The printer's checks in the order 8, 1, 10, 3, 5, 6."""
     if len(text) > 32768 or form is None:
@@ -181,6 +185,13 @@ def refusal(text, form):
     return 0
 
 
+def answer(words, table, map_of, query):
+    """The word in a query's line. A retired query refuses nothing: those before and after it are answered all the same."""
+    if retired_query(query, words):
+        return "retired"
+    return "maybe" if maybe(table, map_of, query) else "none"
+
+
 def printed(text, form):
     r = refusal(text, form)
     if r:
@@ -192,7 +203,7 @@ def printed(text, form):
     lines = ["(summary %d)" % len(summary)] + ["(t %d %d %d)" % t for t in summary]
     lines += ["(rep %d %d)" % (x, map_of[x]) for x in sorted(map_of)]
     held = set(summary)
-    return lines + ["(ask %s)" % ("maybe" if maybe(held, map_of, q) else "none") for q in queries]
+    return lines + ["(ask %s)" % answer(words, held, map_of, q) for q in queries]
 
 
 def damaged(text):
@@ -271,6 +282,26 @@ def repeats():
     yield site(14, "t 13 5 12", "t 9 6 12", "t 13 6 11", "t 10 5 8")
 
 
+def retired():
+    """Queries for constraints, alone, among others and beside wrong ones."""
+    *lines, last = PAPER.splitlines(True)
+    three = b"".join([*lines, b"(ask ((v 0) 1 (v 1)))\n", last])
+    yield from (three, three + b"(ask ((v 9) 5 (v 1)))\n", three + b"(ask ((v 9) 1 (v 1)))\n", three + b"(ask ((v 0) 1 (c 14)))\n")
+    triples = ("t 5 2 7", "t 7 3 8", "t 8 1 9", "t 7 4 9", "t 10 5 12", "t 11 0 8")
+    yield site(14, *triples, *["ask ((v 0) %d (v 1))" % p for p in range(8)])
+    yield site(14, *triples, *["ask ((c 7) %d (c 8))" % p for p in range(8)])
+    yield site(14, *["ask ((v 0) %d (v 1))" % p for p in range(8)])
+    data, schema, both = "ask ((v 0) 5 (v 1))", "ask ((v 0) 4 (v 1))", "ask ((v 8) 4 (v 1))"
+    second, eighth = "ask ((v 0) 5 (v 1)) ((v 1) 3 (v 2))", "ask" + " ((v 0) 5 (v 1))" * 7 + " ((c 5) 2 (c 7))"
+    yield from (site(14, *triples, second, data, eighth, data), site(14, *triples, schema, *[data] * 14, schema), site(14, *[schema] * 16))
+    yield from (site(9, both), site(9, both, schema), site(9, schema, both), site(9, "ask ((v 0) 1 (v 1)) ((v 0) 9 (v 1))"))
+    yield from (site(4, schema), site(9, "t 5 6 0", schema), site(9, "words 0 1 2 3 3", schema), site(9, schema, "t 5 6 7"))
+    yield site(80, *["t %d 1 %d" % (i, i + 1) for i in range(5, 5 + 64)], schema)
+    for words in ((10, 11, 12, 13, 14), (310, 5, 6, 7, 8), (4, 3, 2, 1, 0), (1, 0, 2, 3, 4)):
+        asks = ["ask ((v 0) %d (v 1))" % p for p in range(16)]
+        yield from (renamed(words, three), site(320, "words %d %d %d %d %d" % words, *asks), renamed(words, site(14, *triples, schema, data, both)))
+
+
 def renamed(words, text):
     """The text with the reserved codes at `words`, and code c from 5 on at the (c - 5)-th code that is none of them."""
     free = [c for c in range(512) if c not in words]
@@ -320,7 +351,7 @@ def loaded_sites():
 def main():
     small = site(12, "t 10 5 11", "ask ((v 0) 5 (c 11))")
     texts = [PAPER, *forms(), *refusals(), *repeats(), *damaged(small)]
-    texts += [*loaded_forms(), *loaded_refusals(), *loaded_sites(), *damaged(site(9, "words 8 7 6 5 0"))]
+    texts += [*loaded_forms(), *loaded_refusals(), *loaded_sites(), *damaged(site(9, "words 8 7 6 5 0")), *retired()]
     here = pathlib.Path(__file__).parent
     here.joinpath("stdin").write_bytes(b"".join(t + b"%\n" for t in texts))
     lines = []

@@ -6,8 +6,7 @@ use crate::report::{Call, Report};
 use crate::tables::run;
 use crate::words::{self, Words};
 use weak_summary::calls as proved;
-use weak_summary_reference as plain;
-use weak_summary_reference::QUERY_NUMBERS;
+use weak_summary_reference::{self as plain, Mistake, QUERY_NUMBERS};
 
 /// Everything lent to ask.
 #[derive(Clone, PartialEq, Eq, Debug)]
@@ -34,24 +33,38 @@ fn end_for(random: &mut Random, node: u32, map: &[u32], variables: usize) -> [u3
     }
 }
 
-/// A query of which each pattern fits some triple of the table.
-fn query_for(random: &mut Random, table: &[u32], map: &[u32], count: usize) -> Vec<u32> {
+/// Whether queries with this property are answered: it is not subclass, subproperty, domain or range.
+pub fn is_answered(words: &Words, property: u32) -> bool {
+    !words[1..].contains(&property)
+}
+
+/// A query of which most patterns fit some triple of the table; none has subclass, subproperty, domain or range.
+fn query_for(random: &mut Random, words: Words, table: &[u32], map: &[u32], count: usize) -> Vec<u32> {
     let mut query = vec![0; QUERY_NUMBERS];
     query[0] = count as u32;
     let variables = 1 + random.below(8);
+    let triples: Vec<&[u32]> = table.chunks_exact(3).filter(|t| is_answered(&words, t[1])).collect();
     for place in query[1..].chunks_exact_mut(5) {
-        if table.is_empty() || random.chance(5) {
+        if triples.is_empty() || random.chance(5) {
             let n = map.len();
             let numbers = [0, random.below(8), random.below(n), random.below(2), random.below(n.min(8))];
             place.copy_from_slice(&numbers.map(|x| x as u32));
+            if !is_answered(&words, place[2]) {
+                place[2] = words[0];
+            }
             continue;
         }
-        let i = 3 * random.below(table.len() / 3);
-        place[..2].copy_from_slice(&end_for(random, table[i], map, variables));
-        place[2] = table[i + 1];
-        place[3..].copy_from_slice(&end_for(random, table[i + 2], map, variables));
+        let t = random.pick(&triples);
+        place[..2].copy_from_slice(&end_for(random, t[0], map, variables));
+        place[2] = t[1];
+        place[3..].copy_from_slice(&end_for(random, t[2], map, variables));
     }
     query
+}
+
+/// Puts subclass, subproperty, domain or range in a pattern, counted or past the count.
+fn retire(random: &mut Random, words: Words, query: &mut [u32]) {
+    query[5 * random.below(8) + 3] = random.pick(&words[1..]);
 }
 
 /// Makes one number of a query wrong, in a counted pattern or past the count, or its length.
@@ -103,7 +116,7 @@ fn image_of(words: Words, table: &[u32], map: &[u32]) -> Vec<u32> {
     image
 }
 
-pub fn ask(random: &mut Random, report: &mut Report) {
+pub fn ask(random: &mut Random, report: &mut Report, mistake: Mistake) {
     let n = generate::size(random);
     let count = 1 + random.below(8);
     let amount = random.below(MOST[count] + 1);
@@ -113,7 +126,10 @@ pub fn ask(random: &mut Random, report: &mut Report) {
     if random.chance(50) {
         table = image_of(words, &table, &map);
     }
-    let mut query = query_for(random, &table, &map, count);
+    let mut query = query_for(random, words, &table, &map, count);
+    if random.chance(15) {
+        retire(random, words, &mut query);
+    }
     if random.chance(25) {
         damage_query(random, n, &mut query);
     }
@@ -124,12 +140,12 @@ pub fn ask(random: &mut Random, report: &mut Report) {
         map.resize(random.pick(&[0, 4, n - 1, n + 1, 65_537]), 5);
     }
     let words = words::lent(random, n, words);
-    compare_ask(report, Lent { words, table, map, query, maybe: random.next() as u32 });
+    compare_ask(report, mistake, Lent { words, table, map, query, maybe: random.next() as u32 });
 }
 
-pub fn compare_ask(report: &mut Report, before: Lent) {
+pub fn compare_ask(report: &mut Report, mistake: Mistake, before: Lent) {
     let ours = run(&before, |l| proved::ask(&l.words, &l.table, &l.map, &l.query, &mut l.maybe));
-    let theirs = run(&before, |l| plain::ask(&l.words, &l.table, &l.map, &l.query, &mut l.maybe));
+    let theirs = run(&before, |l| plain::ask_with(mistake, &l.words, &l.table, &l.map, &l.query, &mut l.maybe));
     let yes = theirs.lent.maybe == 1;
     report.compare(Call::Ask, &before, ours, theirs, yes);
 }

@@ -44,7 +44,7 @@ fn turn(random: &mut Random, report: &mut Report, mistake: Mistake) {
         tables::summarise(random, report, mistake, &tables::WEAK);
         tables::summarise(random, report, mistake, &tables::STRONG);
         tables::look_up(random, report);
-        asks::ask(random, report);
+        asks::ask(random, report, mistake);
         texts::read(random, report);
         texts::write(random, report);
     }

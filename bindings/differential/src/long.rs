@@ -46,6 +46,18 @@ fn lent(random: &mut Random, words: &Words, table: &[u32], n: usize, slots: usiz
     }
 }
 
+/// Asks for the last triple that is no constraint, and for a domain of its subject, which is retired.
+fn ask_both(report: &mut Report, mistake: Mistake, words: &Words, table: &[u32], n: usize) {
+    let t = table.chunks_exact(3).rfind(|t| asks::is_answered(words, t[1])).unwrap();
+    for property in [t[1], words[3]] {
+        let mut query = vec![0; QUERY_NUMBERS];
+        query[..6].copy_from_slice(&[1, 1, t[0], property, 0, 3]);
+        let map = (0..n as u32).collect();
+        let before = asks::Lent { words: words.to_vec(), table: table.to_vec(), map, query, maybe: 9 };
+        asks::compare_ask(report, mistake, before);
+    }
+}
+
 /// The calls on one table, with result slots that fit and that do not.
 fn on_table(random: &mut Random, report: &mut Report, mistake: Mistake, words: &Words, [n, amount]: [usize; 2]) {
     let table = &large_table(random, words, n, amount);
@@ -61,10 +73,7 @@ fn on_table(random: &mut Random, report: &mut Report, mistake: Mistake, words: &
     let t = [table[table.len() - 3], table[table.len() - 2], table[table.len() - 1]];
     tables::compare_look_up(report, table.to_vec(), t, 9);
     tables::compare_look_up(report, table.to_vec(), [t[2], t[1], 3], 9);
-    let mut query = vec![0; QUERY_NUMBERS];
-    query[..6].copy_from_slice(&[1, 1, t[0], t[1], 0, 3]);
-    let map = (0..n as u32).collect();
-    asks::compare_ask(report, asks::Lent { words: words.to_vec(), table: table.to_vec(), map, query, maybe: 9 });
+    ask_both(report, mistake, words, table, n);
 }
 
 /// Strong summaries of large shapes, the last triples first, with result slots that fit and that do not.

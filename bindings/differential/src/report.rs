@@ -69,11 +69,11 @@ pub struct Report {
     shown: usize,
 }
 
-/// The numbers of the refusals; 9 is free.
-const REFUSALS: [usize; 9] = [1, 2, 3, 4, 5, 6, 7, 8, 10];
+/// The numbers of the refusals; 9 and 11 are free.
+const REFUSALS: [usize; 10] = [1, 2, 3, 4, 5, 6, 7, 8, 10, 12];
 
 /// Where accepted calls with the answer 0 are counted; the others are counted at their status.
-const NO: usize = 11;
+const NO: usize = 13;
 
 const CUT: usize = 2_000;
 

@@ -19,14 +19,14 @@ fn engines_agree_and_every_refusal_occurs() {
         (Call::Rework, &[]),
         (Call::ReworkStrong, &[]),
         (Call::LookUp, &[1]),
-        (Call::Ask, &[1, 3, 6, 10]),
+        (Call::Ask, &[1, 3, 6, 10, 12]),
         (Call::Open, &[1, 2, 10]),
         (Call::Feed, &[1, 2, 3, 4, 7, 10]),
         (Call::Read, &[1, 5, 8]),
         (Call::Write, &[1, 3, 5, 10]),
     ];
     for (call, all) in refusals {
-        for status in 0..=10 {
+        for status in 0..=12 {
             assert_eq!(report.has(call, status), status == 0 || all.contains(&status), "{call:?} {status}");
         }
     }
@@ -44,6 +44,14 @@ fn strong_summaries_notice_their_mistakes() {
     use Mistake::{ClassLinks, FirstSeen, FixedWords, NoneMatchesAll, NoneMatchesNothing};
     for mistake in [ClassLinks, FirstSeen, FixedWords, NoneMatchesAll, NoneMatchesNothing] {
         assert!(run(&options(mistake, 0)).differs(Call::SummariseStrong), "{}", mistake.name());
+    }
+}
+
+#[test]
+fn asks_notice_their_mistakes() {
+    use Mistake::{FixedWords, RetiredAnswered, RetiredFirst, RetiredPastCount, TypeRetired};
+    for mistake in [FixedWords, RetiredAnswered, RetiredFirst, RetiredPastCount, TypeRetired] {
+        assert!(run(&options(mistake, 0)).differs(Call::Ask), "{}", mistake.name());
     }
 }
 

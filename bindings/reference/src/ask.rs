@@ -1,7 +1,7 @@
 //! Ask: the triples of each pattern's property, then a backtracking join over sorted candidates.
 
 use crate::triples::PackedMap;
-use crate::{checks, Words, CODE, LENGTH, MAX_PATTERNS, OK, QUERY, QUERY_NUMBERS, WORDS};
+use crate::{checks, Mistake, Words, CODE, LENGTH, MAX_PATTERNS, OK, QUERY, QUERY_NUMBERS, RETIRED, WORDS};
 
 #[derive(Clone, Copy)]
 enum End {
@@ -42,6 +42,33 @@ fn query_wrong(query: &[u32], n: usize) -> bool {
         .chunks_exact(5)
         .take(count)
         .any(|p| end_wrong(p[0], p[1], n) || p[2] as usize >= n || end_wrong(p[3], p[4], n))
+}
+
+/// Whether a counted pattern's property is subclass, subproperty, domain or range.
+fn query_retired(mistake: Mistake, words: Words, query: &[u32]) -> bool {
+    let words = mistake.words(words);
+    let retired: &[u32] = match mistake {
+        Mistake::TypeRetired => words.codes(),
+        Mistake::RetiredAnswered => &[],
+        _ => &words.codes()[1..],
+    };
+    let count = match mistake {
+        Mistake::RetiredPastCount => MAX_PATTERNS,
+        _ => query[0] as usize,
+    };
+    query[1..].chunks_exact(5).take(count).any(|p| retired.contains(&p[2]))
+}
+
+/// The checks 6 and 12.
+fn query_refusal(mistake: Mistake, words: Words, query: &[u32], n: usize) -> u32 {
+    let retired = query_retired(mistake, words, query);
+    if query_wrong(query, n) && !(retired && mistake == Mistake::RetiredFirst) {
+        return QUERY;
+    }
+    if retired {
+        return RETIRED;
+    }
+    OK
 }
 
 fn end_of(kind: u32, value: u32, map: &[u32]) -> End {
@@ -164,6 +191,10 @@ fn matches(steps: &[Step], bindings: Bindings) -> bool {
 }
 
 pub fn ask(words: &[u32], table: &[u32], map: &[u32], query: &[u32], maybe: &mut u32) -> u32 {
+    ask_with(Mistake::None, words, table, map, query, maybe)
+}
+
+pub fn ask_with(mistake: Mistake, words: &[u32], table: &[u32], map: &[u32], query: &[u32], maybe: &mut u32) -> u32 {
     let n = map.len();
     let Some(words) = Words::of(words) else {
         return LENGTH;
@@ -177,8 +208,9 @@ pub fn ask(words: &[u32], table: &[u32], map: &[u32], query: &[u32], maybe: &mut
     if checks::table_wrong(words, table, n) {
         return CODE;
     }
-    if query_wrong(query, n) {
-        return QUERY;
+    let refusal = query_refusal(mistake, words, query, n);
+    if refusal != OK {
+        return refusal;
     }
     let steps = plan(table, patterns_of(query, map));
     *maybe = matches(&steps, [None; 8]) as u32;

@@ -15,7 +15,7 @@ mod triples;
 mod weak;
 mod words;
 
-pub use ask::ask;
+pub use ask::{ask, ask_with};
 pub use intake::{feed_fast, feed_lists_only, feed_refusal, open, FastIntake, Fed, PlainIntake};
 pub use mistake::Mistake;
 pub use roster::own_roster;
@@ -50,3 +50,4 @@ pub const QUERY: u32 = 6;
 pub const FULL: u32 = 7;
 pub const FORM: u32 = 8;
 pub const WORDS: u32 = 10;
+pub const RETIRED: u32 = 12;

@@ -1,5 +1,6 @@
 //! The five course mistakes of the scope paper, one that the rules for domains and ranges invite, one that the word table
-//! invites, and two that the strong summary invites, to show that a comparison with a wrong engine is noticed.
+//! invites, two that the strong summary invites, and four that retired queries invite, to show that a comparison with a wrong
+//! engine is noticed.
 
 use crate::Words;
 
@@ -25,10 +26,18 @@ pub enum Mistake {
     NoneMatchesNothing,
     /// Strongly, a side where one of two nodes has no clique is not looked at.
     NoneMatchesAll,
+    /// A query that is wrong and retired is refused with 12.
+    RetiredFirst,
+    /// A query with type as a property is retired too.
+    TypeRetired,
+    /// A retired query is answered.
+    RetiredAnswered,
+    /// A pattern past the count retires a query.
+    RetiredPastCount,
 }
 
 impl Mistake {
-    pub const ALL: [Mistake; 9] = [
+    pub const ALL: [Mistake; 13] = [
         Mistake::OneRound,
         Mistake::TypedOnlyStays,
         Mistake::ClassLinks,
@@ -38,6 +47,10 @@ impl Mistake {
         Mistake::FixedWords,
         Mistake::NoneMatchesNothing,
         Mistake::NoneMatchesAll,
+        Mistake::RetiredFirst,
+        Mistake::TypeRetired,
+        Mistake::RetiredAnswered,
+        Mistake::RetiredPastCount,
     ];
 
     pub fn name(self) -> &'static str {
@@ -52,6 +65,10 @@ impl Mistake {
             Mistake::FixedWords => "fixed-words",
             Mistake::NoneMatchesNothing => "none-matches-nothing",
             Mistake::NoneMatchesAll => "none-matches-all",
+            Mistake::RetiredFirst => "retired-first",
+            Mistake::TypeRetired => "type-retired",
+            Mistake::RetiredAnswered => "retired-answered",
+            Mistake::RetiredPastCount => "retired-past-count",
         }
     }
 
@@ -59,7 +76,7 @@ impl Mistake {
         Mistake::ALL.into_iter().find(|m| m.name() == name)
     }
 
-    /// The words that the engine goes by once its checks have passed.
+    /// The words that the engine goes by once words, roster and codes have passed.
     pub(crate) fn words(self, loaded: Words) -> Words {
         match self {
             Mistake::FixedWords => Words::RDFS,

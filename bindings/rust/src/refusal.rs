@@ -24,13 +24,15 @@ pub enum Refusal {
     Form = 8,
     /// 10: two of the words are equal, or one is not below N.
     Words = 10,
+    /// 12: a counted pattern's property is subclass, subproperty, domain or range.
+    Retired = 12,
 }
 
 impl Refusal {
     /// The refusal with this number.
     pub fn numbered(number: u32) -> Option<Refusal> {
         use Refusal::*;
-        let all = [Length, Roster, Code, Cover, Slots, Query, Full, Form, Words];
+        let all = [Length, Roster, Code, Cover, Slots, Query, Full, Form, Words, Retired];
         all.into_iter().find(|r| r.number() == number)
     }
 
@@ -49,6 +51,7 @@ impl Refusal {
             Refusal::Full => "the intake is full",
             Refusal::Form => "the text is not in the site form",
             Refusal::Words => "the words are wrong",
+            Refusal::Retired => "the query is retired",
         }
     }
 }

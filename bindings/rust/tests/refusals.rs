@@ -2,9 +2,9 @@
 
 mod common;
 
-use common::{roster_of, Summarise, RDFS, SIX};
+use common::{one, roster_of, Summarise, RDFS, SIX};
 use weak_summary::{ask, cliques, own_roster, read, saturate, summarise, summarise_strong, write};
-use weak_summary::{calls, look_up, End, Intake, Pattern, Query, Refusal};
+use weak_summary::{calls, look_up, End, Intake, Pattern, Query, Refusal, Words};
 
 /// A table, a roster, the lengths of result, map and work, and the refusal.
 type Case<'a> = (&'a [u32], &'a [u8], [usize; 3], Refusal);
@@ -87,27 +87,44 @@ fn look_up_refuses_lengths_only() {
 #[test]
 fn ask_refuses_in_order() {
     let variable = End::Variable;
-    let right = Query::new(&[Pattern::new(variable(0), 5, variable(7))]).unwrap();
-    let wrong = [
-        Query::new(&[]).unwrap(),
-        Query { count: 9, ..right },
-        Query::new(&[Pattern::new(variable(8), 5, variable(7))]).unwrap(),
-        Query::new(&[Pattern::new(variable(0), 12, variable(7))]).unwrap(),
-        Query::new(&[Pattern::new(variable(0), 5, End::Code(12))]).unwrap(),
+    let right = one(variable(0), 5, variable(7));
+    let retired = one(variable(0), 1, variable(7));
+    let refused = [
+        (Query::new(&[]).unwrap(), Refusal::Query),
+        (Query { count: 9, ..right }, Refusal::Query),
+        (one(variable(8), 5, variable(7)), Refusal::Query),
+        (one(variable(0), 12, variable(7)), Refusal::Query),
+        (one(variable(0), 5, End::Code(12)), Refusal::Query),
+        (Query { count: 9, ..retired }, Refusal::Query),
+        (one(variable(8), 1, variable(7)), Refusal::Query),
+        (one(variable(0), 1, End::Code(12)), Refusal::Query),
+        (retired, Refusal::Retired),
     ];
     let table = [10, 5, 11];
     let map = [10; 12];
     assert!(ask(RDFS, &table, &map, &right).is_ok());
-    for query in &wrong {
+    for (query, refusal) in &refused {
         assert_eq!(ask(RDFS, &table[..2], &map, query), Err(Refusal::Length));
+        assert_eq!(ask(Words([0, 1, 2, 3, 3]), &[10, 5, 4], &map, query), Err(Refusal::Words));
         assert_eq!(ask(RDFS, &[10, 5, 4], &map, query), Err(Refusal::Code));
-        assert_eq!(ask(RDFS, &table, &map, query), Err(Refusal::Query));
+        assert_eq!(ask(RDFS, &table, &map, query), Err(*refusal));
     }
     assert_eq!(Query::new(&[Pattern::BLANK; 9]), Err(Refusal::Query));
     assert_eq!(calls::ask(&RDFS.0, &table, &map, &right.flat()[..40], &mut 0), 1);
     let mut flat = right.flat();
     flat[4] = 2;
     assert_eq!(calls::ask(&RDFS.0, &table, &map, &flat, &mut 0), 6);
+}
+
+#[test]
+fn numbers_of_refusals() {
+    let numbers = [1, 2, 3, 4, 5, 6, 7, 8, 10, 12];
+    for number in 0..=20 {
+        let refusal = Refusal::numbered(number);
+        assert_eq!(refusal.map(Refusal::number), numbers.contains(&number).then_some(number));
+    }
+    assert_eq!(Refusal::numbered(12), Some(Refusal::Retired));
+    assert_eq!(Refusal::Retired.to_string(), "refused with 12: the query is retired");
 }
 
 #[test]

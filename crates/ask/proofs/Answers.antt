@@ -11,12 +11,12 @@ use Rattle.model.specs.Codes.{wrongWords}
 use Rattle.model.specs.Lists.{any, tabulate}
 use Rattle.model.specs.Triples.{triples}
 use Rattle.model.specs.Roster.{wrongCodes}
-use Rattle.model.specs.declared.Refusal.the-variants.{Length, Words as WrongWords, Code as WrongCode, Query as WrongQuery}
+use Rattle.model.specs.declared.Refusal.the-variants.{Length, Words as WrongWords, Code as WrongCode, Query as WrongQuery, Retired as RetiredQuery}
 use Rattle.model.specs.Outcomes.{decided, refusalNumber, wrongSize, wrongLength}
 use Rattle.lists.specs.Flat.{at}
 use Rattle.query.specs.declared.Query.{Query}
 use Rattle.query.specs.declared.Asked.the-variants.{Maybe, None, Refused}
-use Rattle.query.specs.Ask.{unbound, search, wrongQuery, askChecks, askOutcome, asked}
+use Rattle.query.specs.Ask.{unbound, search, wrongQuery, retired, askChecks, askOutcome, asked}
 use Rattle.query_parts.specs.Parts.{stepAt}
 use Rattle.query.proofs.Steps.{some-pattern}
 use Rattle.query_search.proofs.Tries.{search-all}
@@ -48,14 +48,19 @@ module _ (v : Vocabulary) where
             unfolding askOutcome askChecks decided asked refusalNumber
             wrong-query h = rw (← e₁, h₁, ← e₂, h₂, ← e₀, h₀, ← e₃, h₃, ← e₄, h)
 
-            module _ (h₄ : x₄ ≡ false) (n : ℕ) (m : n ≡ length table / 3) {x : Bool} (e : x ≡ any (stepAt table map q 0 unbound) (tabulate (at table) 0 n)) where
-              searched : x ≡ search (triples table) map (q .patterns) (q .count) 0 unbound
-              searched = let l : 0 < q .count = some-pattern (length map) q (sym e₄ ∙ h₄) in e ∙ search-all table map q (q .count) 0 unbound n (omega arith) m
+            module _ (h₄ : x₄ ≡ false) {x₅ : Bool} (e₅ : x₅ ≡ retired v q) where
+              pub retired-query : x₅ ≡ true → asked (Refused RetiredQuery) ≡ askOutcome v table map q
+              unfolding askOutcome askChecks decided asked refusalNumber
+              retired-query h = rw (← e₁, h₁, ← e₂, h₂, ← e₀, h₀, ← e₃, h₃, ← e₄, h₄, ← e₅, h)
 
-              pub answer-maybe : x ≡ true → asked Maybe ≡ askOutcome v table map q
-              unfolding askOutcome askChecks decided asked
-              answer-maybe h = rw (← e₁, h₁, ← e₂, h₂, ← e₀, h₀, ← e₃, h₃, ← e₄, h₄, ← searched, h)
+              module _ (h₅ : x₅ ≡ false) (n : ℕ) (m : n ≡ length table / 3) {x : Bool} (e : x ≡ any (stepAt table map q 0 unbound) (tabulate (at table) 0 n)) where
+                searched : x ≡ search (triples table) map (q .patterns) (q .count) 0 unbound
+                searched = let l : 0 < q .count = some-pattern (length map) q (sym e₄ ∙ h₄) in e ∙ search-all table map q (q .count) 0 unbound n (omega arith) m
 
-              pub answer-none : x ≡ false → asked None ≡ askOutcome v table map q
-              unfolding askOutcome askChecks decided asked
-              answer-none h = rw (← e₁, h₁, ← e₂, h₂, ← e₀, h₀, ← e₃, h₃, ← e₄, h₄, ← searched, h)
+                pub answer-maybe : x ≡ true → asked Maybe ≡ askOutcome v table map q
+                unfolding askOutcome askChecks decided asked
+                answer-maybe h = rw (← e₁, h₁, ← e₂, h₂, ← e₀, h₀, ← e₃, h₃, ← e₄, h₄, ← e₅, h₅, ← searched, h)
+
+                pub answer-none : x ≡ false → asked None ≡ askOutcome v table map q
+                unfolding askOutcome askChecks decided asked
+                answer-none h = rw (← e₁, h₁, ← e₂, h₂, ← e₀, h₀, ← e₃, h₃, ← e₄, h₄, ← e₅, h₅, ← searched, h)

@@ -9,6 +9,7 @@ use model::Refusal;
 use model::Vocabulary;
 use query::Asked;
 use query::Query;
+use query_parts::query_retired;
 use query_parts::query_wrong;
 use query_search::try_pattern;
 
@@ -40,6 +41,9 @@ pub fn ask(words: Vocabulary, table: &[u32], map: &[u32], q: Query) -> Asked
     }
     if query_wrong(q, map.len()) {
         return Asked::Refused(Refusal::Query);
+    }
+    if query_retired(words, q) {
+        return Asked::Refused(Refusal::Retired);
     }
     let rising = known_rising(table, q.count);
     if try_pattern(

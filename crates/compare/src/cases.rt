@@ -11,7 +11,7 @@
 //   strong   the same strongly
 //   every    derive, cliques, weak and strong with lists long enough
 //   look     looks up: a triple
-//   ask      how many patterns, and the first of them; the map gives each code itself
+//   ask      how many patterns are counted, and patterns from the first on, the others zeros; the map gives each code itself
 //   zero     the same with a map that gives each code 0
 // Two lines have no expected answer.
 //   needs    saturates into just so many numbers, and into one less, which is too few

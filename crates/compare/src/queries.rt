@@ -1,11 +1,12 @@
-// Random queries: on a table, on its saturation and on a summary with its map.
+// Random queries: on a table, on its saturation and on a summary with its map. Of those that are not wrong one in nine asks for
+// constraints; wrong ones do so too, and patterns past the count.
 ghost use Prim.Native.Nat.{_≤_};
 ghost use lib.ListN.{length};
 use comparison::calls;
 use comparison_report::report::TALLY;
+use lists::word_of;
 use model::Vocabulary;
 use random_sites::random::at_most;
-use random_sites::random::chance;
 use random_sites::random::get;
 use random_sites::random::mix;
 use random_sites::random::pick;
@@ -58,24 +59,56 @@ fn put_end(query: &mut [u32], k: usize, seed: u64, node: u32) {
     set(query, i + 1, pick(seed, 2, 26));
 }
 
-// Puts a pattern made of a triple of the list; now and then with another property.
-fn put_pattern(query: &mut [u32], k: usize, seed: u64, list: &[u32]) {
-    let i = at_most(k, 100);
-    let t = 3 * pick(seed, 1, at_most(list.len() / 3, 1000) as u32) as usize;
-    put_end(query, i, mix(seed, 2), get(list, t));
-    put_end(query, i + 3, mix(seed, 3), get(list, t + 2));
-    if chance(seed, 4, 24) {
-        set(query, i + 2, pick(seed, 5, 26));
-        return;
+// Subclass, subproperty, domain or range.
+fn is_constraint(right: Vocabulary, code: u32) -> bool {
+    if code == right.subclass || code == right.subproperty {
+        return true;
     }
-    set(query, i + 2, get(list, t + 1));
+    code == right.domain || code == right.range
 }
 
-fn fill_query(query: &mut [u32], seed: u64, list: &[u32]) {
+// The place of a triple of the list: of sixteen draws the first that is no constraint.
+fn place_of(seed: u64, right: Vocabulary, list: &[u32]) -> usize
+    ensures { λ r. ⌜ r ≤ 16777215 ⌝ }
+{
+    let count = list.len() / 3;
+    let mut k = 10;
+    while k < 26 {
+        let t = sites::place_in(seed, k, count);
+        if !is_constraint(right, get(list, 3 * t + 1)) {
+            return t;
+        }
+        k += 1;
+    }
+    sites::place_in(seed, 1, count)
+}
+
+// A pattern's property: mostly that of its triple, now and then any, or that of a constraint.
+fn property(seed: u64, right: Vocabulary, own: u32) -> u32 {
+    let x = pick(seed, 4, 72);
+    if x < 3 {
+        return pick(seed, 5, 26);
+    }
+    if x == 3 {
+        return word_of(right, 1 + pick(seed, 5, 4));
+    }
+    own
+}
+
+// Puts a pattern made of a triple of the list.
+fn put_pattern(query: &mut [u32], k: usize, seed: u64, right: Vocabulary, list: &[u32]) {
+    let i = at_most(k, 100);
+    let t = 3 * place_of(seed, right, list);
+    put_end(query, i, mix(seed, 2), get(list, t));
+    put_end(query, i + 3, mix(seed, 3), get(list, t + 2));
+    set(query, i + 2, property(seed, right, get(list, t + 1)));
+}
+
+fn fill_query(query: &mut [u32], seed: u64, right: Vocabulary, list: &[u32]) {
     set(query, 0, count_of(seed));
     let mut k = 0;
     while k < 8 {
-        put_pattern(query, 1 + 5 * k, mix(seed, 10 + k as u64), list);
+        put_pattern(query, 1 + 5 * k, mix(seed, 10 + k as u64), right, list);
         k += 1;
     }
 }
@@ -127,22 +160,22 @@ fn ask_both(tally: &mut [u64; TALLY], seed: u64, list: &[u32], roster: &[u8], le
     let right = words::right(seed, roster.len());
     let given = words::given(seed, roster.len());
     let end = summary_end(right, list, roster, summary, map);
-    fill_query(query, mix(seed, 61), list);
+    fill_query(query, mix(seed, 61), right, list);
     calls::ask(tally, seed, given, list, map, query);
     let whole = &summary[..];
     calls::ask(tally, seed, given, &whole[0..end], map, query);
 }
 
 // A query with the codes as they are.
-fn ask_plain(tally: &mut [u64; TALLY], seed: u64, given: Vocabulary, list: &[u32], length: usize) {
+fn ask_plain(tally: &mut [u64; TALLY], seed: u64, n: usize, list: &[u32], length: usize) {
     let mut map_space = [0u32; 50];
     let mut query_space = [0u32; 41];
     let m = at_most(length, 50);
     let map: &mut [u32] = &mut map_space[0..m];
     let query: &mut [u32] = &mut query_space;
     identity(map);
-    fill_query(query, mix(seed, 62), list);
-    calls::ask(tally, seed, given, list, map, query);
+    fill_query(query, mix(seed, 62), words::right(seed, n), list);
+    calls::ask(tally, seed, words::given(seed, n), list, map, query);
 }
 
 fn ask_case(tally: &mut [u64; TALLY], seed: u64) {
@@ -158,7 +191,7 @@ fn ask_case(tally: &mut [u64; TALLY], seed: u64) {
     let whole = &closed[..];
     let list = &whole[0..end];
     ask_both(tally, seed, list, roster, m);
-    ask_plain(tally, seed, words::given(seed, n), list, m);
+    ask_plain(tally, seed, n, list, m);
 }
 
 pub fn all(tally: &mut [u64; TALLY]) {

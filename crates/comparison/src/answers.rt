@@ -17,6 +17,7 @@ fn refused(r: Refusal) -> u32 {
         Refusal::Full => 7,
         Refusal::Form => 8,
         Refusal::Words => 10,
+        Refusal::Retired => 12,
     }
 }
 

@@ -3,18 +3,20 @@
 use Rattle.model.specs.Classes.{mapOf, strongMapOf}
 use Rattle.model.proofs.Graphs as graphs
 use Rattle.query.proofs.Exact.{ask-exact}
+use Rattle.query.proofs.Retired.{retired-exact}
 use Rattle.roster_values.proofs.Bytes.{word-test-exact}
 use Rattle.theory.proofs.Theorems as theorems
 use Rattle.site_form.proofs.Whole.{reads-exactly}
 use Rattle.site_form.proofs.Back.{written-is-read}
 use Rattle.site_form.proofs.Queries.{counts-patterns}
-use Rattle.site_form.proofs.Example.{sign-bytes, prints-example}
+use Rattle.site_form.proofs.Example.{sign-bytes, prints-example, prints-retired}
+use Rattle.site_form.proofs.Answers.{retired-printed}
 use Rattle.demands.specs.Demands.{GraphsRight, StrongGraphsRight, ClosuresRight, Demand2, Demand3, AtRest, RosterByWords, SiteForms}
 use Rattle.demands.proofs.NoneMeansNone.{none-means-none}
 use Rattle.demands.proofs.Feeds.{list-of-calls}
 use Rattle.demands.proofs.Routes.{accepted-calls, routes-of-calls, strong-routes-of-calls, shortcut-of-calls, strong-shortcut-of-calls}
 use Rattle.demands.proofs.Routes.{weak-of-strong-calls, at-rest-of-calls, strong-at-rest-of-calls, leaves-saturated, none-of-calls}
-use Rattle.demands.proofs.Routes.{ask-refuses-six}
+use Rattle.demands.proofs.Printed.{ask-refuses-queries, six-for-wrong, retired-read}
 
 pub graphs-right : GraphsRight
 graphs-right = graphs.graphs-right
@@ -37,6 +39,7 @@ demand-2 =
       strong-summaries = theorems.strong-summary-exact;
       own-roster = theorems.own-roster-least;
       ask = ask-exact;
+      retired = retired-exact;
     }
 
 pub demand-3 : Demand3
@@ -84,7 +87,11 @@ site-forms =
       reads = reads-exactly;
       written-is-read = written-is-read;
       example = prints-example;
-      ask-refuses-six = ask-refuses-six;
+      ask-refuses-queries = ask-refuses-queries;
+      six-for-wrong = six-for-wrong;
+      retired-printed = retired-printed;
+      retired-read = retired-read;
+      retired-example = prints-retired;
       signs = sign-bytes;
       counts = counts-patterns;
     }

@@ -1,5 +1,6 @@
 pub mod NoneMeansNone
 pub mod Routes
+pub mod Printed
 pub mod Feeds
 pub mod Loaded
 pub mod Demands

@@ -1,25 +1,24 @@
 -- None on the summary means no match in the table.
 -- Assumes nothing.
 use Prim.Native.Nat.{ℕ}
-use mathlib.Core.Path.{_≡_, refl, sym, subst, _∙_}
-use mathlib.Core.Logic.{⊎-elim}
+use mathlib.Core.Path.{_≡_, refl, sym, subst}
 use mathlib.Core.Bool.{false}
 use mathlib.Core.List.{List}
 use lib.ListN.{length}
 use Rattle.model.specs.declared.Triple.{Triple}
 use Rattle.model.specs.declared.Vocabulary.{Vocabulary}
-use Rattle.model.specs.Triples.{triples, flat}
+use Rattle.model.specs.Triples.{flat}
 use Rattle.model.specs.Partition.{label}
 use Rattle.model.specs.Summary.{moved, condensed}
 use Rattle.model.specs.Outcomes.{Passes, accepted}
 use Rattle.query.specs.declared.Query.{Query}
-use Rattle.query.specs.Ask.{askChecks, askOutcome, search, unbound, wrongQuery}
+use Rattle.query.specs.Ask.{askChecks, askOutcome, wrongQuery}
 use Rattle.query.specs.Match.{Choice}
 use Rattle.query.proofs.Exact.{ask-exact}
 use Rattle.query.proofs.Carried.{match-carried}
 use Rattle.theory.specs.Theorems.{saturationOf}
 use Rattle.theory.proofs.Summaries as summaries
-use Rattle.theory.proofs.Checks.{passes-first, decided-cases, not-accepted}
+use Rattle.theory.proofs.Checks.{passes-first, accepted-passes}
 use Rattle.theory.proofs.Flat.{triples-flat}
 use Rattle.demands.specs.NoneMeansNone.{NoneMeansNoneBy}
 
@@ -27,9 +26,7 @@ module _ (v : Vocabulary) where
   -- an ask that is answered passed its checks
   answered-passes : (table map : List ℕ) (q : Query) → askOutcome v table map q ≡ accepted false → Passes (askChecks v table map q)
   unfolding askOutcome
-  answered-passes table map q h =
-      ⊎-elim (λ w. absurd (not-accepted (sym (w .1) ∙ h))) (λ p. p)
-      (decided-cases (askChecks v table map q) (accepted (search (triples table) map (q .patterns) (q .count) 0 unbound)))
+  answered-passes table map q h = accepted-passes (askChecks v table map q) _ false h
 
   query-right : (table map : List ℕ) (q : Query) → Passes (askChecks v table map q) → wrongQuery (length map) q ≡ false
   unfolding askChecks

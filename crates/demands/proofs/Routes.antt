@@ -2,7 +2,6 @@
 -- Assumes nothing.
 use Prim.Native.Nat.{ℕ, _*_, _≤_}
 use mathlib.Core.Path.{_≡_, refl, sym, subst, subst₂, _∙_, ap}
-use mathlib.Core.Logic.{⊎-elim}
 use mathlib.Core.Bool.{Bool, true, false, cond, not, _||_}
 use mathlib.Core.List.{List, [], _∷_, _++_, List·Memᴰ as Mem}
 use native.Mathlib.Omega.{arith}
@@ -23,26 +22,23 @@ use Rattle.model.specs.Saturation.{saturation}
 use Rattle.model.specs.Outcomes.{Outcome, accepted, refused, check, checked, decided, left, wrongSize, wrongLength, wrongWork}
 use Rattle.model.specs.Calls.{tableChecks, Accepted, ownRosterOutcome, saturated, saturateOutcome, saturateLeaves, cliquesOutcome, summariseOutcomeBy, summariseLeavesBy}
 use Rattle.model.specs.Intake.{State, wrongLists, openOutcome}
-use Rattle.theory.proofs.Tests.{or-false, or-neither, bool-cases}
-use Rattle.theory.proofs.Checks.{decided-passes, passed, passed-all, first-passes, passes-first, not-accepted, no-checks}
+use Rattle.theory.proofs.Tests.{or-false, or-neither}
+use Rattle.theory.proofs.Checks.{decided-passes, passed, passed-all, first-passes, passes-first, no-checks}
 use Rattle.table_checks.proofs.Laws.{enough}
 use Rattle.theory.proofs.Flat.{triples-flat, length-flat}
 use Rattle.theory.specs.Theorems.{sumBy, ShortcutBy, RoutesBy, Saturated, AtRestBy}
 use Rattle.theory.proofs.Theorems.{shortcut-holds, routes-accepted, strong-shortcut-holds, strong-routes-accepted, weak-of-strong-holds}
-use Rattle.theory.proofs.Theorems.{at-rest-holds, strong-at-rest-holds, saturation-saturated, own-roster-least}
-use Rattle.theory.specs.Tables.{Right}
-use Rattle.theory.proofs.Accepted.{accepted-right, saturation-right, summary-right, right-accepted}
-use Rattle.theory.proofs.Summaries.{condensed-length}
+use Rattle.theory.proofs.Theorems.{at-rest-holds, strong-at-rest-holds, saturation-saturated}
+use Rattle.theory.proofs.Accepted.{accepted-right}
 use Rattle.theory.proofs.Mapped.{length-map-of, length-strong-map}
 use Rattle.demands.proofs.NoneMeansNone.{none-means-none}
-use Rattle.model.specs.Roster.{ownRoster, wrongCodes}
+use Rattle.model.specs.Roster.{wrongCodes}
 use Rattle.query.specs.declared.Query.{Query}
-use Rattle.query.specs.Ask.{unbound, search, wrongQuery, askOutcome, askChecks}
+use Rattle.query.specs.Ask.{unbound, search, wrongQuery, retired, askOutcome, askChecks}
 use Rattle.query.specs.Match.{Match}
 use Rattle.demands.specs.Routes.{tableIn, Lent, LongEnough, SummarisesBy, AcceptsSummarise, Saturates, Asks, AcceptedCalls, RoutesOfCallsBy}
 use Rattle.demands.specs.Routes.{RoutesOfCalls, StrongRoutesOfCalls, ShortcutOfCallsBy, ShortcutOfCalls, StrongShortcutOfCalls}
 use Rattle.demands.specs.Routes.{WeakOfStrongCalls, AtRestOfCallsBy, AtRestOfCalls, StrongAtRestOfCalls, LeavesSaturated, NoneOfCallsBy}
-use Rattle.demands.specs.Routes.{AskRefusesSix}
 
 -- what a list that lists triples begins with
 listed-table : (n : ℕ) (ts : List Triple) (c : ℕ) → length ts ≡ c → tableIn c (listed n ts) ≡ flat ts
@@ -55,10 +51,11 @@ listed-table n ts c e =
 left-is : (out : List ℕ) (ts : List Triple) → out ≡ flat ts → triples out ≡ ts
 left-is out ts e = ap triples e ∙ triples-flat ts
 
--- where the first three checks of an ask pass, the fourth decides
-fourth-decides : (b k c d y : Bool) → b ≡ false → k ≡ false → c ≡ false → checked (check 1 b ∷ check 10 k ∷ check 3 c ∷ check 6 d ∷ []) y ≡ cond d (refused 6) (accepted y)
+-- where the first three checks of an ask pass, the two of the query decide
+query-decides : (b k c d e y : Bool) → b ≡ false → k ≡ false → c ≡ false
+    → checked (check 1 b ∷ check 10 k ∷ check 3 c ∷ check 6 d ∷ check 12 e ∷ []) y ≡ cond d (refused 6) (cond e (refused 12) (accepted y))
 unfolding decided
-fourth-decides b k c d y p x q = rw (p, x, q)
+query-decides b k c d e y p x q = rw (p, x, q)
 
 module _ (v : Vocabulary) where
   -- an accepted saturate
@@ -169,44 +166,21 @@ module _ (v : Vocabulary) where
   table-length table roster h = (or-false (wrongLength (length table)) _ ((or-false (wrongSize (length roster)) _ ((passes-first _ _ h) .0)) .1)) .0
 
   -- an ask of a table that is accepted with a roster, by a map of the roster's length
-  asks-of : (table map roster : List ℕ) → Accepted v table roster → length map ≡ length roster → Asks v table map
+  pub asks-of : (table map roster : List ℕ) → Accepted v table roster → length map ≡ length roster → Asks v table map
   unfolding askOutcome askChecks
   asks-of table map roster h e =
       let R = accepted-right v table roster h in
       let lengths = or-neither (wrongSize (length map)) _ (subst (λ (z : ℕ). wrongSize z ≡ false) (sym e) (R .size)) (table-length table roster h) in
       let words = subst (λ (z : ℕ). wrongWords v z ≡ false) (sym e) (R .words) in
       let codes = subst (λ (z : ℕ). wrongCodes v z (triples table) ≡ false) (sym e) (R .codes) in
-      let decides : (q : Query) (d : Bool) → wrongQuery (length map) q ≡ d → askOutcome v table map q ≡ cond d (refused 6) (accepted (search (triples table) map (q .patterns) (q .count) 0 unbound)) =
-      λ q d f. fourth-decides _ _ _ _ _ lengths words codes ∙ ap (λ (b : Bool). cond b (refused 6) (accepted (search (triples table) map (q .patterns) (q .count) 0 unbound))) f in
+      let found : Query → Bool = λ q. search (triples table) map (q .patterns) (q .count) 0 unbound in
+      let decides : (q : Query) (d e : Bool) → wrongQuery (length map) q ≡ d → retired v q ≡ e → askOutcome v table map q ≡ cond d (refused 6) (cond e (refused 12) (accepted (found q))) =
+      λ q d e f g. query-decides _ _ _ _ _ _ lengths words codes ∙ (λ i. cond (f i) (refused 6) (cond (g i) (refused 12) (accepted (found q)))) in
       record {
-        answers = λ q f. (_, decides q false f);
-        refuses = λ q f. decides q true f;
+        answers = λ q f g. (_, decides q false false f g);
+        refuses = λ q f. decides q true _ f refl;
+        retires = λ q f g. decides q false true f g;
       }
-
-  -- so an ask is refused with 6 alone
-  six-only : (table map : List ℕ) → Asks v table map → (q : Query) (r : ℕ) → askOutcome v table map q ≡ refused r → r ≡ 6
-  six-only table map a q r e =
-      ⊎-elim
-      (λ f. let z = sym e ∙ a .refuses q f in cc)
-      (λ f. absurd (not-accepted (sym e ∙ a .answers q f .1)))
-      (bool-cases (wrongQuery (length map) q))
-
-  pub ask-refuses-six : AskRefusesSix v
-  ask-refuses-six n ts ps r w k h few e =
-      let own = ownRoster v n ts in
-      let O = own-roster-least v n ts h in
-      let R : Right v own ts =
-      record {
-        size = subst (λ (z : ℕ). wrongSize z ≡ false) (sym (O .size)) w;
-        words = subst (λ (z : ℕ). wrongWords v z ≡ false) (sym (O .size)) k;
-        marks = O .right;
-        codes = subst (λ (z : ℕ). wrongCodes v z ts ≡ false) (sym (O .size)) h;
-        cover = O .covering;
-      } in
-      let S : Right v own (saturation v n ts) = subst (λ (z : ℕ). Right v own (saturation v z ts)) (O .size) (saturation-right v own ts R) in
-      let T = summary-right v own (saturation v n ts) S in
-      let A = right-accepted v own (summary v own (saturation v n ts)) T (omega (arith, few, condensed-length (mapOf v own (saturation v n ts)) (saturation v n ts))) in
-      six-only _ _ (asks-of _ _ own A (length-map-of v own (saturation v n ts))) _ r e
 
   -- ── long enough lists ──
   accepts-summarise : (mapped : List ℕ → List Triple → List ℕ) (table roster : List ℕ) → Accepted v table roster → AcceptsSummarise v mapped table roster

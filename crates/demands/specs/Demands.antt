@@ -11,11 +11,12 @@ use Rattle.model.specs.declared.Vocabulary.{Vocabulary}
 use Rattle.model.specs.Codes.{rdfs, codes, kind, reserved, wrongWords}
 use Rattle.model.specs.Outcomes.{Outcome, Check, check, decided, wrongSize}
 use Rattle.model.specs.Graphs.{graphs, allRight, closures, allClosed, strongGraphs, allStrongRight}
-use Rattle.query.specs.Match.{AskExact}
+use Rattle.query.specs.Match.{AskExact, RetiredExact}
 use Rattle.roster_values.specs.Bytes.{WordTest}
 use Rattle.site_form.specs.Reading.{ReadsExactly, CountsPatterns, loaded}
 use Rattle.site_form.specs.Writing.{WrittenIsRead, lineOf}
-use Rattle.site_form.specs.Example.{SignBytes, PrintsExample}
+use Rattle.site_form.specs.Example.{SignBytes, PrintsExample, PrintsRetired}
+use Rattle.site_form.specs.Answers.{RetiredPrinted}
 use Rattle.theory.specs.Theorems.{SaturationExact, ConstraintsFollow, CliquesExact, RepresentativesExact, SummaryExact, StrongRepresentativesExact}
 use Rattle.theory.specs.Theorems.{StrongSummaryExact, OwnRosterLeast, ShortcutHolds, RoutesAccepted, StrongShortcutHolds, StrongRoutesAccepted}
 use Rattle.theory.specs.Theorems.{WeakOfStrongHolds, AtRestHolds, StrongAtRestHolds, AgainTheSame, StrongAgainTheSame, AnyOrder, FedInAnyOrder}
@@ -23,7 +24,8 @@ use Rattle.theory.specs.Theorems.{WholeList}
 use Rattle.demands.specs.NoneMeansNone.{NoneMeansNone, StrongNoneMeansNone}
 use Rattle.demands.specs.Feeds.{ListOfCalls}
 use Rattle.demands.specs.Routes.{AcceptedCalls, RoutesOfCalls, StrongRoutesOfCalls, ShortcutOfCalls, StrongShortcutOfCalls, WeakOfStrongCalls}
-use Rattle.demands.specs.Routes.{AtRestOfCalls, StrongAtRestOfCalls, LeavesSaturated, NoneOfCalls, StrongNoneOfCalls, AskRefusesSix}
+use Rattle.demands.specs.Routes.{AtRestOfCalls, StrongAtRestOfCalls, LeavesSaturated, NoneOfCalls, StrongNoneOfCalls}
+use Rattle.demands.specs.Printed.{AskRefusesQueries, SixForWrong, RetiredRead}
 
 -- the small graphs of 01, computed, with the saturation that 02 gives the six triples, and two graphs with reserved codes of their own
 abbrev pub GraphsRight : Type 0
@@ -47,6 +49,7 @@ pub record Demand2 : Type 0 where
   pub strong-summaries : (v : Vocabulary) → StrongSummaryExact v
   pub own-roster : (v : Vocabulary) → OwnRosterLeast v
   pub ask : AskExact
+  pub retired : RetiredExact
 
 pub record Demand3 : Type 0 where
   pub shortcut : (v : Vocabulary) → ShortcutHolds v
@@ -88,12 +91,17 @@ pub record AtRest : Type 0 where
 pub record RosterByWords : Type 0 where
   pub word-test : WordTest
 
--- the site form: read exactly, read back as written, and the example printed
+-- the site form: read exactly, read back as written, the examples printed, and one line for each query
 pub record SiteForms : Type 0 where
   pub reads : ReadsExactly
   pub written-is-read : WrittenIsRead
   pub example : PrintsExample
-  pub ask-refuses-six : (v : Vocabulary) → AskRefusesSix v
+  pub ask-refuses-queries : AskRefusesQueries
+  pub six-for-wrong : SixForWrong
+  -- the k-th answer line is `(ask retired)` exactly if the k-th query is retired
+  pub retired-printed : RetiredPrinted
+  pub retired-read : RetiredRead
+  pub retired-example : PrintsRetired
   pub signs : SignBytes
   pub counts : CountsPatterns
 

@@ -1,4 +1,5 @@
 pub mod NoneMeansNone
 pub mod Routes
+pub mod Printed
 pub mod Feeds
 pub mod Demands

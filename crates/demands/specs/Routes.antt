@@ -8,21 +8,17 @@ use mathlib.Core.List.{List}
 use lib.ListN.{length, take}
 use Rattle.model.specs.declared.Triple.{Triple}
 use Rattle.model.specs.Triples.{triples, flat, slots}
-use Rattle.model.specs.Roster.{ownRoster, wrongCodes}
 use Rattle.model.specs.Saturation.{saturation}
 use Rattle.model.specs.Classes.{mapOf, strongMapOf}
 use Rattle.model.specs.Summary.{condensed, summary, strongSummary}
 use Rattle.query.specs.declared.Query.{Query}
-use Rattle.query.specs.declared.Pattern.{Pattern}
-use Rattle.query.specs.Ask.{wrongQuery, askOutcome}
+use Rattle.query.specs.Ask.{wrongQuery, retired, askOutcome}
 use Rattle.query.specs.Match.{Match}
-use Rattle.site_form.specs.Reading.{queryOf}
-use Rattle.site_form.specs.Printing.{printerSlots}
 use Rattle.model.specs.declared.Vocabulary.{Vocabulary}
-use Rattle.model.specs.Codes.{absent, mostTriples, wrongWords}
+use Rattle.model.specs.Codes.{absent, mostTriples}
 use Rattle.model.specs.Partition.{label}
 use Rattle.model.specs.Cliques.{Node}
-use Rattle.model.specs.Outcomes.{accepted, refused, wrongSize}
+use Rattle.model.specs.Outcomes.{accepted, refused}
 use Rattle.model.specs.Calls.{Accepted, ownRosterOutcome, saturateOutcome, saturateLeaves, cliquesOutcome, summariseOutcomeBy, summariseLeavesBy}
 use Rattle.model.specs.Intake.{State, openOutcome}
 use Rattle.theory.specs.Theorems.{TriplesOf, saturationOf, sumBy, shortBy, Saturated}
@@ -73,10 +69,13 @@ module _ (v : Vocabulary) where
     pub returns : saturateOutcome v table roster result ≡ accepted count
     pub triples : out ≡ tableIn count (saturateLeaves v table roster result)
 
-  -- An ask of this table by this map is refused with 6 alone, never with 1, 10 or 3: where the query is right it is answered.
+  -- An ask of this table by this map is refused with 6 or 12 alone, never with 1, 10 or 3: a query that is neither wrong nor retired is
+  -- answered.
   pub record Asks (table map : List ℕ) : Type 0 where
-    pub answers : (q : Query) → wrongQuery (length map) q ≡ false → (maybe : Bool) × (askOutcome v table map q ≡ accepted maybe)
+    pub answers : (q : Query) → wrongQuery (length map) q ≡ false → retired v q ≡ false → (maybe : Bool) × (askOutcome v table map q ≡ accepted maybe)
     pub refuses : (q : Query) → wrongQuery (length map) q ≡ true → askOutcome v table map q ≡ refused 6
+    -- 02: "straight after 6"
+    pub retires : (q : Query) → wrongQuery (length map) q ≡ false → retired v q ≡ true → askOutcome v table map q ≡ refused 12
 
   -- 01: "A table is accepted with a roster if no check before 5 below refuses it; a list is long enough if its length causes no 1, 5 or 7."
   -- On an accepted table, with lists that are long enough, these calls are accepted.
@@ -133,7 +132,7 @@ module _ (v : Vocabulary) where
     pub asks : Asks sum g
 
   -- 01: "A table is accepted .." and "a list is long enough ..": from an accepted table whose saturation is no longer than a table may be, and
-  -- lists that are long enough, every call of both routes is accepted, the routes agree, and an ask on the summary is refused with 6 alone. The
+  -- lists that are long enough, every call of both routes is accepted, the routes agree, and an ask on the summary is refused with 6 or 12 alone. The
   -- last list needs slots for the long route's summary, because the routes end with one table.
   abbrev pub RoutesOfCallsBy : (List ℕ → List Triple → List ℕ) → Type 0
   RoutesOfCallsBy mapped =
@@ -181,13 +180,6 @@ module _ (v : Vocabulary) where
   -- the same with a strong summarise
   abbrev pub StrongNoneOfCalls : Type 0
   StrongNoneOfCalls = NoneOfCallsBy (strongMapOf v)
-
-  -- In the printer ask refuses a query with 6 only: by then 1, 10, 3 and 5 have passed.
-  abbrev pub AskRefusesSix : Type 0
-  AskRefusesSix =
-      (n : ℕ) (ts : List Triple) (ps : List Pattern) (r : ℕ) → wrongSize n ≡ false → wrongWords v n ≡ false → wrongCodes v n ts ≡ false → length (saturation v n ts) ≤ printerSlots
-      → askOutcome v (flat (summary v (ownRoster v n ts) (saturation v n ts))) (mapOf v (ownRoster v n ts) (saturation v n ts)) (queryOf ps) ≡ refused r
-      → r ≡ 6
 
   -- ── a shipped summary is at rest ──
   -- by any way to map the nodes of triples with a roster

@@ -21,11 +21,11 @@ use Rattle.model.specs.Lists.{any}
 use Rattle.model.specs.Outcomes.{Outcome, refused, accepted, refusalNumber, found, Check, decided, checked, Passes, zeroed, wrongSize, wrongWork}
 use Rattle.model.specs.Intake.{State, judged, joins, stateOf, wrongLists, feedChecks, Valid, InAnyState, Fed}
 use Rattle.theory.proofs.Tests.{or-left, or-right, or-false, or-neither}
-use Rattle.theory.proofs.Checks.{passes-first, decided-passes, not-accepted}
+use Rattle.theory.proofs.Checks.{passes-first, decided-passes, not-accepted, accepted-passes}
 use Rattle.table_checks.specs.declared.Verdict.{Verdict}
 use Rattle.table_checks.specs.declared.Verdict.the-variants.{Passed, Refused}
 use Rattle.table_checks.specs.Verdicts.{verdict}
-use Rattle.table_checks.proofs.Laws.{firstOf, refused-any, accepted-passes, kept-by}
+use Rattle.table_checks.proofs.Laws.{firstOf, refused-any, kept-by}
 use Rattle.lists.specs.Flat.{at, Cleared, Place}
 use Rattle.lists.proofs.Search.{cleared-all}
 use Rattle.intake_adding.specs.declared.FedCounts.{FedCounts}

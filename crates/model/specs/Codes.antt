@@ -1,7 +1,7 @@
 -- Codes, and the vocabulary of reserved codes.
 -- Assumes nothing.
 use Prim.Native.Nat.{ℕ}
-use mathlib.Core.Bool.{Bool, false, cond, _||_}
+use mathlib.Core.Bool.{Bool, false, cond, not, _&&_, _||_}
 use mathlib.Core.List.{List, [], _∷_}
 use lib.Dec.{eqb, leb, ltb}
 use lib.ListN.{getD}
@@ -38,6 +38,10 @@ kind v p =
 
 unfoldable pub reserved : Vocabulary → ℕ → Bool
 reserved v c = ltb (kind v c) 5
+
+-- subclass, subproperty, domain or range: 01, "with 1 to 4 a schema triple", by kind
+unfoldable pub schemaProperty : Vocabulary → ℕ → Bool
+schemaProperty v p = not (eqb (kind v p) 0) && reserved v p
 
 -- the reserved code of a kind below 5
 unfoldable pub codeOf : Vocabulary → ℕ → ℕ

@@ -7,7 +7,7 @@ use mathlib.Core.List.{List, [], _∷_}
 use lib.Dec.{eqb, ltb}
 use lib.ListN.{length}
 use Rattle.model.specs.declared.Refusal.{Refusal}
-use Rattle.model.specs.declared.Refusal.the-variants.{Length, Roster, Code, Cover, Slots, Query, Full, Form, Words}
+use Rattle.model.specs.declared.Refusal.the-variants.{Length, Roster, Code, Cover, Slots, Query, Full, Form, Words, Retired}
 use Rattle.model.specs.declared.Done.{Done}
 use Rattle.model.specs.declared.Done.the-variants.{Accepted, Refused as done-refused}
 use Rattle.model.specs.declared.Counted.{Counted}
@@ -33,6 +33,7 @@ refusalNumber Query = 6
 refusalNumber Full = 7
 refusalNumber Form = 8
 refusalNumber Words = 10
+refusalNumber Retired = 12
 
 -- the outcome that each case of an answer stands for
 unfoldable pub done : Done → Outcome (Unit {0})

@@ -160,6 +160,7 @@ pub enum Refusal {
     Full,
     Form,
     Words,
+    Retired,
 }
 
 // A refusal's number.
@@ -176,6 +177,7 @@ pub fn refusal_number(refusal: Refusal) -> u32
         Refusal::Full => 7,
         Refusal::Form => 8,
         Refusal::Words => 10,
+        Refusal::Retired => 12,
     }
 }
 

@@ -64,6 +64,27 @@ fn query_wrong(query: &[u32], n: usize) -> bool {
     false
 }
 
+// Subclass, subproperty, domain or range.
+fn is_constraint(words: Words, code: u32) -> bool {
+    if code == words.subclass || code == words.subproperty {
+        return true;
+    }
+    code == words.domain || code == words.range
+}
+
+// Whether a counted pattern asks for constraints.
+fn query_retired(words: Words, query: &[u32]) -> bool {
+    let count = number_at(query, 0) as usize;
+    let mut k = 0;
+    while k < count {
+        if is_constraint(words, part(query, k, 2)) {
+            return true;
+        }
+        k += 1;
+    }
+    false
+}
+
 // What an end stands for: a variable for its chosen node, a code for its map entry.
 fn meaning(map: &[u32], choice: &[u32], kind: u32, value: u32) -> u32 {
     if kind == 0 {
@@ -159,6 +180,9 @@ pub fn ask(words: Words, table: &[u32], map: &[u32], query: &[u32]) -> Answer {
     }
     if query_wrong(query, n) {
         return refuse(6);
+    }
+    if query_retired(words, query) {
+        return refuse(12);
     }
     if choose(table, map, query, [0; 8], 0) {
         return accept(1);

@@ -13,7 +13,7 @@ use Rattle.model.specs.declared.Refusal.{Refusal}
 use Rattle.model.specs.declared.Refusal.the-variants.{Form}
 use Rattle.model.specs.Triples.{triples, flat, slots, listed}
 use Rattle.model.specs.Outcomes.{refused, accepted, refusalNumber, check}
-use Rattle.theory.proofs.Checks.{no-checks, not-accepted, decided-passes, decided-skip}
+use Rattle.theory.proofs.Checks.{no-checks, not-accepted, decided-passes, first-decides}
 use Rattle.theory.proofs.Flat.{triples-flat, length-flat, length-listed}
 use Rattle.table_checks.proofs.Laws.{left-after}
 use Rattle.site_form.specs.declared.Site.{Site}
@@ -54,7 +54,7 @@ module _ (text list : List ℕ) (size : length list ≡ 3 * mostLines) (short : 
   unfolding readOutcome slots
   some-is f e =
       ap (λ (o : Option Forms). outcomeOf o list) e
-      ∙ decided-skip (check 5 (ltb (length list / 3) (length (f .triples)))) [] (accepted (siteOf f))
+      ∙ first-decides (check 5 (ltb (length list / 3) (length (f .triples)))) [] (accepted (siteOf f))
       (le-ltb (length list / 3) (length (f .triples)) (omega (arith, (read-says text f e) .few-triples)))
       ∙ decided-passes [] (accepted (siteOf f)) no-checks
 

@@ -22,7 +22,7 @@ use Rattle.query.specs.declared.Pattern.{Pattern}
 use Rattle.query.specs.declared.Query.{Query}
 use Rattle.query.specs.declared.Fit.{Fit}
 use Rattle.theory.proofs.Checks.{passes-first}
-use Rattle.query.specs.Ask.{patternAt, unbound, fitTriple, tried, search, stepOf, wrongQuery, askChecks, askOutcome}
+use Rattle.query.specs.Ask.{patternAt, unbound, fitTriple, tried, search, stepOf, wrongQuery, retired, askChecks, askOutcome}
 use Rattle.query.specs.Match.{NodeOf, patternTriple, Choice, AskAccepted, Exact, AskExact}
 use Rattle.theory.proofs.Tests.{and-left, and-right, neither-left, neither-right, not-true-false}
 use Rattle.theory.proofs.Lists.{any-holds, any-found, any-none}
@@ -96,6 +96,7 @@ record Passed (v : Vocabulary) (table map : List ℕ) (q : Query) : Type 0 where
   pub words : wrongWords v (length map) ≡ false
   pub codes : wrongCodes v (length map) (triples table) ≡ false
   pub query : wrongQuery (length map) q ≡ false
+  pub answered : retired v q ≡ false
 
 passed : (v : Vocabulary) (table map : List ℕ) (q : Query) → AskAccepted v table map q → Passed v table map q
 unfolding askChecks
@@ -104,7 +105,7 @@ passed v table map q a =
     let x = passes-first _ _ (w .1) in
     let y = passes-first _ _ (x .1) in
     let z = passes-first _ _ (y .1) in
-    record { lengths = w .0; words = x .0; codes = y .0; query = z .0 }
+    record { lengths = w .0; words = x .0; codes = y .0; query = z .0; answered = (passes-first _ _ (z .1)) .0 }
 
 below : (v : Vocabulary) (n c : ℕ) → wrongEnd v n c ≡ false → c < n
 unfolding wrongEnd
@@ -131,7 +132,7 @@ module _ (v : Vocabulary) (table map : List ℕ) (q : Query) (a : Passed v table
 
   answered : askOutcome v table map q ≡ accepted answer
   unfolding askOutcome askChecks decided answer ts
-  answered = simp (a .lengths, a .words, a .codes, a .query)
+  answered = simp (a .lengths, a .words, a .codes, a .query, a .answered)
 
   at-start : (w : ℕ) → w < 8 → getD unbound w 0 ≡ absent
   at-start w l = getD-replicate 8 w absent 0 l

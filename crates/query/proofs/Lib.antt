@@ -1,3 +1,4 @@
 pub mod Steps
 pub mod Exact
 pub mod Carried
+pub mod Retired

@@ -1,8 +1,11 @@
-// Queries: their types. What they mean is defined in specs/.
+// Queries: their types, and the refusal of a retired one. What they mean is defined in specs/.
 
 ghost use mathlib.Core.Path.{_≡_};
+ghost use lib.Dec.{eqb};
+ghost use Rattle.model.specs.Outcomes.{refusalNumber};
 ghost use Rattle.query.specs.Ask.{blank};
 use model::Refusal;
+use model::refusal_number;
 
 // An end of a pattern: a variable 0 to 7, or a code.
 pub enum End {
@@ -44,4 +47,11 @@ pub fn blank_pattern() -> Pattern
         property: 0,
         object: End::Var(0),
     }
+}
+
+// Whether a refusal is that of a retired query.
+pub fn is_retired(refusal: Refusal) -> bool
+    ensures { λ r. ⌜ r ≡ eqb (refusalNumber refusal) 12 ⌝ }
+{
+    refusal_number(refusal) == refusal_number(Refusal::Retired)
 }

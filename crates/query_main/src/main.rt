@@ -118,17 +118,21 @@ fn example() {
 }
 
 // A map that is too short, a word table with a code twice, one with a code that is too large, a reserved code as an object, a query
-// without patterns.
+// without patterns, one for constraints with a variable that is too large, one for constraints.
 fn refusals() {
     let four = [0u32; 4];
     let five = [0u32; 5];
     let table = [5u32, 5, 0];
-    let q = pair(vars(0, 5, 1), vars(0, 5, 1), 0);
-    show(ask::ask(words(4), &table, &four, q));
-    show(ask::ask(words(3), &table, &five, q));
-    show(ask::ask(words(5), &table, &five, q));
-    show(ask::ask(words(4), &table, &five, q));
-    show(ask::ask(words(4), &[], &five, q));
+    let empty = pair(vars(0, 1, 1), vars(0, 1, 1), 0);
+    let wrong = pair(vars(8, 1, 1), vars(0, 1, 1), 1);
+    let retired = pair(vars(0, 1, 1), vars(8, 1, 1), 1);
+    show(ask::ask(words(4), &table, &four, wrong));
+    show(ask::ask(words(3), &table, &five, wrong));
+    show(ask::ask(words(5), &table, &five, wrong));
+    show(ask::ask(words(4), &table, &five, wrong));
+    show(ask::ask(words(4), &[], &five, empty));
+    show(ask::ask(words(4), &[], &five, wrong));
+    show(ask::ask(words(4), &[], &five, retired));
 }
 
 // 100,000 triples 5 5 5, of which none has the object 6.

@@ -1,13 +1,14 @@
--- Check 6, and an end against a node, branch by branch.
+-- Checks 6 and 12, and an end against a node, branch by branch.
 -- Assumes nothing.
 use Prim.Native.Nat.{ℕ, _+_, _<_, _≤_}
 use native.Mathlib.Omega.{arith}
 use mathlib.Core.Path.{_≡_, sym, ap, _∙_}
-use mathlib.Core.Bool.{true, false}
+use mathlib.Core.Bool.{Bool, true, false}
 use mathlib.Core.List.{List}
 use lib.Dec.{eqb, leb, ltb}
 use lib.ListN.{getD, set}
 use borrow.Author.Tests.{lt-ltb, le-ltb, le-leb, lt-leb, eq-eqb, ne-eqb, ltb-false, leb-false}
+use Rattle.model.specs.declared.Vocabulary.{Vocabulary}
 use Rattle.model.specs.Codes.{absent}
 use Rattle.model.specs.Lists.{any, tabulate}
 use Rattle.model.specs.Partition.{label}
@@ -16,9 +17,9 @@ use Rattle.query.specs.declared.End.{End}
 use Rattle.query.specs.declared.End.the-variants.{Var, Code}
 use Rattle.query.specs.declared.Pattern.{Pattern}
 use Rattle.query.specs.declared.Query.{Query}
-use Rattle.query.specs.Ask.{patternAt, fit, fitEnd, wrongPatternEnd, wrongPattern, countedPatterns, wrongQuery}
+use Rattle.query.specs.Ask.{patternAt, fit, fitEnd, wrongPatternEnd, wrongPattern, countedPatterns, wrongQuery, asksSchema, retired}
 
--- ── check 6 ──
+-- ── check 6 of an end and of a pattern ──
 pub end-variable : (n v : ℕ) (e : End) → e ≡ Var v → ltb 7 v ≡ wrongPatternEnd n e
 unfolding wrongPatternEnd
 end-variable n v e h = rw h
@@ -41,11 +42,30 @@ module _ (n : ℕ) (p : Pattern) where
     unfolding wrongPattern
     wrong-object h = rw (e, lt-leb _ _ h)
 
--- no pattern before the k-th is wrong
-pub record RightBefore (n : ℕ) (q : Query) (k : ℕ) : Type 0 where
-  pub within : k ≤ q .count
-  pub none : any (wrongPattern n) (tabulate (patternAt q) 0 k) ≡ false
+-- ── a test over the counted patterns ──
+module _ (f : Pattern → Bool) (q : Query) where
+  -- none before the k-th passes it
+  pub record NoneBefore (k : ℕ) : Type 0 where
+    pub within : k ≤ q .count
+    pub none : any f (tabulate (patternAt q) 0 k) ≡ false
 
+  pub none-start : NoneBefore 0
+  none-start = record { within = omega arith; none = run-none f (patternAt q) 0 }
+
+  pub none-step : (k : ℕ) → NoneBefore k → k < q .count → f (patternAt q k) ≡ false → NoneBefore (k + 1)
+  none-step k h l e = record { within = omega arith; none = run-more f (patternAt q) k (h .none) e }
+
+  pub one-counted : (k : ℕ) → k < q .count → f (patternAt q k) ≡ true → true ≡ any f (countedPatterns q)
+  unfolding countedPatterns
+  one-counted k l e = sym (run-holds f (patternAt q) 0 (q .count) k (omega arith) (omega arith) e)
+
+  pub none-counted : (k : ℕ) → NoneBefore k → q .count ≤ k → false ≡ any f (countedPatterns q)
+  unfolding countedPatterns
+  none-counted k h l =
+      let e : q .count ≡ k = omega (arith, h .within) in
+      sym (ap (λ (m : ℕ). any f (tabulate (patternAt q) 0 m)) e ∙ h .none)
+
+-- ── check 6 of a query ──
 module _ (n : ℕ) (q : Query) where
   pub query-none : q .count ≡ 0 → true ≡ wrongQuery n q
   unfolding wrongQuery
@@ -56,24 +76,15 @@ module _ (n : ℕ) (q : Query) where
     unfolding wrongQuery
     query-many h = rw (ne-eqb _ _ some, lt-ltb _ _ h)
 
-    module _ (few : q .count ≤ 8) where
-      pub query-found : (k : ℕ) → k < q .count → wrongPattern n (patternAt q k) ≡ true → true ≡ wrongQuery n q
-      unfolding wrongQuery countedPatterns
-      query-found k l e =
-          rw (ne-eqb _ _ some, le-ltb _ _ few)
-          (sym (run-holds (wrongPattern n) (patternAt q) 0 (q .count) k (omega arith) (omega arith) e))
+    -- then the patterns decide
+    pub query-few : q .count ≤ 8 → {b : Bool} → b ≡ any (wrongPattern n) (countedPatterns q) → b ≡ wrongQuery n q
+    unfolding wrongQuery
+    query-few few e = rw (ne-eqb _ _ some, le-ltb _ _ few) e
 
-      pub query-end : (k : ℕ) → RightBefore n q k → q .count ≤ k → false ≡ wrongQuery n q
-      unfolding wrongQuery countedPatterns
-      query-end k h l =
-          let e : q .count ≡ k = omega (arith, h .within) in
-          rw (ne-eqb _ _ some, le-ltb _ _ few) (sym (ap (λ (m : ℕ). any (wrongPattern n) (tabulate (patternAt q) 0 m)) e ∙ h .none))
-
-  pub query-start : RightBefore n q 0
-  query-start = record { within = omega arith; none = run-none (wrongPattern n) (patternAt q) 0 }
-
-  pub query-step : (k : ℕ) → RightBefore n q k → k < q .count → wrongPattern n (patternAt q k) ≡ false → RightBefore n q (k + 1)
-  query-step k h l e = record { within = omega arith; none = run-more (wrongPattern n) (patternAt q) k (h .none) e }
+-- ── check 12 of a query ──
+pub retired-by : (w : Vocabulary) (q : Query) {b : Bool} → b ≡ any (asksSchema w) (countedPatterns q) → b ≡ retired w q
+unfolding retired
+retired-by w q e = e
 
 -- ── an end ──
 pub variable-below : (n v : ℕ) (e : End) → e ≡ Var v → wrongPatternEnd n e ≡ false → v < 8

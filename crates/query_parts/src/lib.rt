@@ -1,15 +1,16 @@
-// The check of a query, an end against a node, and the first place of a table that may fit a pattern.
+// The checks of a query, an end against a node, and the first place of a table that may fit a pattern.
 
 ghost use mathlib.Core.Path.{_≡_};
 ghost use mathlib.Core.Bool.{false};
 ghost use Prim.Native.Nat.{_+_, _*_, _<_, _≤_};
 ghost use lib.ListN.{length};
 ghost use Rattle.lists.specs.Flat.{at, RisingPart};
-ghost use Rattle.query.specs.Ask.{fitEnd, wrongPatternEnd, wrongPattern, wrongQuery};
+ghost use Rattle.query.specs.Ask.{fitEnd, wrongPatternEnd, wrongPattern, wrongQuery, retired};
 ghost use Rattle.query_parts.specs.Parts.{FirstWith, FirstOf, FirstFit, front, wantedOf, InOrder};
 use lists::Code;
 use lists::lower_bound;
 use model::Triple;
+use model::Vocabulary;
 use query::End;
 use query::Fit;
 use query::Pattern;
@@ -62,6 +63,23 @@ pub fn query_wrong(q: Query, n: usize) -> bool
             return true;
         }
         k += 1;
+    }
+    false
+}
+
+// Refusal 12: a counted pattern's property is subclass, subproperty, domain or range.
+pub fn query_retired(words: Vocabulary, q: Query) -> bool
+    requires { ⌜ q .count ≤ 8 ⌝ }
+    ensures { λ r. ⌜ r ≡ retired words q ⌝ }
+{
+    let count = q.count as usize;
+    let mut i = 0;
+    while i < count {
+        let p = q.patterns[i];
+        if Code(p.property).is_schema(words) {
+            return true;
+        }
+        i += 1;
     }
     false
 }

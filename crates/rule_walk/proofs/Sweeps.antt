@@ -1,10 +1,10 @@
 -- Sweeps over the frozen part: partners of a driving premise, driving premises, rules.
 -- Assumes nothing.
-use Prim.Native.Nat.{ℕ, suc, _+_, _*_, _<_, _≤_}
+use Prim.Native.Nat.{ℕ, _+_, _*_, _<_, _≤_}
 use mathlib.Core.Path.{_≡_, refl, sym, _∙_, ap, subst}
 use mathlib.Core.Logic.{_⊎_, inl, inr, ⊎-elim}
 use mathlib.Core.Bool.{true, false, true≢false}
-use mathlib.Core.List.{List, [], _∷_, List·Memᴰ as Mem, List·Memᴰ·not-nil as no-mem, List·Memᴰ·cases-cons as mem-cases}
+use mathlib.Core.List.{List, List·Memᴰ as Mem}
 use native.Mathlib.Omega.{arith}
 use lib.Dec.{eqb}
 use lib.ListN.{length, getD}
@@ -17,7 +17,7 @@ use Rattle.model.specs.Order.{Lt}
 use Rattle.model.specs.Rules.{rules, fits, gives}
 use Rattle.model.specs.Saturation.{round}
 use Rattle.theory.proofs.Tests.{and-both, bool-cases}
-use Rattle.theory.proofs.Lists.{mem-getD, tabulate-mem, mem-tabulate, tabulate-at, length-tabulate}
+use Rattle.theory.proofs.Lists.{mem-getD, mem-place, tabulate-mem, mem-tabulate, tabulate-at, length-tabulate}
 use Rattle.theory.proofs.Saturated.{Drawn as DrawnBy, round-mem, round-keeps}
 use Rattle.lists.specs.Flat.{at, RisingPart, Bound}
 use Rattle.lists.proofs.Compare.{Cmp, lt, eq, gt, cmp}
@@ -41,10 +41,6 @@ base-place l₀ l n m e j h =
 
 pub in-first : (l : List ℕ) (n i : ℕ) (t : Triple) → i < n → t ≡ at l i → Mem t (first l n)
 in-first l n i t h e = subst (λ (z : Triple). Mem z (first l n)) (sym e) (mem-tabulate (at l) 0 n i (omega arith) (omega arith))
-
-rule-place : (rs : List Rule) (d r : Rule) → Mem r rs → (k : ℕ) × (k < length rs) × (r ≡ getD rs k d)
-rule-place [] d r m = absurd (no-mem m)
-rule-place (q ∷ rs) d r m = ⊎-elim (λ e. (0, omega arith, e)) (λ n. let w = rule-place rs d r n in (suc (w .0), omega (arith, w .1), w .2)) (mem-cases m)
 
 pub rule-known : (k high : ℕ) (r : Rule) → k < high → high ≤ ruleCount → r ≡ getD rules k noRule → Mem r rules
 rule-known k high r h u e = subst (λ (z : Rule). Mem z rules) (sym e) (mem-getD rules noRule k (omega arith))
@@ -332,6 +328,6 @@ module _ (words : Vocabulary) where
     where
       drawn : DrawnBy words (first l count) u → Mem u (first l′ (c .filled))
       drawn g =
-          let w = rule-place rules noRule (g .rule-of) (g .in-table) in
+          let w = mem-place rules noRule (g .in-table) in
           subst (λ (z : Triple). Mem z (first l′ (c .filled))) ((λ i. gives words (sym (w .2) i) (g .first) (g .second)) ∙ sym (g .gives-it))
           (R .drawn f (w .0) (omega arith) (w .1) (g .first) (g .second) (g .first-in) (g .second-in) ((λ i. fits words (sym (w .2) i) (g .first) (g .second)) ∙ g .fitting))

@@ -6,24 +6,24 @@ use mathlib.Core.Logic.{_⊎_, inl, inr, ⊎-elim}
 use mathlib.Core.Bool.{Bool, true, false, cond, not, true≢false}
 use mathlib.Core.List.{List, _++_, List·Memᴰ as Mem, List·Memᴰ·append-cases as append-cases, Memᴰ·append-left as append-left, Memᴰ·append-right as append-right}
 use native.Mathlib.Omega.{arith}
-use lib.Dec.{ltb}
 use lib.ListN.{length}
 use borrow.Author.Count.{below-more}
-use borrow.Author.Tests.{eq-eqb, ne-eqb, lt-ltb}
+use borrow.Author.Tests.{lt-ltb}
 use Rattle.model.specs.declared.Triple.{Triple}
 use Rattle.model.specs.declared.Vocabulary.{Vocabulary}
-use Rattle.model.specs.Codes.{kind}
+use Rattle.model.specs.Codes.{kind, schemaProperty}
 use Rattle.model.specs.Lists.{tabulate, when}
 use Rattle.model.specs.Triples.{triples, sorted}
 use Rattle.theory.proofs.Tests.{bool-cases}
 use Rattle.theory.proofs.Lists.{tabulate-mem, mem-tabulate, when-mem, mem-when, collect-mem, mem-collect}
 use Rattle.theory.proofs.Order.{sorted-rising, sorted-mem, mem-sorted, rising-length}
 use Rattle.lists.specs.Flat.{at, RisingPart}
+use Rattle.lists.proofs.Codes.{schema-other}
 use Rattle.lists.proofs.Places.{triples-table}
 use Rattle.builder.specs.declared.Builder.{Builder}
 use Rattle.builder.specs.Builder.{first, Offered, GrownBy}
 use Rattle.builder.proofs.Collecting.{opening, offer-step, step-none, step-then}
-use Rattle.schema_load.specs.Loading.{schema, chosen, part, OfferedIf, Added}
+use Rattle.schema_load.specs.Loading.{chosen, part, OfferedIf, Added}
 
 -- ── one offer ──
 pub offered-chosen : (c r : Bool) (l l′ : List ℕ) (b b′ : Builder) (t : Triple) → r ≡ c → r ≡ true → Offered l l′ b b′ t → OfferedIf c l l′ b b′ t
@@ -35,24 +35,15 @@ offered-none c r l b t e h = record { steps = λ U X R S m. step-none U X l b S;
 
 module _ (v : Vocabulary) where
   -- ── the test ──
-  pub schema-type : (t : Triple) (k : ℕ) → k ≡ kind v (t .property) → k ≡ 0 → false ≡ schema v t
-  unfolding schema
-  schema-type t k e z = sym (ap (λ (b : Bool). cond b false (ltb (kind v (t .property)) 5)) (eq-eqb (kind v (t .property)) 0 (sym e ∙ z)))
-
-  pub schema-other : (t : Triple) (k : ℕ) → k ≡ kind v (t .property) → (k ≡ 0 → ⊥) → ltb k 5 ≡ schema v t
-  unfolding schema
-  schema-other t k e n =
-      ap (λ (x : ℕ). ltb x 5) e ∙ sym (ap (λ (b : Bool). cond b false (ltb (kind v (t .property)) 5)) (ne-eqb (kind v (t .property)) 0 (λ z. n (e ∙ z))))
-
   -- the kinds 1 to 4 are schema triples
-  pub kind-schema : (t : Triple) → 1 ≤ kind v (t .property) → kind v (t .property) ≤ 4 → schema v t ≡ true
-  kind-schema t l u = sym (schema-other t (kind v (t .property)) refl (λ z. omega arith)) ∙ lt-ltb (kind v (t .property)) 5 (omega arith)
+  pub kind-schema : (t : Triple) → 1 ≤ kind v (t .property) → kind v (t .property) ≤ 4 → schemaProperty v (t .property) ≡ true
+  kind-schema t l u = sym (schema-other v (t .property) (kind v (t .property)) refl (λ z. omega arith)) ∙ lt-ltb (kind v (t .property)) 5 (omega arith)
 
-  pub chosen-schema : (t : Triple) (w r : Bool) → r ≡ schema v t → r ≡ true → w ≡ chosen v w t
+  pub chosen-schema : (t : Triple) (w r : Bool) → r ≡ schemaProperty v (t .property) → r ≡ true → w ≡ chosen v w t
   unfolding chosen
   chosen-schema t w r e h = sym (ap (λ (b : Bool). cond b w (not w)) (sym e ∙ h))
 
-  pub chosen-other : (t : Triple) (w r : Bool) → r ≡ schema v t → r ≡ false → not w ≡ chosen v w t
+  pub chosen-other : (t : Triple) (w r : Bool) → r ≡ schemaProperty v (t .property) → r ≡ false → not w ≡ chosen v w t
   unfolding chosen
   chosen-other t w r e h = sym (ap (λ (b : Bool). cond b w (not w)) (sym e ∙ h))
 
@@ -71,8 +62,8 @@ module _ (v : Vocabulary) where
   -- each triple is in one of the two parts
   pub parts : (ts : List Triple) (t : Triple) → Mem t ts → Mem t (part v true ts) ⊎ Mem t (part v false ts)
   parts ts t m =
-      ⊎-elim (λ e. inl (mem-part true ts t m (sym (chosen-schema t true (schema v t) refl e))))
-      (λ e. inr (mem-part false ts t m (sym (chosen-other t false (schema v t) refl e)))) (bool-cases (schema v t))
+      ⊎-elim (λ e. inl (mem-part true ts t m (sym (chosen-schema t true (schemaProperty v (t .property)) refl e))))
+      (λ e. inr (mem-part false ts t m (sym (chosen-other t false (schemaProperty v (t .property)) refl e)))) (bool-cases (schemaProperty v (t .property)))
 
   -- ── the loop ──
   module _ (table : List ℕ) (w : Bool) (count : ℕ) (l₀ : List ℕ) where

@@ -5,11 +5,10 @@ use mathlib.Core.Path.{_≡_}
 use mathlib.Core.Bool.{Bool, true, false, cond, not}
 use mathlib.Core.Logic.{_⊎_, _↔_}
 use mathlib.Core.List.{List, List·Memᴰ as Mem}
-use lib.Dec.{eqb, ltb}
 use lib.ListN.{length}
 use Rattle.model.specs.declared.Triple.{Triple}
 use Rattle.model.specs.declared.Vocabulary.{Vocabulary}
-use Rattle.model.specs.Codes.{kind}
+use Rattle.model.specs.Codes.{schemaProperty}
 use Rattle.model.specs.Lists.{collect, when}
 use Rattle.model.specs.Order.{Rising}
 use Rattle.builder.specs.declared.Builder.{Builder}
@@ -21,13 +20,9 @@ pub record OfferedIf (c : Bool) (l l′ : List ℕ) (b b′ : Builder) (t : Trip
   pub held : b′ .full ≡ false → c ≡ true → Mem t (first l′ (b′ .filled))
 
 module _ (v : Vocabulary) where
-  -- 01: "with 1 to 4 a schema triple", by kind
-  unfoldable pub schema : Triple → Bool
-  schema t = cond (eqb (kind v (t .property)) 0) false (ltb (kind v (t .property)) 5)
-
   -- a schema triple where these are wanted, another where those are
   unfoldable pub chosen : Bool → Triple → Bool
-  chosen w t = cond (schema t) w (not w)
+  chosen w t = cond (schemaProperty v (t .property)) w (not w)
 
   -- the triples so chosen
   unfoldable pub part : Bool → List Triple → List Triple

@@ -6,32 +6,19 @@ ghost use lib.ListN.{length};
 ghost use Rattle.model.specs.Triples.{triples};
 ghost use Rattle.lists.specs.Flat.{at, RisingPart};
 ghost use Rattle.builder.specs.Builder.{Built};
-ghost use Rattle.schema_load.specs.Loading.{schema, chosen, OfferedIf, Added};
+ghost use Rattle.schema_load.specs.Loading.{chosen, OfferedIf, Added};
 use builder::Builder;
 use builder::offer;
 use lists::Code;
-use lists::DATA;
-use lists::TYPE;
 use lists::triple_at;
 use model::Triple;
 use model::Vocabulary;
-
-// Whether a triple is a schema triple.
-fn is_schema(words: Vocabulary, t: Triple) -> bool
-    ensures { λ r. ⌜ r ≡ schema words t ⌝ }
-{
-    let kind = Code(t.property).kind(words);
-    if kind == TYPE {
-        return false;
-    }
-    kind < DATA
-}
 
 // Whether a triple is a schema triple where these are wanted, or another where those are.
 fn is_chosen(words: Vocabulary, t: Triple, schemas: bool) -> bool
     ensures { λ r. ⌜ r ≡ chosen words schemas t ⌝ }
 {
-    if is_schema(words, t) {
+    if Code(t.property).is_schema(words) {
         return schemas;
     }
     !schemas

@@ -7,3 +7,4 @@ pub mod Filled
 pub mod Back
 pub mod Example
 pub mod Order
+pub mod Answers

@@ -1,4 +1,4 @@
--- The example of the site printer: 01's text, printed with the triples that 02 adds.
+-- The examples of the site printer: 01's text, printed with the triples that 02 adds, and texts with retired queries.
 -- Assumes nothing.
 use Prim.Native.Nat.{ℕ}
 use Prim.Native.String.{String}
@@ -107,3 +107,48 @@ PrintsGraph = printed (lines givenLines) ≡ lines printedLines
 -- 01's example
 abbrev pub PrintsExample : Type 0
 PrintsExample = printed (lines (givenLines ++ givenQueries)) ≡ lines (printedLines ++ answerLines)
+
+-- The same with queries between the two: about subclass, about type, and with domain as the second pattern's property.
+abbrev pub retiredQueries : List String
+retiredQueries =
+    "(ask ((v 0) 5 (v 1)) ((v 0) 6 (v 2)))"
+    ∷ "(ask ((v 0) 1 (v 1)))"
+    ∷ "(ask ((v 0) 0 (v 1)))"
+    ∷ "(ask ((v 0) 5 (v 1)) ((v 1) 3 (v 2)))"
+    ∷ "(ask ((v 0) 7 (v 1)) ((v 1) 7 (v 2)))"
+    ∷ []
+
+-- 02: "the printer writes `(ask retired)` for it and goes on with the next, in the same sequence"
+abbrev pub retiredAnswers : List String
+retiredAnswers = "(ask maybe)" ∷ "(ask retired)" ∷ "(ask maybe)" ∷ "(ask retired)" ∷ "(ask none)" ∷ []
+
+-- And with a wrong query behind them, which 6 finds before anything is printed.
+abbrev pub wrongQueries : List String
+wrongQueries = retiredQueries ++ "(ask ((v 9) 5 (v 1)))" ∷ []
+
+-- A text that loads subclass at 0, which is the property of uncounted patterns, and type at 4.
+abbrev pub loadedLines : List String
+loadedLines =
+    "(site 12)"
+    ∷ "(words 4 0 1 2 3)"
+    ∷ "(t 10 5 11)"
+    ∷ "(ask ((v 0) 5 (v 1)))"
+    ∷ "(ask ((v 0) 0 (v 1)))"
+    ∷ "(ask ((v 0) 4 (v 1)))"
+    ∷ []
+
+abbrev pub loadedPrinted : List String
+loadedPrinted =
+    "(summary 1)"
+    ∷ "(t 10 5 11)"
+    ∷ "(rep 10 10)"
+    ∷ "(rep 11 11)"
+    ∷ "(ask maybe)"
+    ∷ "(ask retired)"
+    ∷ "(ask none)"
+    ∷ []
+
+pub record PrintsRetired : Type 0 where
+  pub goes-on : printed (lines (givenLines ++ retiredQueries)) ≡ lines (printedLines ++ retiredAnswers)
+  pub wrong-first : printed (lines (givenLines ++ wrongQueries)) ≡ lines ("(refused 6)" ∷ [])
+  pub by-loaded-words : printed (lines loadedLines) ≡ lines loadedPrinted

@@ -1,7 +1,7 @@
 -- What the site printer prints of a text.
 -- Assumes nothing.
 use Prim.Native.Nat.{ℕ}
-use mathlib.Core.Bool.{Bool, true, false, cond, _||_}
+use mathlib.Core.Bool.{Bool, true, false, cond, not, _||_}
 use mathlib.Core.Path.{_≡_}
 use mathlib.Core.List.{List, [], _∷_, _++_, map}
 use mathlib.Core.Option.{Option, none, some}
@@ -52,10 +52,21 @@ unfoldable pub nodeLines : List ℕ → List ℕ
 nodeLines representatives = collect (nodeLine representatives) (tabulate (λ c. c) 0 (length representatives))
 
 -- 01: "The answer is "maybe" exactly if some choice of nodes for the variables puts every pattern in the table, else "none"."
+abbrev pub maybeLine : List ℕ
+maybeLine = bytes "(ask maybe)\n"
+
+abbrev pub noneLine : List ℕ
+noneLine = bytes "(ask none)\n"
+
+-- 02: "the printer writes `(ask retired)` for it"
+abbrev pub retiredLine : List ℕ
+retiredLine = bytes "(ask retired)\n"
+
+-- the line of what ask says of a query; with any other refusal than 12 the text is refused with 6 and no line is printed
 unfoldable pub answerLine : Outcome Bool → List ℕ
-answerLine (refused r) = []
-answerLine (accepted true) = bytes "(ask maybe)\n"
-answerLine (accepted false) = bytes "(ask none)\n"
+answerLine (refused r) = cond (eqb r 12) retiredLine []
+answerLine (accepted true) = maybeLine
+answerLine (accepted false) = noneLine
 
 -- 01: "prints the summary, its map and the query answers"
 unfoldable pub report : List Triple → List ℕ → List (Outcome Bool) → List ℕ
@@ -71,9 +82,10 @@ shown (refused r) = refusedLine r
 shown (accepted lines) = lines
 
 -- ── checks ──
-abbrev pub isRefused : Outcome Bool → Bool
-isRefused (refused r) = true
-isRefused (accepted b) = false
+-- ask refuses the query, and not because it is retired: 02, "Stored site files that hold one are still read"
+abbrev pub isWrong : Outcome Bool → Bool
+isWrong (refused r) = not (eqb r 12)
+isWrong (accepted b) = false
 
 -- 01: "It checks in the order 8, 1, 3, 5, 6."; 02: 10 straight after 1
 -- 1, 10, 3, 5 and 6, with the saturation, its summary and map, and what ask says of each query
@@ -84,7 +96,7 @@ printChecked v n triples saturated summarised representatives answers =
     ∷ check 10 (wrongWords v n)
     ∷ check 3 (wrongCodes v n triples)
     ∷ check 5 (ltb printerSlots (length saturated))
-    ∷ check 6 (any isRefused answers)
+    ∷ check 6 (any isWrong answers)
     ∷ [])
     (report summarised representatives answers)
 
@@ -92,14 +104,25 @@ printChecked v n triples saturated summarised representatives answers =
 unfoldable pub queryAnswers : Vocabulary → List Triple → List ℕ → List (List Pattern) → List (Outcome Bool)
 queryAnswers v summarised representatives qs = map (λ ps. askOutcome v (flat summarised) representatives (queryOf ps)) qs
 
+-- the saturation of a text's triples, its summary and its map, with the own roster
+abbrev pub saturatedOf : Forms → List Triple
+saturatedOf f = saturation (loaded (f .words)) (f .size) (f .triples)
+
+abbrev pub ownRosterOf : Forms → List ℕ
+ownRosterOf f = ownRoster (loaded (f .words)) (f .size) (f .triples)
+
+abbrev pub summaryOf : Forms → List Triple
+summaryOf f = summary (loaded (f .words)) (ownRosterOf f) (saturatedOf f)
+
+abbrev pub representativesOf : Forms → List ℕ
+representativesOf f = mapOf (loaded (f .words)) (ownRosterOf f) (saturatedOf f)
+
+-- what ask says of each query of a text
+abbrev pub answersOf : Forms → List (Outcome Bool)
+answersOf f = queryAnswers (loaded (f .words)) (summaryOf f) (representativesOf f) (f .asks)
+
 unfoldable pub printForms : Forms → Outcome (List ℕ)
-printForms f =
-    let v = loaded (f .words) in
-    let own = ownRoster v (f .size) (f .triples) in
-    let saturated = saturation v (f .size) (f .triples) in
-    let summarised = summary v own saturated in
-    let representatives = mapOf v own saturated in
-    printChecked v (f .size) (f .triples) saturated summarised representatives (queryAnswers v summarised representatives (f .asks))
+printForms f = printChecked (loaded (f .words)) (f .size) (f .triples) (saturatedOf f) (summaryOf f) (representativesOf f) (answersOf f)
 
 abbrev pub printRead : Option Forms → Outcome (List ℕ)
 printRead none = refused 8

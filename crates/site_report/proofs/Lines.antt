@@ -13,6 +13,7 @@ use Rattle.model.specs.Codes.{absent}
 use Rattle.model.specs.Lists.{collect, tabulate}
 use Rattle.model.specs.Partition.{label}
 use Rattle.model.specs.declared.Refusal.{Refusal}
+use Rattle.model.specs.Outcomes.{refused, refusalNumber}
 use Rattle.query.specs.declared.Asked.{Asked}
 use Rattle.query.specs.declared.Asked.the-variants.{Maybe, None, Refused}
 use Rattle.query.specs.Ask.{asked}
@@ -206,6 +207,15 @@ module _ (a : Asked) where
   unfolding answerLine asked
   line-none e = ap (λ (x : Asked). answerLine (asked x)) e
 
-  pub line-refused : (r : Refusal) → a ≡ Refused r → answerLine (asked a) ≡ []
-  unfolding answerLine asked
+  pub line-refused : (r : Refusal) → a ≡ Refused r → answerLine (asked a) ≡ answerLine (refused (refusalNumber r))
+  unfolding asked
   line-refused r e = ap (λ (x : Asked). answerLine (asked x)) e
+
+module _ (n : ℕ) {t : Bool} (h : t ≡ eqb n 12) where
+  pub line-retired : t ≡ true → answerLine (refused n) ≡ bytes "(ask retired)\n"
+  unfolding answerLine
+  line-retired e = rw (← h, e)
+
+  pub line-wrong : t ≡ false → answerLine (refused n) ≡ []
+  unfolding answerLine
+  line-wrong e = rw (← h, e)

@@ -3,6 +3,7 @@
 ghost use Prim.Native.Nat.{_<_, _≤_};
 ghost use lib.ListN.{length};
 ghost use Rattle.model.specs.Lists.{collect};
+ghost use Rattle.model.specs.Outcomes.{refused, refusalNumber};
 ghost use Rattle.query.specs.Ask.{asked};
 ghost use Rattle.site_form.specs.Text.{mostAsks};
 ghost use Rattle.site_form.specs.Printing.{refusedLine, summaryLine, pairLine, nodeLine, nodeLines, answerLine};
@@ -10,7 +11,9 @@ ghost use Rattle.site_bytes.specs.Calls.{Room, Put};
 ghost use Rattle.site_report.specs.Lines.{answersIn};
 use lists::Code;
 use lists::narrow;
+use model::Refusal;
 use query::Asked;
+use query::is_retired;
 use site_bytes::put_after;
 use site_bytes::put_bytes;
 use site_form::MOST_ASKS;
@@ -70,6 +73,17 @@ pub fn put_nodes(out: &mut [u8], at: usize, map: &[u32]) -> usize
     next
 }
 
+// Stores the line of a refused query: one line for a retired one, nothing for a wrong one.
+fn put_refused_query(out: &mut [u8], at: usize, refusal: Refusal) -> usize
+    requires { ⌜ Room at (answerLine (refused (refusalNumber refusal))) ⌝ }
+    ensures { λ r. ⌜ Put (now (out .entry)) at (answerLine (refused (refusalNumber refusal))) (now (out .exit)) r ⌝ }
+{
+    if is_retired(refusal) {
+        return put_bytes(out, at, b"(ask retired)\n");
+    }
+    at
+}
+
 // Stores the line of an answer.
 fn put_answer(out: &mut [u8], at: usize, answer: Asked) -> usize
     requires { ⌜ Room at (answerLine (asked answer)) ⌝ }
@@ -78,7 +92,7 @@ fn put_answer(out: &mut [u8], at: usize, answer: Asked) -> usize
     match answer {
         Asked::Maybe => put_bytes(out, at, b"(ask maybe)\n"),
         Asked::None => put_bytes(out, at, b"(ask none)\n"),
-        Asked::Refused(r) => at,
+        Asked::Refused(r) => put_refused_query(out, at, r),
     }
 }
 

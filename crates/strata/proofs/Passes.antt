@@ -22,7 +22,7 @@ use Rattle.sorting.specs.Sorting.{Distinct}
 use Rattle.builder.specs.declared.Builder.{Builder}
 use Rattle.builder.specs.Builder.{first}
 use Rattle.rule_premises.specs.Premises.{noRule}
-use Rattle.schema_load.specs.Loading.{schema, part, Added}
+use Rattle.schema_load.specs.Loading.{part, Added}
 use Rattle.rule_walk.specs.Rounds.{Draws, Rounded}
 use Rattle.strata.specs.Strata.{Closed, Swept, FreeEnds, Grounded, Stratified, retyping, typing, renaming}
 use Rattle.strata.proofs.Closing.{front-sorted}
@@ -106,7 +106,7 @@ module _ (v : Vocabulary) where
             room = R .room;
             exact = λ k ts B u.
                 strata v (In ts) (B .free) (In (first l filled)) (In (first m (b .filled))) (In (first n (c .filled))) (In (first o (d .filled)))
-                (λ t z. B .schema-in t (derives-map v (λ w x. mem-part v true ts w (x .0) (sym (chosen-schema v w true (schema v w) refl (kind-schema v w (x .1 .0) (x .1 .1))))) z))
+                (λ t z. B .schema-in t (derives-map v (λ w x. mem-part v true ts w (x .0) (sym (chosen-schema v w true _ refl (kind-schema v w (x .1 .0) (x .1 .1))))) z))
                 (B .all-in) (B .derived)
                 (record { keeps = P .keeps f; draws = draws-of retyping _ _ (P .drawn f); derived = P .derived f })
                 (record { keeps = Q .keeps g; draws = draws-of typing _ _ (Q .drawn g); derived = Q .derived g })

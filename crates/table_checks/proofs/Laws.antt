@@ -18,7 +18,7 @@ use Rattle.model.specs.Roster.{covers, wrongRoster, wrongCodes}
 use Rattle.model.specs.Outcomes.{Outcome, refused, accepted, refusalNumber, Check, check, decided, checked, Passes, zeroed, left, wrongSize, wrongLength}
 use Rattle.model.specs.Calls.{tableChecks, Accepted}
 use Rattle.theory.proofs.Tests.{or-left, or-right, or-false, or-neither, bool-cases}
-use Rattle.theory.proofs.Checks.{passes-first, decided-cases, not-accepted}
+use Rattle.theory.proofs.Checks.{passes-first, first-decides, not-accepted, accepted-passes}
 use Rattle.theory.specs.Tables.{AllBelow, Right}
 use Rattle.theory.proofs.Covered.{all-codes}
 use Rattle.theory.proofs.Accepted.{accepted-right}
@@ -38,7 +38,7 @@ unfolding decided
 passed-more [] more rest h = refl
 passed-more (c ∷ cs) more rest h =
     let x = passes-first c cs h in
-    ap (λ (b : Bool). cond b (refused (c .returns)) (decided (cs ++ more) rest)) (x .0) ∙ passed-more cs more rest (x .1)
+    first-decides c (cs ++ more) rest (x .0) ∙ passed-more cs more rest (x .1)
 
 -- a check that fails decides, whatever comes after
 pub refused-any : {A B : Type 0} (cs more : List Check) (x : B) (r : ℕ) (rest : Outcome A) → checked cs x ≡ refused r → decided (cs ++ more) rest ≡ refused r
@@ -46,19 +46,12 @@ unfolding decided
 refused-any [] more x r rest e = absurd (not-accepted (sym e))
 refused-any {A} {B} (c ∷ cs) more x r rest e =
     ⊎-elim
-    (λ (t : c .fails ≡ true). at t ∙ same (sym (ap (λ (b : Bool). cond b (refused (c .returns)) (checked cs x)) t) ∙ e))
-    (λ (t : c .fails ≡ false). at t ∙ refused-any cs more x r rest (sym (ap (λ (b : Bool). cond b (refused (c .returns)) (checked cs x)) t) ∙ e))
+    (λ (t : c .fails ≡ true). first-decides c (cs ++ more) rest t ∙ same (sym (first-decides c cs (accepted x) t) ∙ e))
+    (λ (t : c .fails ≡ false). first-decides c (cs ++ more) rest t ∙ refused-any cs more x r rest (sym (first-decides c cs (accepted x) t) ∙ e))
     (bool-cases (c .fails))
   where
-    at : {b : Bool} → c .fails ≡ b → decided ((c ∷ cs) ++ more) rest ≡ cond b (refused (c .returns)) (decided (cs ++ more) rest)
-    at t = ap (λ (b : Bool). cond b (refused (c .returns)) (decided (cs ++ more) rest)) t
-
     same : _≡_ {A = Outcome B} (refused (c .returns)) (refused r) → _≡_ {A = Outcome A} (refused (c .returns)) (refused r)
     same q = let n : c .returns ≡ r = cc in ap (λ (k : ℕ). refused k) n
-
--- where checks accept, none fails
-pub accepted-passes : {A : Type 0} (cs : List Check) (x y : A) → checked cs x ≡ accepted y → Passes cs
-accepted-passes cs x y e = ⊎-elim (λ w. absurd (not-accepted (sym (w .1) ∙ e))) (λ h. h) (decided-cases cs (accepted x))
 
 -- check 5 after checks that pass
 module _ (cs : List Check) (slots n : ℕ) (h : Passes cs) where

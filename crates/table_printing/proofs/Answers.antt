@@ -1,10 +1,11 @@
--- The answers to the queries: asked one by one, and searched for a refusal.
+-- The answers to the queries: asked one by one, and searched for a wrong query.
 -- Assumes nothing.
 use Prim.Native.Nat.{ℕ, zero, suc, _+_, _<_, _≤_}
 use mathlib.Core.Path.{_≡_, refl, sym, _∙_, ap}
-use mathlib.Core.Bool.{Bool, true, false}
+use mathlib.Core.Bool.{Bool, true, false, not}
 use mathlib.Core.List.{List, [], _∷_, _++_, map}
 use native.Mathlib.Omega.{arith}
+use lib.Dec.{eqb}
 use lib.ListN.{length, getD, set, length-set, replicate}
 use lib.Seq.{getD-set-same, getD-set-other}
 use Rattle.model.specs.declared.Refusal.{Refusal}
@@ -12,7 +13,7 @@ use Rattle.model.specs.declared.Triple.{Triple}
 use Rattle.model.specs.declared.Vocabulary.{Vocabulary}
 use Rattle.model.specs.Lists.{any, tabulate}
 use Rattle.model.specs.Triples.{flat}
-use Rattle.model.specs.Outcomes.{Outcome}
+use Rattle.model.specs.Outcomes.{Outcome, refusalNumber}
 use Rattle.theory.proofs.Runs.{run-holds, run-fails}
 use Rattle.lists.proofs.Compare.{Cmp, lt, eq, gt, cmp}
 use Rattle.query.specs.declared.Asked.{Asked}
@@ -21,47 +22,47 @@ use Rattle.query.specs.declared.Pattern.{Pattern}
 use Rattle.query.specs.declared.Query.{Query}
 use Rattle.query.specs.Ask.{asked, askOutcome}
 use Rattle.site_form.specs.Reading.{queryOf, queriesOf}
-use Rattle.site_form.specs.Printing.{isRefused, queryAnswers}
+use Rattle.site_form.specs.Printing.{isWrong, queryAnswers}
 use Rattle.site_report.specs.Lines.{answerAt, answersIn}
 use Rattle.table_printing.specs.Outcomes.{noQuery, askedOf}
 
 -- ── one answer ──
 module _ (a : Asked) where
-  pub not-maybe : a ≡ Maybe → false ≡ isRefused (asked a)
+  pub not-maybe : a ≡ Maybe → false ≡ isWrong (asked a)
   unfolding asked
-  not-maybe e = ap (λ (x : Asked). isRefused (asked x)) (sym e)
+  not-maybe e = ap (λ (x : Asked). isWrong (asked x)) (sym e)
 
-  pub not-none : a ≡ None → false ≡ isRefused (asked a)
+  pub not-none : a ≡ None → false ≡ isWrong (asked a)
   unfolding asked
-  not-none e = ap (λ (x : Asked). isRefused (asked x)) (sym e)
+  not-none e = ap (λ (x : Asked). isWrong (asked x)) (sym e)
 
-  pub is-one : (r : Refusal) → a ≡ Refused r → true ≡ isRefused (asked a)
+  pub if-refused : (r : Refusal) (t : Bool) → a ≡ Refused r → t ≡ eqb (refusalNumber r) 12 → not t ≡ isWrong (asked a)
   unfolding asked
-  is-one r e = ap (λ (x : Asked). isRefused (asked x)) (sym e)
+  if-refused r t e h = ap not h ∙ ap (λ (x : Asked). isWrong (asked x)) (sym e)
 
 -- ── some answer ──
 module _ (answers : List Asked) where
-  pub record Accepting (i : ℕ) : Type 0 where
-    pub none : (j : ℕ) → j < i → isRefused (answerAt answers j) ≡ false
+  pub record NoneWrong (i : ℕ) : Type 0 where
+    pub none : (j : ℕ) → j < i → isWrong (answerAt answers j) ≡ false
 
-  pub none-yet : Accepting 0
+  pub none-yet : NoneWrong 0
   none-yet = record { none = λ j h. absurd (omega arith) }
 
-  pub one-more : (i : ℕ) → Accepting i → isRefused (answerAt answers i) ≡ false → Accepting (i + 1)
+  pub one-more : (i : ℕ) → NoneWrong i → isWrong (answerAt answers i) ≡ false → NoneWrong (i + 1)
   one-more i f e = record { none = λ j h. go j h (cmp j i) }
     where
-      go : (j : ℕ) → j < i + 1 → Cmp j i → isRefused (answerAt answers j) ≡ false
+      go : (j : ℕ) → j < i + 1 → Cmp j i → isWrong (answerAt answers j) ≡ false
       go j h (lt x) = f .none j x
-      go j h (eq x) = ap (λ (k : ℕ). isRefused (answerAt answers k)) x ∙ e
+      go j h (eq x) = ap (λ (k : ℕ). isWrong (answerAt answers k)) x ∙ e
       go j h (gt x) = absurd (omega arith)
 
-  pub some-refused : (i n : ℕ) → i < n → isRefused (answerAt answers i) ≡ true → true ≡ any isRefused (answersIn answers n)
+  pub some-wrong : (i n : ℕ) → i < n → isWrong (answerAt answers i) ≡ true → true ≡ any isWrong (answersIn answers n)
   unfolding answersIn
-  some-refused i n h e = sym (run-holds isRefused (answerAt answers) 0 n i (omega arith) (omega arith) e)
+  some-wrong i n h e = sym (run-holds isWrong (answerAt answers) 0 n i (omega arith) (omega arith) e)
 
-  pub none-refused : (i n : ℕ) → n ≤ i → Accepting i → false ≡ any isRefused (answersIn answers n)
+  pub none-wrong : (i n : ℕ) → n ≤ i → NoneWrong i → false ≡ any isWrong (answersIn answers n)
   unfolding answersIn
-  none-refused i n h f = sym (run-fails isRefused (answerAt answers) 0 n (λ k x y. f .none k (omega arith)))
+  none-wrong i n h f = sym (run-fails isWrong (answerAt answers) 0 n (λ k x y. f .none k (omega arith)))
 
 -- ── the queries that were read ──
 shift : {A : Type 0} (f : ℕ → A) (i n : ℕ) → tabulate f (suc i) n ≡ tabulate (λ k. f (suc k)) i n

@@ -7,7 +7,7 @@ use mathlib.Core.Bool.{Bool, true, false, cond, _||_}
 use mathlib.Core.List.{List, [], _∷_, _++_, List·Memᴰ·head as here, List·Memᴰ·tail as there}
 use mathlib.Core.Option.{Option, none, some}
 use native.Mathlib.Omega.{arith}
-use lib.Dec.{ltb}
+use lib.Dec.{eqb, ltb}
 use lib.ListN.{length, getD, length-append}
 use borrow.Author.Tests.{eq-eqb, ne-eqb, ltb-false}
 use Rattle.model.specs.declared.Triple.{Triple}
@@ -31,7 +31,7 @@ use Rattle.query.specs.declared.Query.{Query}
 use Rattle.query.specs.Ask.{askOutcome}
 use Rattle.site_form.specs.Text.{bytes, numeral, tripleLine, mostAsks}
 use Rattle.site_form.specs.Reading.{Forms, loaded, readForms, queriesOf}
-use Rattle.site_form.specs.Printing.{mostBytes, largestPrinted, printerSlots, isRefused, refusedLine, summaryLine, pairLine, nodeLine, nodeLines}
+use Rattle.site_form.specs.Printing.{mostBytes, largestPrinted, printerSlots, isWrong, refusedLine, summaryLine, pairLine, nodeLine, nodeLines}
 use Rattle.site_form.specs.Printing.{answerLine, report, shown, printChecked, printForms, printRead, printOutcome, printed}
 use Rattle.site_form.proofs.Whole.{read-says}
 use Rattle.site_bytes.proofs.Numerals.{three-digits, five-digits}
@@ -86,13 +86,13 @@ nodes-short : (m : List ℕ) → length m ≤ largestPrinted → ((c : ℕ) → 
 unfolding nodeLines
 nodes-short m k h = some-nodes m 0 (length m) (λ c l. node-short m c (omega arith) (h c))
 
-answer-short : (a : Outcome Bool) → length (answerLine a) ≤ 12
+answer-short : (a : Outcome Bool) → length (answerLine a) ≤ 14
 unfolding answerLine
-answer-short (refused r) = omega arith
+answer-short (refused r) = cond-cases (λ (l : List ℕ). length l ≤ 14) (eqb r 12) (λ e. omega arith) (λ e. omega arith)
 answer-short (accepted true) = omega arith
 answer-short (accepted false) = omega arith
 
-answers-short : (answers : List (Outcome Bool)) → length (collect answerLine answers) ≤ 12 * length answers
+answers-short : (answers : List (Outcome Bool)) → length (collect answerLine answers) ≤ 14 * length answers
 unfolding collect
 answers-short [] = omega arith
 answers-short (a ∷ answers) = omega (arith, length-append (answerLine a) (collect answerLine answers), answer-short a, answers-short answers)
@@ -167,7 +167,7 @@ module _ (v : Vocabulary) where
     summary-outcome-fits : (roster : List ℕ) (ts : List Triple) → Right v roster ts → length roster ≤ largestPrinted → length ts ≤ printerSlots → Fits (summaryOutcome v roster ts queries k)
     unfolding summaryOutcome asksOutcome decided shown
     summary-outcome-fits roster ts r s h =
-        cond-cases Fits (any isRefused _) (λ e. refused-fits 6 (omega arith))
+        cond-cases Fits (any isWrong _) (λ e. refused-fits 6 (omega arith))
         (λ e. summary-fits roster ts r s _ h (asked-few _ _))
 
     site-fits : (n : ℕ) (ts : List Triple) → Fits (siteOutcome v n ts queries k)
@@ -194,7 +194,7 @@ forms-are f =
     (cond (wrongWords v (f .size)) (refused 10)
     (cond (wrongCodes v (f .size) (f .triples)) (refused 3)
     (cond (ltb printerSlots (length sat)) (refused 5)
-    (cond (any isRefused answers) (refused 6) (accepted (report (summary v own sat) (mapOf v own sat) answers)))))))
+    (cond (any isWrong answers) (refused 6) (accepted (report (summary v own sat) (mapOf v own sat) answers)))))))
     (asked-are v (summary v own sat) (mapOf v own sat) (f .asks))
 
 read-fits : (text : List ℕ) (o : Option Forms) → readForms text ≡ o → Fits (printRead o)

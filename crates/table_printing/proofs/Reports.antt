@@ -7,7 +7,7 @@ use mathlib.Core.List.{List, _++_}
 use native.Mathlib.Omega.{arith}
 use lib.ListN.{length, length-append}
 use Rattle.model.specs.declared.Refusal.{Refusal}
-use Rattle.model.specs.declared.Refusal.the-variants.{Length, Roster, Code, Cover, Slots, Query, Full, Form, Words}
+use Rattle.model.specs.declared.Refusal.the-variants.{Length, Roster, Code, Cover, Slots, Query, Full, Form, Words, Retired}
 use Rattle.model.specs.declared.Triple.{Triple}
 use Rattle.model.specs.Lists.{any, collect}
 use Rattle.model.specs.Triples.{triples}
@@ -16,7 +16,7 @@ use Rattle.theory.proofs.Lists.{length-tabulate}
 use Rattle.lists.specs.Flat.{at}
 use Rattle.lists.proofs.Places.{triples-table}
 use Rattle.site_form.specs.Text.{bytes, numeral, tripleLine}
-use Rattle.site_form.specs.Printing.{refusedLine, summaryLine, nodeLines, answerLine, report, shown, isRefused}
+use Rattle.site_form.specs.Printing.{refusedLine, summaryLine, nodeLines, answerLine, report, shown, isWrong}
 use Rattle.site_bytes.specs.Calls.{Room, Put}
 use Rattle.site_bytes.proofs.Stores.{put-then, room-first, room-next}
 use Rattle.site_bytes.proofs.Numerals.{five-digits}
@@ -35,6 +35,7 @@ small-number Query = omega arith
 small-number Full = omega arith
 small-number Form = omega arith
 small-number Words = omega arith
+small-number Retired = omega arith
 
 pub refused-short : (n : ℕ) → n < 100000 → length (refusedLine n) ≤ 16
 unfolding refusedLine
@@ -105,18 +106,18 @@ module _ (out table m : List ℕ) (answers : List (Outcome Bool)) (count : ℕ) 
 
 -- ── check 6 ──
 module _ (ts : List Triple) (m : List ℕ) (answers found : List (Outcome Bool)) (same : found ≡ answers) where
-  asks-are : (b : Bool) → any isRefused found ≡ b → asksOutcome ts m answers ≡ cond b (refused 6) (accepted (report ts m answers))
+  asks-are : (b : Bool) → any isWrong found ≡ b → asksOutcome ts m answers ≡ cond b (refused 6) (accepted (report ts m answers))
   unfolding asksOutcome decided
-  asks-are b e = ap (λ (x : Bool). cond x (refused 6) (accepted (report ts m answers))) (ap (any isRefused) (sym same) ∙ e)
+  asks-are b e = ap (λ (x : Bool). cond x (refused 6) (accepted (report ts m answers))) (ap (any isWrong) (sym same) ∙ e)
 
   pub room-found : Room 0 (report ts m answers) → Room 0 (report ts m found)
   room-found h = room-as 0 (ap (report ts m) (sym same)) h
 
   module _ (l out : List ℕ) (x : ℕ) where
-    pub asks-refused : any isRefused found ≡ true → Put l 0 (shown (refused (refusalNumber Query))) out x → Put l 0 (shown (asksOutcome ts m answers)) out x
+    pub asks-refused : any isWrong found ≡ true → Put l 0 (shown (refused (refusalNumber Query))) out x → Put l 0 (shown (asksOutcome ts m answers)) out x
     unfolding refusalNumber
     asks-refused e p = shows l (asksOutcome ts m answers) (refused 6) (asks-are true e) out x p
 
-    pub asks-accepted : any isRefused found ≡ false → Put l 0 (report ts m found) out x → Put l 0 (shown (asksOutcome ts m answers)) out x
+    pub asks-accepted : any isWrong found ≡ false → Put l 0 (report ts m found) out x → Put l 0 (shown (asksOutcome ts m answers)) out x
     unfolding shown
     asks-accepted e p = put-as 0 (ap shown (asks-are false e) ∙ ap (report ts m) (sym same)) l out x p

@@ -19,7 +19,7 @@ use Rattle.model.specs.Outcomes.{Outcome, check, checked, decided, wrongSize}
 use Rattle.query.specs.declared.Query.{Query}
 use Rattle.query.specs.Ask.{askOutcome}
 use Rattle.site_form.specs.Text.{mostLines}
-use Rattle.site_form.specs.Printing.{largestPrinted, printerSlots, isRefused, report}
+use Rattle.site_form.specs.Printing.{largestPrinted, printerSlots, isWrong, report}
 use Rattle.theory.specs.Tables.{Right}
 
 -- for a place past the queries
@@ -28,7 +28,7 @@ noQuery = record { patterns = []; count = 0 }
 
 -- check 6, then the report
 unfoldable pub asksOutcome : List Triple → List ℕ → List (Outcome Bool) → Outcome (List ℕ)
-asksOutcome ts map answers = checked (check 6 (any isRefused answers) ∷ []) (report ts map answers)
+asksOutcome ts map answers = checked (check 6 (any isWrong answers) ∷ []) (report ts map answers)
 
 module _ (v : Vocabulary) where
   -- what ask says of each of the first queries

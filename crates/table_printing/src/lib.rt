@@ -8,7 +8,7 @@ ghost use Rattle.model.specs.Outcomes.{refused, refusalNumber};
 ghost use Rattle.model.specs.Triples.{triples};
 ghost use Rattle.query.specs.Ask.{asked};
 ghost use Rattle.site_form.specs.Text.{mostAsks};
-ghost use Rattle.site_form.specs.Printing.{largestPrinted, printerSlots, shown, isRefused, report};
+ghost use Rattle.site_form.specs.Printing.{largestPrinted, printerSlots, shown, isWrong, report};
 ghost use Rattle.site_bytes.specs.Calls.{Room, Put};
 ghost use Rattle.site_report.specs.Lines.{answersIn};
 ghost use Rattle.table_printing.specs.Outcomes.{askedOf, asksOutcome, summaryOutcome, saturationOutcome, Whole, CheckedTable};
@@ -20,6 +20,7 @@ use model::Vocabulary;
 use model::refusal_number;
 use query::Asked;
 use query::Query;
+use query::is_retired;
 use roster::own_roster;
 use saturate::saturate;
 use site_form::LARGEST_PRINTED;
@@ -44,24 +45,25 @@ pub fn refuse(out: &mut [u8], refusal: Refusal) -> usize
     put_refused(out, 0, refusal_number(refusal))
 }
 
-fn is_refused(answer: Asked) -> bool
-    ensures { λ r. ⌜ r ≡ isRefused (asked answer) ⌝ }
+// Whether a query was refused, and not because it is retired.
+fn is_wrong(answer: Asked) -> bool
+    ensures { λ r. ⌜ r ≡ isWrong (asked answer) ⌝ }
 {
     match answer {
         Asked::Maybe => false,
         Asked::None => false,
-        Asked::Refused(r) => true,
+        Asked::Refused(r) => !is_retired(r),
     }
 }
 
-// Whether one of the first `count` answers is a refusal.
-fn any_refused(answers: [Asked; MOST_ASKS], count: usize) -> bool
+// Whether one of the first `count` queries is wrong.
+fn any_wrong(answers: [Asked; MOST_ASKS], count: usize) -> bool
     requires { ⌜ count ≤ mostAsks ⌝ }
-    ensures { λ r. ⌜ r ≡ any isRefused (answersIn answers count) ⌝ }
+    ensures { λ r. ⌜ r ≡ any isWrong (answersIn answers count) ⌝ }
 {
     let mut i = 0;
     while i < count {
-        if is_refused(answers[i]) {
+        if is_wrong(answers[i]) {
             return true;
         }
         i += 1;
@@ -106,7 +108,7 @@ fn put_report(
     put_answers(out, k, answers, count)
 }
 
-// Asks the queries of a summary and its map: 6 where one is refused, else the report.
+// Asks the queries of a summary and its map: 6 where one is wrong, else the report.
 fn ask_and_print(
     words: Vocabulary,
     out: &mut [u8],
@@ -119,7 +121,7 @@ fn ask_and_print(
     ensures { λ r. ⌜ Put (now (out .entry)) 0 (shown (asksOutcome (triples (now (table .entry))) (now (map .entry)) (askedOf words (now (table .entry)) (now (map .entry)) queries count))) (now (out .exit)) r ⌝ }
 {
     let answers = ask_all(words, table, map, queries, count);
-    if any_refused(answers, count) {
+    if any_wrong(answers, count) {
         return refuse(out, Refusal::Query);
     }
     put_report(out, table, map, answers, count)

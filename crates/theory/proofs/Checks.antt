@@ -21,24 +21,24 @@ pub no-checks : Passes []
 unfolding any
 no-checks = refl
 
+-- what the first check says decides, or the others do
+pub first-decides : {A : Type 0} (c : Check) (cs : List Check) (rest : Outcome A) {b : Bool} → c .fails ≡ b → decided (c ∷ cs) rest ≡ cond b (refused (c .returns)) (decided cs rest)
+unfolding decided
+first-decides c cs rest e = ap (λ (b : Bool). cond b (refused (c .returns)) (decided cs rest)) e
+
 pub decided-passes : {A : Type 0} (cs : List Check) (rest : Outcome A) → Passes cs → decided cs rest ≡ rest
 unfolding decided any
 decided-passes [] rest h = refl
-decided-passes (c ∷ cs) rest h = let x = or-false (c .fails) _ h in ap (λ (b : Bool). cond b (refused (c .returns)) (decided cs rest)) (x .0) ∙ decided-passes cs rest (x .1)
+decided-passes (c ∷ cs) rest h = let x = or-false (c .fails) _ h in first-decides c cs rest (x .0) ∙ decided-passes cs rest (x .1)
 
 -- the first failing check decides, or none fails
 pub decided-cases : {A : Type 0} (cs : List Check) (rest : Outcome A) → ((r : ℕ) × (decided cs rest ≡ refused r)) ⊎ Passes cs
 unfolding decided any
 decided-cases [] rest = inr refl
 decided-cases (c ∷ cs) rest =
-    ⊎-elim (λ e. inl (c .returns, ap (λ (b : Bool). cond b (refused (c .returns)) (decided cs rest)) e))
-    (λ e. ⊎-elim (λ w. inl (w .0, ap (λ (b : Bool). cond b (refused (c .returns)) (decided cs rest)) e ∙ w .1)) (λ h. inr (or-neither (c .fails) _ e h)) (decided-cases cs rest))
+    ⊎-elim (λ e. inl (c .returns, first-decides c cs rest e))
+    (λ e. ⊎-elim (λ w. inl (w .0, first-decides c cs rest e ∙ w .1)) (λ h. inr (or-neither (c .fails) _ e h)) (decided-cases cs rest))
     (bool-cases (c .fails))
-
--- a check that passes makes no difference
-pub decided-skip : {A : Type 0} (c : Check) (cs : List Check) (rest : Outcome A) → c .fails ≡ false → decided (c ∷ cs) rest ≡ decided cs rest
-unfolding decided
-decided-skip c cs rest e = ap (λ (b : Bool). cond b (refused (c .returns)) (decided cs rest)) e
 
 isAccepted : {A : Type 0} → Outcome A → Type 0
 isAccepted (refused r) = ⊥
@@ -48,13 +48,14 @@ pub not-accepted : {A : Type 0} {r : ℕ} {x : A} → _≡_ {A = Outcome A} (ref
 unfolding isAccepted
 not-accepted e = subst isAccepted (sym e) tt
 
+-- where checks accept, none fails
+pub accepted-passes : {A : Type 0} (cs : List Check) (x y : A) → checked cs x ≡ accepted y → Passes cs
+accepted-passes cs x y e = ⊎-elim (λ w. absurd (not-accepted (sym (w .1) ∙ e))) (λ h. h) (decided-cases cs (accepted x))
+
 -- an accepted call has passed its first check
 pub passed : {A : Type 0} (c : Check) (cs : List Check) (x y : A) → checked (c ∷ cs) x ≡ accepted y → (c .fails ≡ false) × (checked cs x ≡ accepted y)
-unfolding decided
-passed c cs x y e = ⊎-elim (λ t. absurd (not-accepted (sym (at t) ∙ e))) (λ t. (t, sym (at t) ∙ e)) (bool-cases (c .fails))
-  where
-    at : {b : Bool} → c .fails ≡ b → checked (c ∷ cs) x ≡ cond b (refused (c .returns)) (checked cs x)
-    at t = ap (λ (b : Bool). cond b (refused (c .returns)) (checked cs x)) t
+passed c cs x y e =
+    ⊎-elim (λ t. absurd (not-accepted (sym (first-decides c cs (accepted x) t) ∙ e))) (λ t. (t, sym (first-decides c cs (accepted x) t) ∙ e)) (bool-cases (c .fails))
 
 pub passed-all : {A : Type 0} (x y : A) → checked [] x ≡ accepted y → x ≡ y
 unfolding decided

@@ -3,7 +3,7 @@
 use Prim.Native.Nat.{ℕ, zero, suc, _≤_, _<_, _+_}
 use mathlib.Core.Path.{_≡_, refl, sym, subst, _∙_, ap}
 use mathlib.Core.Logic.{_⊎_, inl, inr, ⊎-elim}
-use mathlib.Core.Bool.{Bool, true, false, true≢false}
+use mathlib.Core.Bool.{Bool, true, false, _||_, true≢false}
 use mathlib.Core.List.{List, [], _∷_, map, List·Memᴰ as Mem, List·Memᴰ·head as here, List·Memᴰ·tail as there, List·Memᴰ·not-nil as no-mem}
 use mathlib.Core.List.{List·Memᴰ·cases-cons as mem-cases, List·Memᴰ·append-cases as append-cases, Memᴰ·append-left as append-left}
 use mathlib.Core.List.{Memᴰ·append-right as append-right}
@@ -83,11 +83,21 @@ module _ {A B : Type 0} where
   mem-map f [] x m e = absurd (no-mem m)
   mem-map f (z ∷ xs) x m e = ⊎-elim (λ (q : x ≡ z). here (e ∙ ap f q)) (λ k. there (mem-map f xs x k e)) (mem-cases m)
 
+  -- a test over mapped elements
+  pub any-map : (f : B → Bool) (g : A → B) (h : A → Bool) (xs : List A) → ((x : A) → f (g x) ≡ h x) → any f (map g xs) ≡ any h xs
+  unfolding any
+  any-map f g h [] e = refl
+  any-map f g h (x ∷ xs) e = λ i. e x i || any-map f g h xs e i
+
 -- ── the element at a place ──
 pub mem-getD : {A : Type 0} (xs : List A) (d : A) (k : ℕ) → k < length xs → Mem (getD xs k d) xs
 mem-getD [] d k h = absurd (omega arith)
 mem-getD (x ∷ xs) d zero h = here refl
 mem-getD (x ∷ xs) d (suc k) h = there (mem-getD xs d k (omega arith))
+
+pub mem-place : {A : Type 0} (xs : List A) (d : A) {x : A} → Mem x xs → (k : ℕ) × (k < length xs) × (x ≡ getD xs k d)
+mem-place [] d m = absurd (no-mem m)
+mem-place (y ∷ xs) d m = ⊎-elim (λ e. (0, omega arith, e)) (λ n. let w = mem-place xs d n in (suc (w .0), omega (arith, w .1), w .2)) (mem-cases m)
 
 -- ── the values of a function at i, i + 1, .. ──
 module _ {A : Type 0} (f : ℕ → A) where

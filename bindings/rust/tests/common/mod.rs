@@ -1,7 +1,8 @@
 //! What the tests share.
 #![allow(dead_code)]
 
-use weak_summary::{own_roster, saturate, summarise, summarise_strong, Refusal, Words, ABSENT};
+use weak_summary::{own_roster, saturate, summarise, summarise_strong};
+use weak_summary::{End, Pattern, Query, Refusal, Words, ABSENT};
 
 /// The words of the scope paper.
 pub const RDFS: Words = Words::RDFS;
@@ -73,6 +74,11 @@ pub fn reworked(call: Summarise, words: Words, summary: &[u32], roster: &[u8]) -
     assert_eq!(call(words, &saturated, roster, &mut again, &mut map, &mut work), Ok(summary.len() / 3));
     assert!(work.iter().all(|&x| x == 0));
     [saturated, again, map]
+}
+
+/// A query of one pattern.
+pub fn one(subject: End, property: u32, object: End) -> Query {
+    Query::new(&[Pattern::new(subject, property, object)]).unwrap()
 }
 
 /// A map of n entries with these nodes and their representatives.

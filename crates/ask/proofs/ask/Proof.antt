@@ -1,7 +1,7 @@
 use mathlib.Core.Path.{sym, _∙_}
 use native.Mathlib.Omega.{arith}
-use Rattle.query.proofs.Steps.{some-pattern}
-use Rattle.ask.proofs.Answers.{wrong-size, wrong-length, wrong-words, wrong-codes, wrong-query, answer-maybe, answer-none}
+use Rattle.query.proofs.Steps.{some-pattern, few-patterns}
+use Rattle.ask.proofs.Answers.{wrong-size, wrong-length, wrong-words, wrong-codes, wrong-query, retired-query, answer-maybe, answer-none}
 use borrow.Author.Needs.{needs}
 use Rattle.ask.proofs.ask.Statement.{statement}
 use Rattle.ask.proofs.ask.Tie as tie
@@ -72,15 +72,8 @@ returns-5 c =
     (back6 .if2 .left) (back5 .words-wrong .ensures) (back4 .if3 .left) (back3 .codes-wrong .ensures) (c .before .before .if4 .left)
     (c .before .query-wrong .ensures) (c .if5 .taken)
 
-known-rising-requires : tie.Need-known-rising-requires
-known-rising-requires c κs = search needs
-
-try-pattern-requires : tie.Need-try-pattern-requires
-try-pattern-requires c κs =
-    let start = c .before .before .before .before .before .before .before .before .before .before .before .before .before in
-    let x = start .args in
-    let right = sym (c .before .before .query-wrong .ensures) ∙ c .before .if5 .left in
-    (right, some-pattern _ (x .q) right, omega arith, omega arith, c .known-rising .ensures)
+query-retired-requires : tie.Need-query-retired-requires
+query-retired-requires c κs = few-patterns _ _ (sym (c .before .query-wrong .ensures) ∙ c .if5 .left)
 
 returns-6 : tie.Need-returns-6
 returns-6 c =
@@ -93,12 +86,22 @@ returns-6 c =
     let back9 = back8 .before in
     let back10 = back9 .before in
     let back11 = back10 .before in
-    let back12 = back11 .before in
-    let start = back12 .before .before .before in
+    let start = back11 .before .before .before in
     let x = start .args in
-    answer-maybe _ (x .table .now) (x .map .now) (x .q) (back12 .size-wrong .ensures) (back11 .if1 .left) (back10 .length-wrong .ensures)
-    (back9 .if2 .left) (back8 .words-wrong .ensures) (back7 .if3 .left) (back6 .codes-wrong .ensures) (back5 .if4 .left)
-    (back4 .query-wrong .ensures) (back3 .if5 .left) _ (omega arith) (c .before .try-pattern .ensures) (c .if6 .taken)
+    retired-query _ (x .table .now) (x .map .now) (x .q) (back11 .size-wrong .ensures) (back10 .if1 .left) (back9 .length-wrong .ensures)
+    (back8 .if2 .left) (back7 .words-wrong .ensures) (back6 .if3 .left) (back5 .codes-wrong .ensures) (back4 .if4 .left) (back3 .query-wrong .ensures)
+    (c .before .before .if5 .left) (c .before .query-retired .ensures) (c .if6 .taken)
+
+known-rising-requires : tie.Need-known-rising-requires
+known-rising-requires c κs = search needs
+
+try-pattern-requires : tie.Need-try-pattern-requires
+try-pattern-requires c κs =
+    let back4 = c .before .before .before .before in
+    let start = back4 .before .before .before .before .before .before .before .before .before .before .before in
+    let x = start .args in
+    let right = sym (back4 .query-wrong .ensures) ∙ c .before .before .before .if5 .left in
+    (right, some-pattern _ (x .q) right, omega arith, omega arith, c .known-rising .ensures)
 
 returns-7 : tie.Need-returns-7
 returns-7 c =
@@ -112,11 +115,35 @@ returns-7 c =
     let back10 = back9 .before in
     let back11 = back10 .before in
     let back12 = back11 .before in
-    let start = back12 .before .before .before in
+    let back13 = back12 .before in
+    let back14 = back13 .before in
+    let start = back14 .before .before .before in
     let x = start .args in
-    answer-none _ (x .table .now) (x .map .now) (x .q) (back12 .size-wrong .ensures) (back11 .if1 .left) (back10 .length-wrong .ensures)
-    (back9 .if2 .left) (back8 .words-wrong .ensures) (back7 .if3 .left) (back6 .codes-wrong .ensures) (back5 .if4 .left)
-    (back4 .query-wrong .ensures) (back3 .if5 .left) _ (omega arith) (c .before .try-pattern .ensures) (c .if6 .left)
+    answer-maybe _ (x .table .now) (x .map .now) (x .q) (back14 .size-wrong .ensures) (back13 .if1 .left) (back12 .length-wrong .ensures)
+    (back11 .if2 .left) (back10 .words-wrong .ensures) (back9 .if3 .left) (back8 .codes-wrong .ensures) (back7 .if4 .left)
+    (back6 .query-wrong .ensures) (back5 .if5 .left) (back4 .query-retired .ensures) (back3 .if6 .left) _ (omega arith)
+    (c .before .try-pattern .ensures) (c .if7 .taken)
+
+returns-8 : tie.Need-returns-8
+returns-8 c =
+    let back3 = c .before .before .before in
+    let back4 = back3 .before in
+    let back5 = back4 .before in
+    let back6 = back5 .before in
+    let back7 = back6 .before in
+    let back8 = back7 .before in
+    let back9 = back8 .before in
+    let back10 = back9 .before in
+    let back11 = back10 .before in
+    let back12 = back11 .before in
+    let back13 = back12 .before in
+    let back14 = back13 .before in
+    let start = back14 .before .before .before in
+    let x = start .args in
+    answer-none _ (x .table .now) (x .map .now) (x .q) (back14 .size-wrong .ensures) (back13 .if1 .left) (back12 .length-wrong .ensures)
+    (back11 .if2 .left) (back10 .words-wrong .ensures) (back9 .if3 .left) (back8 .codes-wrong .ensures) (back7 .if4 .left)
+    (back6 .query-wrong .ensures) (back5 .if5 .left) (back4 .query-retired .ensures) (back3 .if6 .left) _ (omega arith)
+    (c .before .try-pattern .ensures) (c .if7 .left)
 
 pub ask-spec : {M : Type 1} → statement M
 ask-spec =
@@ -132,7 +159,9 @@ ask-spec =
     returns-4
     query-wrong-requires
     returns-5
+    query-retired-requires
+    returns-6
     known-rising-requires
     try-pattern-requires
-    returns-6
-    returns-7)
+    returns-7
+    returns-8)

@@ -1,4 +1,4 @@
-use Rattle.site_report.proofs.Lines.{put-none, room-as, put-as, line-maybe, line-none, line-refused}
+use Rattle.site_report.proofs.Lines.{room-as, put-as, line-maybe, line-none, line-refused}
 use borrow.Author.Needs.{needs}
 use Rattle.site_report.proofs.put_answer.Statement.{statement}
 use Rattle.site_report.proofs.put_answer.Tie as tie
@@ -24,6 +24,9 @@ put-bytes-requires-2 c κs = room-as _ (line-none _ (c .before .before .enum-tol
 enum-known-answer : tie.Need-enum-known-answer
 enum-known-answer c = search needs
 
+put-refused-query-requires : tie.Need-put-refused-query-requires
+put-refused-query-requires c κs = room-as _ (line-refused _ _ (c .before .before .answer .given .1)) (c .before .before .before .before .before .pre)
+
 same-length : tie.Need-same-length
 same-length c = search needs
 
@@ -40,8 +43,13 @@ returns-2 c =
     let back5 = c .before .before .before .before .before in
     put-as _ (line-none _ (back5 .enum-told2 .given .1)) _ _ _ (c .before .before .put-bytes2 .ensures)
 
+same-length-3 : tie.Need-same-length-3
+same-length-3 c = search needs
+
 returns-3 : tie.Need-returns-3
-returns-3 c = put-none _ _ _ (line-refused _ _ (c .before .answer .given .1))
+returns-3 c =
+    let back5 = c .before .before .before .before .before in
+    put-as _ (line-refused _ _ (back5 .answer .given .1)) _ _ _ (c .before .before .put-refused-query .ensures)
 
 pub put-answer-spec : {M : Type 1} → statement M
 put-answer-spec =
@@ -54,8 +62,10 @@ put-answer-spec =
     slice-aggregate-put-bytes-2
     put-bytes-requires-2
     enum-known-answer
+    put-refused-query-requires
     same-length
     returns
     same-length-2
     returns-2
+    same-length-3
     returns-3)

@@ -7,8 +7,8 @@ use Rattle.table_printing.proofs.ask_and_print.Tie as tie
 ask-all-requires : tie.Need-ask-all-requires
 ask-all-requires c κs = search needs
 
-any-refused-requires : tie.Need-any-refused-requires
-any-refused-requires c κs = search needs
+any-wrong-requires : tie.Need-any-wrong-requires
+any-wrong-requires c κs = search needs
 
 refuse-requires : tie.Need-refuse-requires
 refuse-requires c κs = search needs
@@ -21,7 +21,7 @@ returns c =
     let back4 = c .before .before .before .before in
     let back5 = back4 .before in
     let back6 = back5 .before in
-    asks-refused _ _ _ _ (back6 .ask-all .ensures) _ _ _ (sym (back5 .any-refused .ensures) ∙ back4 .if1 .taken) (c .before .before .refuse .ensures)
+    asks-refused _ _ _ _ (back6 .ask-all .ensures) _ _ _ (sym (back5 .any-wrong .ensures) ∙ back4 .if1 .taken) (c .before .before .refuse .ensures)
 
 put-report-requires : tie.Need-put-report-requires
 put-report-requires c κs =
@@ -37,7 +37,7 @@ returns-2 c =
     let back4 = c .before .before .before .before in
     let back5 = back4 .before in
     let back6 = back5 .before in
-    asks-accepted _ _ _ _ (back6 .ask-all .ensures) _ _ _ (sym (back5 .any-refused .ensures) ∙ back4 .if1 .left)
+    asks-accepted _ _ _ _ (back6 .ask-all .ensures) _ _ _ (sym (back5 .any-wrong .ensures) ∙ back4 .if1 .left)
     (c .before .before .put-report .ensures)
 
 pub ask-and-print-spec : {M : Type 1} → statement M
@@ -45,7 +45,7 @@ ask-and-print-spec =
     tie.close
     (tie.spec
     ask-all-requires
-    any-refused-requires
+    any-wrong-requires
     refuse-requires
     same-length
     returns

@@ -6,10 +6,10 @@ use Rattle.compare.proofs.queries.fill_query.Statement.{statement}
 use Rattle.compare.proofs.queries.fill_query.Tie as tie
 
 abbrev Inv-loop : tie.InvT-loop
-Inv-loop query₀ seed list k₀ query k = (length query ≡ length query₀)
+Inv-loop query₀ seed right list k₀ query k = (length query ≡ length query₀)
 
 abbrev μ-loop : tie.MeasureT-loop
-μ-loop query₀ seed list k₀ query k = 8 - k
+μ-loop query₀ seed right list k₀ query k = 8 - k
 
 count-of-requires : tie.Need-count-of-requires Inv-loop μ-loop
 count-of-requires c κs = search needs
