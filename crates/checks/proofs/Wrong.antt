@@ -1,6 +1,6 @@
 -- The shared checks, branch by branch.
 -- Assumes nothing.
-use Prim.Native.Nat.{ℕ, _+_, _*_, _/_, _%_, _<_, _≤_}
+use Prim.Native.Nat.{ℕ, _*_, _/_, _%_, _<_, _≤_}
 use native.Mathlib.Omega.{arith}
 use mathlib.Core.Path.{_≡_, sym, ap, _∙_}
 use mathlib.Core.Bool.{Bool, true, false, not}
@@ -18,7 +18,6 @@ use Rattle.model.specs.Roster.{wrongEnd, wrongTriple, wrongCodes}
 use Rattle.model.specs.Outcomes.{wrongSize, wrongLength, wrongWork}
 use Rattle.theory.proofs.Tests.{bool-cases}
 use Rattle.lists.specs.Flat.{at}
-use Rattle.theory.proofs.Runs.{run-none, run-more, run-holds}
 use Rattle.lists.proofs.Places.{triples-table}
 
 -- ── lengths ──
@@ -77,32 +76,6 @@ module _ (v : Vocabulary) where
       wrong-object h = rw (e, lt-leb _ _ h)
 
   -- ── a table ──
-  -- no triple before place i has a wrong code
-  pub record RightBefore (table : List ℕ) (n i : ℕ) : Type 0 where
-    pub within : i ≤ length table / 3
-    pub none : any (wrongTriple v n) (tabulate (at table) 0 i) ≡ false
-
-  module _ (table : List ℕ) (n : ℕ) where
-    pub codes-start : RightBefore table n 0
-    codes-start = record { within = omega arith; none = run-none (wrongTriple v n) (at table) 0 }
-
-    pub codes-step : (i : ℕ) (t : Triple) → RightBefore table n i → i < length table / 3 → t ≡ at table i → wrongTriple v n t ≡ false
-        → RightBefore table n (i + 1)
-    codes-step i t h l e w = record {
-      within = omega arith;
-      none = run-more (wrongTriple v n) (at table) i (h .none) (ap (wrongTriple v n) (sym e) ∙ w);
-    }
-
-    pub codes-found : (i : ℕ) (t : Triple) → i < length table / 3 → t ≡ at table i → wrongTriple v n t ≡ true
-        → true ≡ wrongCodes v n (triples table)
-    unfolding wrongCodes
-    codes-found i t l e w =
-        sym
-        (ap (any (wrongTriple v n)) (triples-table table)
-        ∙ run-holds (wrongTriple v n) (at table) 0 (length table / 3) i (omega arith) (omega arith) (ap (wrongTriple v n) (sym e) ∙ w))
-
-    pub codes-end : (i : ℕ) → RightBefore table n i → length table / 3 ≤ i → false ≡ wrongCodes v n (triples table)
-    unfolding wrongCodes
-    codes-end i h l =
-        let e : length table / 3 ≡ i = omega (arith, h .within) in
-        sym (ap (any (wrongTriple v n)) (triples-table table ∙ ap (tabulate (at table) 0) e) ∙ h .none)
+  pub codes-by : (table : List ℕ) (n : ℕ) {b : Bool} → b ≡ any (wrongTriple v n) (tabulate (at table) 0 (length table / 3)) → b ≡ wrongCodes v n (triples table)
+  unfolding wrongCodes
+  codes-by table n e = e ∙ sym (ap (any (wrongTriple v n)) (triples-table table))

@@ -4,6 +4,7 @@ ghost use Prim.Native.Nat.{_≤_};
 ghost use lib.ListN.{length};
 use comparison::calls;
 use comparison_report::report::TALLY;
+use lists::Code;
 use lists::word_of;
 use model::Vocabulary;
 use random_sites::random::at_most;
@@ -59,14 +60,6 @@ fn put_end(query: &mut [u32], k: usize, seed: u64, node: u32) {
     set(query, i + 1, pick(seed, 2, 26));
 }
 
-// Subclass, subproperty, domain or range.
-fn is_constraint(right: Vocabulary, code: u32) -> bool {
-    if code == right.subclass || code == right.subproperty {
-        return true;
-    }
-    code == right.domain || code == right.range
-}
-
 // The place of a triple of the list: of sixteen draws the first that is no constraint.
 fn place_of(seed: u64, right: Vocabulary, list: &[u32]) -> usize
     ensures { λ r. ⌜ r ≤ 16777215 ⌝ }
@@ -75,7 +68,7 @@ fn place_of(seed: u64, right: Vocabulary, list: &[u32]) -> usize
     let mut k = 10;
     while k < 26 {
         let t = sites::place_in(seed, k, count);
-        if !is_constraint(right, get(list, 3 * t + 1)) {
+        if !Code(get(list, 3 * t + 1)).is_schema(right) {
             return t;
         }
         k += 1;

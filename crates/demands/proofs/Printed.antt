@@ -3,22 +3,18 @@
 use Prim.Native.Nat.{ℕ}
 use mathlib.Core.Path.{_≡_, sym, subst, _∙_, ap}
 use mathlib.Core.Logic.{⊎-elim}
-use mathlib.Core.Bool.{Bool, false, cond}
+use mathlib.Core.Bool.{Bool, cond}
 use mathlib.Core.List.{List}
 use native.Mathlib.Omega.{arith}
 use lib.ListN.{length}
 use borrow.Author.Tests.{le-ltb}
 use Rattle.model.specs.declared.Vocabulary.{Vocabulary}
-use Rattle.model.specs.Codes.{wrongWords}
 use Rattle.model.specs.Lists.{any}
-use Rattle.model.specs.Roster.{wrongCodes}
-use Rattle.model.specs.Saturation.{saturation}
 use Rattle.model.specs.Outcomes.{accepted, refused, decided, wrongSize}
 use Rattle.theory.proofs.Tests.{or-false, bool-cases}
 use Rattle.theory.proofs.Lists.{any-map}
-use Rattle.theory.specs.Tables.{Right}
-use Rattle.theory.proofs.Theorems.{own-roster-least}
-use Rattle.theory.proofs.Accepted.{saturation-right, summary-right, right-accepted}
+use Rattle.theory.proofs.OwnTables.{own-size, sat-right}
+use Rattle.theory.proofs.Accepted.{summary-right, right-accepted}
 use Rattle.theory.proofs.Summaries.{condensed-length}
 use Rattle.theory.proofs.Mapped.{length-map-of}
 use Rattle.query.specs.declared.Query.{Query}
@@ -35,19 +31,8 @@ use Rattle.demands.proofs.Routes.{asks-of}
 pub ask-refuses-queries : AskRefusesQueries
 ask-refuses-queries f r =
     let v = loaded (f .words) in
-    let n = f .size in
-    let ts = f .triples in
     let own = ownRosterOf f in
-    let O = own-roster-least v n ts (r .codes) in
-    let R : Right v own ts =
-    record {
-      size = subst (λ (z : ℕ). wrongSize z ≡ false) (sym (O .size)) ((or-false (wrongSize n) _ (r .size)) .0);
-      words = subst (λ (z : ℕ). wrongWords v z ≡ false) (sym (O .size)) (r .words);
-      marks = O .right;
-      codes = subst (λ (z : ℕ). wrongCodes v z ts ≡ false) (sym (O .size)) (r .codes);
-      cover = O .covering;
-    } in
-    let S : Right v own (saturatedOf f) = subst (λ (z : ℕ). Right v own (saturation v z ts)) (O .size) (saturation-right v own ts R) in
+    let S = sat-right v (f .size) (f .triples) ((or-false (wrongSize (f .size)) _ (r .size)) .0) (r .words) (r .codes) in
     let T = summary-right v own (saturatedOf f) S in
     let A = right-accepted v own (summaryOf f) T (omega (arith, r .slots, condensed-length (representativesOf f) (saturatedOf f))) in
     asks-of v _ _ own A (length-map-of v own (saturatedOf f))
@@ -64,7 +49,7 @@ any-wrong : (f : Forms) → ReachesQueries f → any isWrong (answersOf f) ≡ a
 unfolding queryAnswers
 any-wrong f r =
     let v = loaded (f .words) in
-    let long : length (representativesOf f) ≡ f .size = length-map-of v _ _ ∙ own-roster-least v (f .size) (f .triples) (r .codes) .size in
+    let long : length (representativesOf f) ≡ f .size = length-map-of v _ _ ∙ own-size v (f .size) (f .triples) (r .codes) in
     any-map isWrong _ _ (f .asks) (λ ps. wrong-is v _ _ (ask-refuses-queries f r) (queryOf ps) ∙ ap (λ (n : ℕ). wrongQuery n (queryOf ps)) long)
 
 pub six-for-wrong : SixForWrong

@@ -1,6 +1,6 @@
 -- Searching a place among triples that need not be rising, the image of a triple, and wrong triples that are held.
 -- Assumes nothing.
-use Prim.Native.Nat.{ℕ, _+_, _-_, _/_, _<_, _≤_}
+use Prim.Native.Nat.{ℕ, _-_, _/_, _<_, _≤_}
 use mathlib.Core.Path.{_≡_, sym, _∙_, ap, subst}
 use mathlib.Core.Bool.{Bool, true, false, not, true≢false}
 use mathlib.Core.List.{List, List·Memᴰ as Mem}
@@ -12,20 +12,18 @@ use borrow.Author.Tests.{eqb-false}
 use Rattle.model.specs.declared.Triple.{Triple}
 use Rattle.model.specs.declared.Vocabulary.{Vocabulary}
 use Rattle.model.specs.Codes.{absent}
-use Rattle.model.specs.Lists.{any, tabulate}
+use Rattle.model.specs.Lists.{tabulate}
 use Rattle.model.specs.Triples.{triple, same, holds}
 use Rattle.model.specs.Roster.{coversTriple, wrongTriple}
 use Rattle.model.specs.Partition.{label}
 use Rattle.model.specs.Summary.{moved}
 use Rattle.theory.proofs.Tests.{or-left, or-right, or-neither}
 use Rattle.theory.proofs.Lists.{mem-tabulate}
-use Rattle.theory.proofs.Runs.{run-holds, run-fails}
 use Rattle.theory.proofs.Order.{same-eq}
 use Rattle.theory.specs.Tables.{Below}
 use Rattle.theory.proofs.Covered.{codes-right}
 use Rattle.lists.specs.Flat.{at}
 use Rattle.lists.proofs.Places.{same-default}
-use Rattle.lists.proofs.Compare.{Cmp, lt, eq, gt, cmp}
 use Rattle.lists.proofs.Search.{bound-here, bound-past}
 use Rattle.builder.specs.Builder.{first}
 use Rattle.intake_insertion.specs.Places.{StandsAt, Known, bad}
@@ -65,34 +63,18 @@ module _ (summary : List ℕ) (n : ℕ) (map : List ℕ) (t : Triple) (below : B
 
 module _ (v : Vocabulary) where
   -- ── held triples that are wrong ──
-  pub record GoodBefore (l roster : List ℕ) (i : ℕ) : Type 0 where
-    pub good : (k : ℕ) → k < i → bad v roster (at l k) ≡ false
-
-  pub good-start : (l roster : List ℕ) → GoodBefore l roster 0
-  good-start l roster = record { good = λ k h. absurd (omega arith) }
-
   module _ (l roster : List ℕ) (i : ℕ) (t : Triple) (e : t ≡ at l i) where
-    pub good-step : GoodBefore l roster i → wrongTriple v (length roster) t ≡ false → coversTriple v roster t ≡ true → GoodBefore l roster (i + 1)
+    pub not-bad : wrongTriple v (length roster) t ≡ false → coversTriple v roster t ≡ true → bad v roster (at l i) ≡ false
     unfolding bad
-    good-step g a b = record { good = λ k h. go k h (cmp k i) }
-      where
-        go : (k : ℕ) → k < i + 1 → Cmp k i → bad v roster (at l k) ≡ false
-        go k h (lt x) = g .good k x
-        go k h (eq x) =
-            ap (λ (z : ℕ). bad v roster (at l z)) x ∙ ap (bad v roster) (sym e)
-            ∙ or-neither (wrongTriple v (length roster) t) _ a (ap not b)
-        go k h (gt x) = absurd (omega arith)
+    not-bad a b = ap (bad v roster) (sym e) ∙ or-neither (wrongTriple v (length roster) t) _ a (ap not b)
 
-    pub bad-code : (n : ℕ) → i < n → wrongTriple v (length roster) t ≡ true → true ≡ any (bad v roster) (first l n)
+    pub bad-code : wrongTriple v (length roster) t ≡ true → bad v roster (at l i) ≡ true
     unfolding bad
-    bad-code n h a = sym (run-holds (bad v roster) (at l) 0 n i (omega arith) (omega arith) (ap (bad v roster) (sym e) ∙ or-left (wrongTriple v (length roster) t) _ a))
+    bad-code a = ap (bad v roster) (sym e) ∙ or-left (wrongTriple v (length roster) t) _ a
 
-    pub bad-cover : (n : ℕ) → i < n → coversTriple v roster t ≡ false → true ≡ any (bad v roster) (first l n)
+    pub bad-cover : coversTriple v roster t ≡ false → bad v roster (at l i) ≡ true
     unfolding bad
-    bad-cover n h a = sym (run-holds (bad v roster) (at l) 0 n i (omega arith) (omega arith) (ap (bad v roster) (sym e) ∙ or-right (wrongTriple v (length roster) t) _ (ap not a)))
-
-  pub good-end : (l roster : List ℕ) (i n : ℕ) → GoodBefore l roster i → n ≤ i → false ≡ any (bad v roster) (first l n)
-  good-end l roster i n g h = sym (run-fails (bad v roster) (at l) 0 n (λ k x y. g .good k (omega arith)))
+    bad-cover a = ap (bad v roster) (sym e) ∙ or-right (wrongTriple v (length roster) t) _ (ap not a)
 
   pub below-of : (n : ℕ) (t : Triple) → wrongTriple v n t ≡ false → Below n t
   below-of n t h = (codes-right v n t h) .below

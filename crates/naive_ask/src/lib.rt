@@ -6,6 +6,7 @@ use naive_lists::Words;
 use naive_lists::accept;
 use naive_lists::entry;
 use naive_lists::holds;
+use naive_lists::is_word;
 use naive_lists::number_at;
 use naive_lists::refuse;
 use naive_lists::triple_at;
@@ -66,10 +67,7 @@ fn query_wrong(query: &[u32], n: usize) -> bool {
 
 // Subclass, subproperty, domain or range.
 fn is_constraint(words: Words, code: u32) -> bool {
-    if code == words.subclass || code == words.subproperty {
-        return true;
-    }
-    code == words.domain || code == words.range
+    is_word(words, code) && code != words.instance
 }
 
 // Whether a counted pattern asks for constraints.

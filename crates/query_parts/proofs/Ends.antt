@@ -1,8 +1,8 @@
 -- Checks 6 and 12, and an end against a node, branch by branch.
 -- Assumes nothing.
-use Prim.Native.Nat.{ℕ, _+_, _<_, _≤_}
+use Prim.Native.Nat.{ℕ, _<_, _≤_}
 use native.Mathlib.Omega.{arith}
-use mathlib.Core.Path.{_≡_, sym, ap, _∙_}
+use mathlib.Core.Path.{_≡_, _∙_}
 use mathlib.Core.Bool.{Bool, true, false}
 use mathlib.Core.List.{List}
 use lib.Dec.{eqb, leb, ltb}
@@ -12,7 +12,6 @@ use Rattle.model.specs.declared.Vocabulary.{Vocabulary}
 use Rattle.model.specs.Codes.{absent}
 use Rattle.model.specs.Lists.{any, tabulate}
 use Rattle.model.specs.Partition.{label}
-use Rattle.theory.proofs.Runs.{run-none, run-more, run-holds}
 use Rattle.query.specs.declared.End.{End}
 use Rattle.query.specs.declared.End.the-variants.{Var, Code}
 use Rattle.query.specs.declared.Pattern.{Pattern}
@@ -42,29 +41,6 @@ module _ (n : ℕ) (p : Pattern) where
     unfolding wrongPattern
     wrong-object h = rw (e, lt-leb _ _ h)
 
--- ── a test over the counted patterns ──
-module _ (f : Pattern → Bool) (q : Query) where
-  -- none before the k-th passes it
-  pub record NoneBefore (k : ℕ) : Type 0 where
-    pub within : k ≤ q .count
-    pub none : any f (tabulate (patternAt q) 0 k) ≡ false
-
-  pub none-start : NoneBefore 0
-  none-start = record { within = omega arith; none = run-none f (patternAt q) 0 }
-
-  pub none-step : (k : ℕ) → NoneBefore k → k < q .count → f (patternAt q k) ≡ false → NoneBefore (k + 1)
-  none-step k h l e = record { within = omega arith; none = run-more f (patternAt q) k (h .none) e }
-
-  pub one-counted : (k : ℕ) → k < q .count → f (patternAt q k) ≡ true → true ≡ any f (countedPatterns q)
-  unfolding countedPatterns
-  one-counted k l e = sym (run-holds f (patternAt q) 0 (q .count) k (omega arith) (omega arith) e)
-
-  pub none-counted : (k : ℕ) → NoneBefore k → q .count ≤ k → false ≡ any f (countedPatterns q)
-  unfolding countedPatterns
-  none-counted k h l =
-      let e : q .count ≡ k = omega (arith, h .within) in
-      sym (ap (λ (m : ℕ). any f (tabulate (patternAt q) 0 m)) e ∙ h .none)
-
 -- ── check 6 of a query ──
 module _ (n : ℕ) (q : Query) where
   pub query-none : q .count ≡ 0 → true ≡ wrongQuery n q
@@ -77,13 +53,13 @@ module _ (n : ℕ) (q : Query) where
     query-many h = rw (ne-eqb _ _ some, lt-ltb _ _ h)
 
     -- then the patterns decide
-    pub query-few : q .count ≤ 8 → {b : Bool} → b ≡ any (wrongPattern n) (countedPatterns q) → b ≡ wrongQuery n q
-    unfolding wrongQuery
+    pub query-few : q .count ≤ 8 → {b : Bool} → b ≡ any (wrongPattern n) (tabulate (patternAt q) 0 (q .count)) → b ≡ wrongQuery n q
+    unfolding wrongQuery countedPatterns
     query-few few e = rw (ne-eqb _ _ some, le-ltb _ _ few) e
 
 -- ── check 12 of a query ──
-pub retired-by : (w : Vocabulary) (q : Query) {b : Bool} → b ≡ any (asksSchema w) (countedPatterns q) → b ≡ retired w q
-unfolding retired
+pub retired-by : (w : Vocabulary) (q : Query) {b : Bool} → b ≡ any (asksSchema w) (tabulate (patternAt q) 0 (q .count)) → b ≡ retired w q
+unfolding retired countedPatterns
 retired-by w q e = e
 
 -- ── an end ──

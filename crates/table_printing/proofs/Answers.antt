@@ -2,7 +2,7 @@
 -- Assumes nothing.
 use Prim.Native.Nat.{ℕ, zero, suc, _+_, _<_, _≤_}
 use mathlib.Core.Path.{_≡_, refl, sym, _∙_, ap}
-use mathlib.Core.Bool.{Bool, true, false, not}
+use mathlib.Core.Bool.{Bool, false, not}
 use mathlib.Core.List.{List, [], _∷_, _++_, map}
 use native.Mathlib.Omega.{arith}
 use lib.Dec.{eqb}
@@ -14,7 +14,6 @@ use Rattle.model.specs.declared.Vocabulary.{Vocabulary}
 use Rattle.model.specs.Lists.{any, tabulate}
 use Rattle.model.specs.Triples.{flat}
 use Rattle.model.specs.Outcomes.{Outcome, refusalNumber}
-use Rattle.theory.proofs.Runs.{run-holds, run-fails}
 use Rattle.lists.proofs.Compare.{Cmp, lt, eq, gt, cmp}
 use Rattle.query.specs.declared.Asked.{Asked}
 use Rattle.query.specs.declared.Asked.the-variants.{Maybe, None, Refused}
@@ -41,28 +40,9 @@ module _ (a : Asked) where
   if-refused r t e h = ap not h ∙ ap (λ (x : Asked). isWrong (asked x)) (sym e)
 
 -- ── some answer ──
-module _ (answers : List Asked) where
-  pub record NoneWrong (i : ℕ) : Type 0 where
-    pub none : (j : ℕ) → j < i → isWrong (answerAt answers j) ≡ false
-
-  pub none-yet : NoneWrong 0
-  none-yet = record { none = λ j h. absurd (omega arith) }
-
-  pub one-more : (i : ℕ) → NoneWrong i → isWrong (answerAt answers i) ≡ false → NoneWrong (i + 1)
-  one-more i f e = record { none = λ j h. go j h (cmp j i) }
-    where
-      go : (j : ℕ) → j < i + 1 → Cmp j i → isWrong (answerAt answers j) ≡ false
-      go j h (lt x) = f .none j x
-      go j h (eq x) = ap (λ (k : ℕ). isWrong (answerAt answers k)) x ∙ e
-      go j h (gt x) = absurd (omega arith)
-
-  pub some-wrong : (i n : ℕ) → i < n → isWrong (answerAt answers i) ≡ true → true ≡ any isWrong (answersIn answers n)
-  unfolding answersIn
-  some-wrong i n h e = sym (run-holds isWrong (answerAt answers) 0 n i (omega arith) (omega arith) e)
-
-  pub none-wrong : (i n : ℕ) → n ≤ i → NoneWrong i → false ≡ any isWrong (answersIn answers n)
-  unfolding answersIn
-  none-wrong i n h f = sym (run-fails isWrong (answerAt answers) 0 n (λ k x y. f .none k (omega arith)))
+pub wrong-by : (answers : List Asked) (n : ℕ) {b : Bool} → b ≡ any isWrong (tabulate (answerAt answers) 0 n) → b ≡ any isWrong (answersIn answers n)
+unfolding answersIn
+wrong-by answers n e = e
 
 -- ── the queries that were read ──
 shift : {A : Type 0} (f : ℕ → A) (i n : ℕ) → tabulate f (suc i) n ≡ tabulate (λ k. f (suc k)) i n

@@ -23,10 +23,10 @@ use Rattle.model.specs.Outcomes.{Outcome, refused, accepted, decided, wrongSize
 use Rattle.theory.proofs.Tests.{cond-cases, or-false}
 use Rattle.theory.proofs.Lists.{length-tabulate}
 use Rattle.theory.specs.Tables.{AllBelow, Right}
-use Rattle.theory.proofs.Accepted.{room, below, saturation-right, summary-right}
+use Rattle.theory.proofs.Accepted.{room, below, summary-right}
 use Rattle.theory.proofs.Summaries.{condensed-length}
 use Rattle.theory.proofs.Mapped.{node-or, node-below, map-absent, map-node, length-map-of}
-use Rattle.theory.proofs.Theorems.{own-roster-least}
+use Rattle.theory.proofs.OwnTables.{own-size, sat-right}
 use Rattle.query.specs.declared.Query.{Query}
 use Rattle.query.specs.Ask.{askOutcome}
 use Rattle.site_form.specs.Text.{bytes, numeral, tripleLine, mostAsks}
@@ -139,26 +139,6 @@ module _ (v : Vocabulary) where
         (λ t m. let x = b t m in record { subject = omega (arith, x .subject); property = omega (arith, x .property); object = omega (arith, x .object) })
         (omega (arith, length-map-of v roster ts)) entries l
 
-  -- the own roster passes, and so does the saturation with it
-  pub own-right : (n : ℕ) (ts : List Triple) → wrongSize n ≡ false → wrongWords v n ≡ false → wrongCodes v n ts ≡ false → Right v (ownRoster v n ts) ts
-  own-right n ts w k h =
-      let O = own-roster-least v n ts h in
-      record {
-        size = subst (λ (z : ℕ). wrongSize z ≡ false) (sym (O .size)) w;
-        words = subst (λ (z : ℕ). wrongWords v z ≡ false) (sym (O .size)) k;
-        marks = O .right;
-        codes = subst (λ (z : ℕ). wrongCodes v z ts ≡ false) (sym (O .size)) h;
-        cover = O .covering;
-      }
-
-  pub own-size : (n : ℕ) (ts : List Triple) → wrongCodes v n ts ≡ false → length (ownRoster v n ts) ≡ n
-  own-size n ts h = (own-roster-least v n ts h) .size
-
-  pub sat-right : (n : ℕ) (ts : List Triple) → wrongSize n ≡ false → wrongWords v n ≡ false → wrongCodes v n ts ≡ false → Right v (ownRoster v n ts) (saturation v n ts)
-  sat-right n ts w k h =
-      let own = ownRoster v n ts in
-      subst (λ (z : ℕ). Right v own (saturation v z ts)) (own-size n ts h) (saturation-right v own ts (own-right n ts w k h))
-
   module _ (queries : List Query) (k : ℕ) (few : k ≤ mostAsks) where
     pub asked-few : (table m : List ℕ) → length (askedOf v table m queries k) ≤ mostAsks
     unfolding askedOf
@@ -178,8 +158,8 @@ module _ (v : Vocabulary) where
         cond-cases Fits (wrongWords v n) (λ y. refused-fits 10 (omega arith)) (λ y.
         cond-cases Fits (wrongCodes v n ts) (λ f. refused-fits 3 (omega arith)) (λ f.
         cond-cases Fits (ltb printerSlots (length (saturation v n ts))) (λ g. refused-fits 5 (omega arith)) (λ g.
-        summary-outcome-fits (ownRoster v n ts) (saturation v n ts) (sat-right n ts (w .0) y f)
-        (omega (arith, own-size n ts f, ltb-false largestPrinted n (w .1))) (ltb-false printerSlots (length (saturation v n ts)) g)))))
+        summary-outcome-fits (ownRoster v n ts) (saturation v n ts) (sat-right v n ts (w .0) y f)
+        (omega (arith, own-size v n ts f, ltb-false largestPrinted n (w .1))) (ltb-false printerSlots (length (saturation v n ts)) g)))))
 
 -- what is printed of forms, with the answers to the queries as they were read
 pub forms-are : (f : Forms) → printForms f ≡ siteOutcome (loaded (f .words)) (f .size) (f .triples) (queriesOf (f .asks)) (length (f .asks))

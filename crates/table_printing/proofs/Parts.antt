@@ -43,7 +43,8 @@ use Rattle.site_bytes.specs.Calls.{Room, Put}
 use Rattle.table_printing.specs.Outcomes.{askedOf, asksOutcome, summaryOutcome, saturationOutcome, siteOutcome, Whole, CheckedTable}
 use Rattle.site_report.proofs.Lines.{room-as}
 use Rattle.table_printing.proofs.Reports.{shows}
-use Rattle.table_printing.proofs.Fits.{summary-fits, own-right, own-size, sat-right, asked-few}
+use Rattle.theory.proofs.OwnTables.{own-right, own-size, sat-right}
+use Rattle.table_printing.proofs.Fits.{summary-fits, asked-few}
 
 pub part-length : (n : ℕ) (l : List ℕ) → n ≤ length l → length (take (n - 0) l) ≡ n
 part-length n l h = let e : n - 0 ≡ n = omega arith in ap (λ (k : ℕ). length (take k l)) e ∙ length-take-le n l h

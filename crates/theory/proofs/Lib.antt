@@ -22,3 +22,4 @@ pub mod Grouping
 pub mod Constraints
 pub mod Feeding
 pub mod Theorems
+pub mod OwnTables

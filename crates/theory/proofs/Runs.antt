@@ -1,6 +1,7 @@
--- A test over the values of a function at a run of numbers.
+-- A test over the values of a function at a run of numbers, and the loop that makes it.
 -- Assumes nothing.
 use Prim.Native.Nat.{ℕ, zero, suc, _+_, _<_, _≤_}
+use native.Mathlib.Omega.{arith}
 use native.Mathlib.Nat.{zero-add, add-zero, suc-add, add-suc}
 use mathlib.Core.Path.{_≡_, refl, sym, ap, _∙_}
 use mathlib.Core.Bool.{Bool, true, false, _||_, or-assoc, or-false}
@@ -45,3 +46,21 @@ module _ {A : Type 0} (f : A → Bool) (g : ℕ → A) where
 
   pub run-each : (a n : ℕ) → any f (tabulate g a n) ≡ false → (i : ℕ) → a ≤ i → i < a + n → f (g i) ≡ false
   run-each a n e i l m = any-none f (tabulate g a n) e (g i) (mem-tabulate g a n i l m)
+
+  -- ── a loop that looks for a number where the test holds ──
+  -- none of the first i of n is one
+  pub record NoneYet (n i : ℕ) : Type 0 where
+    pub within : i ≤ n
+    pub none : any f (tabulate g 0 i) ≡ false
+
+  pub none-start : (n : ℕ) → NoneYet n 0
+  none-start n = record { within = omega arith; none = run-none 0 }
+
+  pub none-step : (n i : ℕ) → NoneYet n i → i < n → f (g i) ≡ false → NoneYet n (i + 1)
+  none-step n i h l e = record { within = omega arith; none = run-more i (h .none) e }
+
+  pub one-found : (n i : ℕ) → i < n → f (g i) ≡ true → true ≡ any f (tabulate g 0 n)
+  one-found n i l e = sym (run-holds 0 n i (omega arith) (omega arith) e)
+
+  pub none-found : (n i : ℕ) → NoneYet n i → n ≤ i → false ≡ any f (tabulate g 0 n)
+  none-found n i h l = let e : n ≡ i = omega (arith, h .within) in sym (ap (λ (m : ℕ). any f (tabulate g 0 m)) e ∙ h .none)

@@ -2,13 +2,14 @@ use Prim.Native.Nat.{_-_}
 use mathlib.Core.Path.{sym, _∙_}
 use native.Mathlib.Omega.{arith}
 use borrow.Author.Needs.{needs}
-use Rattle.query.specs.Ask.{asksSchema}
-use Rattle.query_parts.proofs.Ends.{NoneBefore, none-start, none-step, one-counted, none-counted, retired-by}
+use Rattle.query.specs.Ask.{patternAt, asksSchema}
+use Rattle.theory.proofs.Runs.{NoneYet, none-start, none-step, one-found, none-found}
+use Rattle.query_parts.proofs.Ends.{retired-by}
 use Rattle.query_parts.proofs.query_retired.Statement.{statement}
 use Rattle.query_parts.proofs.query_retired.Tie as tie
 
 abbrev Inv-loop : tie.InvT-loop
-Inv-loop words q count i₀ i = NoneBefore (asksSchema words) q i
+Inv-loop words q count i₀ i = NoneYet (asksSchema words) (patternAt q) (q .count) i
 
 abbrev μ-loop : tie.MeasureT-loop
 μ-loop words q count i₀ i = count - i
@@ -17,7 +18,7 @@ cast-count : tie.Need-cast-count Inv-loop μ-loop
 cast-count c = omega arith
 
 loop-holds : tie.Need-loop-holds Inv-loop μ-loop
-loop-holds c = none-start _ _
+loop-holds c = none-start _ _ _
 
 mul-p : tie.Need-mul-p Inv-loop μ-loop
 mul-p c = omega arith
@@ -30,8 +31,10 @@ is-schema-requires c κs = search needs
 
 returns : tie.Need-returns Inv-loop μ-loop
 returns c =
+    let back3 = c .before .before .before in
+    let start = back3 .before .before in
     retired-by _ _
-    (one-counted (asksSchema _) _ _ (c .before .before .before .loop-test .taken) (sym (c .before .is-schema .ensures) ∙ c .if1 .taken))
+    (one-found (asksSchema _) (patternAt (start .args .t2)) _ _ (back3 .loop-test .taken) (sym (c .before .is-schema .ensures) ∙ c .if1 .taken))
 
 add-i : tie.Need-add-i Inv-loop μ-loop
 add-i c = omega arith
@@ -41,11 +44,11 @@ loop-less c = omega arith
 
 loop-again : tie.Need-loop-again Inv-loop μ-loop
 loop-again c =
-    none-step _ _ _ (c .before .before .before .before .loop .inv) (c .before .before .before .loop-test .taken)
+    none-step _ _ _ _ (c .before .before .before .before .loop .inv) (c .before .before .before .loop-test .taken)
     (sym (c .before .is-schema .ensures) ∙ c .if1 .left)
 
 returns-2 : tie.Need-returns-2 Inv-loop μ-loop
-returns-2 c = retired-by _ _ (none-counted _ _ _ (c .before .loop .inv) (c .loop-test .left))
+returns-2 c = retired-by _ _ (none-found _ _ _ _ (c .before .loop .inv) (c .loop-test .left))
 
 pub query-retired-spec : {M : Type 1} → statement M
 query-retired-spec =

@@ -24,8 +24,8 @@ add-get c = search needs
 get-requires : tie.Need-get-requires Inv-loop μ-loop
 get-requires c κs = search needs
 
-is-constraint-requires : tie.Need-is-constraint-requires Inv-loop μ-loop
-is-constraint-requires c κs = search needs
+is-schema-requires : tie.Need-is-schema-requires Inv-loop μ-loop
+is-schema-requires c κs = search needs
 
 returns : tie.Need-returns Inv-loop μ-loop
 returns c = search needs
@@ -56,7 +56,7 @@ place-of-spec =
     mul-get
     add-get
     get-requires
-    is-constraint-requires
+    is-schema-requires
     returns
     add-k
     loop-less
