@@ -309,8 +309,8 @@ uint32_t ws_write(const uint32_t *words, size_t words_length, uint32_t n, const 
  *   *n       N as it stands in the text; any number of 32 bits.
  *   *count   the number of triples.
  *   *asks    the number of queries.
- * Reading judges the form only: N, words, codes and variables may be any numbers of 32 bits. A query that ws_ask
- * refuses with 6 or 12 is read.
+ * Reading judges the form only: N, words, codes and variables may be any numbers of 32 bits. A query of this form is read
+ * also where ws_ask refuses it with 6 or 12.
  * Refusals, in order
  *   1  queries not of WS_QUERIES_NUMBERS numbers, or words not of WS_WORDS_NUMBERS: nothing is altered
  *   8  the text is not in the site form: list and queries are zero, words are 0 to 4, *n, *count and *asks are 0

@@ -92,7 +92,7 @@ impl Query {
 }
 
 /// Whether some choice of nodes for the variables puts every pattern in the table; N is the map's length. Of the words only type
-/// may be a property: with another the query is refused with [`Refusal::Retired`](crate::Refusal::Retired).
+/// may be a counted pattern's property: with another the query is refused with [`Refusal::Retired`](crate::Refusal::Retired).
 ///
 /// [`Answer::None`] is safe only on the summary of a saturated table, asked by the map that came with that summary: then the saturated
 /// table has no match. The plain summary of another table, an [`Intake`](crate::Intake)'s too, lacks what the rules give.

@@ -12,6 +12,7 @@ pub struct Site {
     pub words: Words,
     /// The number of triples put in the list.
     pub count: usize,
+    /// The queries as they stand in the text. Reading does not judge them: [`ask`](crate::ask) may refuse one as wrong or retired.
     pub queries: Vec<Query>,
 }
 

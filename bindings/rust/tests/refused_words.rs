@@ -3,8 +3,8 @@
 
 mod common;
 
-use common::{roster_of, RDFS, SIX};
-use weak_summary::{calls, own_roster, End, Pattern, Query, Refusal, Words};
+use common::{one, roster_of, RDFS, SIX};
+use weak_summary::{calls, own_roster, End, Refusal, Words};
 
 /// What the calls are given: the words aside, all right or all wrong.
 struct Given {
@@ -80,7 +80,7 @@ const CALLS: [(&str, Call); 9] = [
 
 /// The six triples, or a wrong roster, a wrong triple at the end and a wrong query.
 fn given(right: bool) -> Given {
-    let variables = Query::new(&[Pattern::new(End::Variable(0), 5, End::Variable(7))]).unwrap();
+    let variables = one(End::Variable(0), 5, End::Variable(7));
     let mut given = Given { table: SIX.to_vec(), roster: roster_of(RDFS, &SIX, 14), query: variables.flat().to_vec() };
     if !right {
         given.table.extend([14, 5, 0]);

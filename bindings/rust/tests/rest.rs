@@ -2,9 +2,9 @@
 
 mod common;
 
-use common::{map_with, reworked, roster_of, saturation_of, summary_by, Summarise};
+use common::{map_with, one, reworked, roster_of, saturation_of, summary_by, Summarise};
 use common::{RDFS, SIX, SIX_SATURATED, SIX_SUMMARY};
-use weak_summary::{ask, summarise, summarise_strong, Answer, End, Pattern, Query};
+use weak_summary::{ask, summarise, summarise_strong, Answer, End};
 
 const BOTH: [Summarise; 2] = [summarise, summarise_strong];
 
@@ -74,7 +74,7 @@ fn plain_summary_is_not_saturated() {
 fn first_map_stays_of_use() {
     let saturation = saturation_of(RDFS, &SIX, 14, 17).unwrap();
     let roster = roster_of(RDFS, &SIX, 14);
-    let query = Query::new(&[Pattern::new(End::Code(11), 6, End::Variable(0))]).unwrap();
+    let query = one(End::Code(11), 6, End::Variable(0));
     for call in BOTH {
         let (summary, first) = summary_by(call, RDFS, &saturation, 14);
         let [_, again, second] = reworked(call, RDFS, &summary, &roster);

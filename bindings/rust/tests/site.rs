@@ -2,7 +2,7 @@
 
 mod common;
 
-use common::{RDFS, SIX};
+use common::{one, RDFS, SIX};
 use weak_summary::{calls, own_roster, read, write, End, Pattern, Query, Refusal, Words};
 
 #[test]
@@ -22,7 +22,7 @@ fn written_is_read_back() {
 fn queries_are_read() {
     let text = b"(site 9)\n(ask ((v 9) 4294967295 (c 7)))\n(ask ((c 0) 0 (v 1)) ((v 1) 5 (v 1)))\n";
     let site = read(text, &mut []).unwrap();
-    let first = Query::new(&[Pattern::new(End::Variable(9), u32::MAX, End::Code(7))]).unwrap();
+    let first = one(End::Variable(9), u32::MAX, End::Code(7));
     let second = Query::new(&[
         Pattern::new(End::Code(0), 0, End::Variable(1)),
         Pattern::new(End::Variable(1), 5, End::Variable(1)),

@@ -2,7 +2,7 @@
 
 mod common;
 
-use common::{map_with, reworked, roster_of, saturation_of, strong_summary_of, summary_of, Summarise};
+use common::{map_with, one, reworked, roster_of, saturation_of, strong_summary_of, summary_of, Summarise};
 use common::{RDFS, SIX, SIX_NODES, SIX_SATURATED, SIX_SUMMARY};
 use weak_summary::{ask, cliques, own_roster, saturate, summarise, summarise_strong};
 use weak_summary::{Answer, End, Intake, Pattern, Query, Refusal, Words, ABSENT};
@@ -134,7 +134,7 @@ fn answers_are_the_same() {
         let [p, q, r] = [5, 6, 7].map(|property: usize| names.codes[property]);
         let first = Query::new(&[Pattern::new(x, p, y), Pattern::new(x, q, z)]).unwrap();
         let second = Query::new(&[Pattern::new(x, r, y), Pattern::new(y, r, z)]).unwrap();
-        let types = Query::new(&[Pattern::new(x, names.words.0[0], End::Code(names.codes[9]))]).unwrap();
+        let types = one(x, names.words.0[0], End::Code(names.codes[9]));
         let (summary, map) = (names.triples(&SIX_SUMMARY), names.list(&SIX_NODES));
         let answers = [first, second, types].map(|query| ask(names.words, &summary, &map, &query));
         assert_eq!(answers, [Ok(Answer::Maybe), Ok(Answer::None), Ok(Answer::Maybe)]);
@@ -197,7 +197,7 @@ fn low_codes_have_cliques_and_answers() {
     let (summary, map) = summary_of(RESORT, &table, 311);
     assert_eq!(summary, [9, 0, 2, 9, 1, 3]);
     for (object, answer) in [(2, Answer::None), (4, Answer::Maybe)] {
-        let query = Query::new(&[Pattern::new(End::Code(10), 1, End::Code(object))]).unwrap();
+        let query = one(End::Code(10), 1, End::Code(object));
         assert_eq!(ask(RESORT, &summary, &map, &query), Ok(answer));
     }
 }

@@ -1,17 +1,17 @@
 -- The queries of a text that the site printer gets as far as.
 -- Assumes nothing.
 use Prim.Native.Nat.{ℕ}
-use mathlib.Core.Path.{_≡_, sym, subst, _∙_, ap}
+use mathlib.Core.Path.{_≡_, refl, sym, subst, _∙_, ap}
 use mathlib.Core.Logic.{⊎-elim}
-use mathlib.Core.Bool.{Bool, cond}
+use mathlib.Core.Bool.{Bool, true, false, cond}
 use mathlib.Core.List.{List}
 use native.Mathlib.Omega.{arith}
 use lib.ListN.{length}
 use borrow.Author.Tests.{le-ltb}
 use Rattle.model.specs.declared.Vocabulary.{Vocabulary}
 use Rattle.model.specs.Lists.{any}
-use Rattle.model.specs.Outcomes.{accepted, refused, decided, wrongSize}
-use Rattle.theory.proofs.Tests.{or-false, bool-cases}
+use Rattle.model.specs.Outcomes.{Outcome, accepted, refused, decided, wrongSize}
+use Rattle.theory.proofs.Tests.{or-neither, bool-cases}
 use Rattle.theory.proofs.Lists.{any-map}
 use Rattle.theory.proofs.OwnTables.{own-size, sat-right}
 use Rattle.theory.proofs.Accepted.{summary-right, right-accepted}
@@ -20,19 +20,19 @@ use Rattle.theory.proofs.Mapped.{length-map-of}
 use Rattle.query.specs.declared.Query.{Query}
 use Rattle.query.specs.Ask.{wrongQuery, retired, askOutcome}
 use Rattle.site_form.specs.Reading.{Forms, loaded, readForms, queryOf}
-use Rattle.site_form.specs.Printing.{mostBytes, report, isWrong, saturatedOf, ownRosterOf, summaryOf, representativesOf, answersOf, printChecked, queryAnswers}
-use Rattle.site_form.specs.Printing.{printForms, printRead, printOutcome, printed, shown}
+use Rattle.site_form.specs.Printing.{mostBytes, report, refusedLine, isWrong, saturatedOf, ownRosterOf, summaryOf, representativesOf, answersOf}
+use Rattle.site_form.specs.Printing.{printChecked, queryAnswers, printForms, printRead, printOutcome, printed, shown}
 use Rattle.site_form.specs.Answers.{AnswerLines}
 use Rattle.site_form.proofs.Answers.{forms-answers}
 use Rattle.demands.specs.Routes.{Asks}
-use Rattle.demands.specs.Printed.{ReachesQueries, anyWrong, AskRefusesQueries, SixForWrong, RetiredRead}
+use Rattle.demands.specs.Printed.{RightForms, ReachesQueries, anyWrong, AskRefusesQueries, SixForWrong, RetiredRead}
 use Rattle.demands.proofs.Routes.{asks-of}
 
 pub ask-refuses-queries : AskRefusesQueries
 ask-refuses-queries f r =
     let v = loaded (f .words) in
     let own = ownRosterOf f in
-    let S = sat-right v (f .size) (f .triples) ((or-false (wrongSize (f .size)) _ (r .size)) .0) (r .words) (r .codes) in
+    let S = sat-right v (f .size) (f .triples) (r .size) (r .words) (r .codes) in
     let T = summary-right v own (saturatedOf f) S in
     let A = right-accepted v own (summaryOf f) T (omega (arith, r .slots, condensed-length (representativesOf f) (saturatedOf f))) in
     asks-of v _ _ own A (length-map-of v own (saturatedOf f))
@@ -45,22 +45,50 @@ wrong-is v table map a q =
     (λ f. ⊎-elim (λ g. ap isWrong (a .retires q f g) ∙ sym f) (λ g. ap isWrong (a .answers q f g .1) ∙ sym f) (bool-cases (retired v q)))
     (bool-cases (wrongQuery (length map) q))
 
-any-wrong : (f : Forms) → ReachesQueries f → any isWrong (answersOf f) ≡ anyWrong f
+any-wrong : (f : Forms) → RightForms f → any isWrong (answersOf f) ≡ anyWrong f
 unfolding queryAnswers
 any-wrong f r =
     let v = loaded (f .words) in
     let long : length (representativesOf f) ≡ f .size = length-map-of v _ _ ∙ own-size v (f .size) (f .triples) (r .codes) in
     any-map isWrong _ _ (f .asks) (λ ps. wrong-is v _ _ (ask-refuses-queries f r) (queryOf ps) ∙ ap (λ (n : ℕ). wrongQuery n (queryOf ps)) long)
 
+module _ (text : List ℕ) (f : Forms) (r : ReachesQueries text f) where
+  abbrev all : List ℕ
+  all = report (summaryOf f) (representativesOf f) (answersOf f)
+
+  abbrev either : Bool → Outcome (List ℕ)
+  either b = cond b (refused 6) (accepted all)
+
+  forms-are : printForms f ≡ either (anyWrong f)
+  unfolding printForms printChecked decided
+  forms-are =
+      let R = r .right in
+      let size = or-neither (wrongSize (f .size)) _ (R .size) (le-ltb _ _ (r .printable)) in
+      rw (size, R .words, R .codes, le-ltb _ _ (R .slots), any-wrong f R)
+
+  outcome-is : printOutcome text ≡ either (anyWrong f)
+  unfolding printOutcome
+  outcome-is =
+      ap (λ (b : Bool). cond b (refused 8) (printRead (readForms text))) (le-ltb mostBytes (length text) (r .short))
+      ∙ ap printRead (r .reads)
+      ∙ forms-are
+
+  either-shown : (b : Bool) → shown (either b) ≡ cond b (refusedLine 6) all
+  unfolding shown
+  either-shown true = refl
+  either-shown false = refl
+
+  pub printed-is : printed text ≡ cond (anyWrong f) (refusedLine 6) all
+  unfolding printed
+  printed-is = ap shown outcome-is ∙ either-shown (anyWrong f)
+
+  pub lines-read : anyWrong f ≡ false → AnswerLines f (printed text)
+  lines-read right =
+      subst (AnswerLines f) (sym (printed-is ∙ ap (λ (b : Bool). cond b (refusedLine 6) all) right))
+      (forms-answers f all (forms-are ∙ ap either right))
+
 pub six-for-wrong : SixForWrong
-unfolding printForms printChecked decided
-six-for-wrong f r = rw (r .size, r .words, r .codes, le-ltb _ _ (r .slots), any-wrong f r)
+six-for-wrong = printed-is
 
 pub retired-read : RetiredRead
-unfolding printed printOutcome shown
-retired-read text f short e r right =
-    let out = report (summaryOf f) (representativesOf f) (answersOf f) in
-    let is : printForms f ≡ accepted out = six-for-wrong f r ∙ ap (λ (b : Bool). cond b (refused 6) (accepted out)) right in
-    let all : printOutcome text ≡ accepted out =
-    ap (λ (b : Bool). cond b (refused 8) (printRead (readForms text))) (le-ltb mostBytes (length text) short) ∙ ap printRead e ∙ is in
-    subst (AnswerLines f) (sym (ap shown all)) (forms-answers f out is)
+retired-read = lines-read

@@ -6,7 +6,6 @@ use naive_lists::Words;
 use naive_lists::accept;
 use naive_lists::entry;
 use naive_lists::holds;
-use naive_lists::is_word;
 use naive_lists::number_at;
 use naive_lists::refuse;
 use naive_lists::triple_at;
@@ -66,16 +65,19 @@ fn query_wrong(query: &[u32], n: usize) -> bool {
 }
 
 // Subclass, subproperty, domain or range.
-fn is_constraint(words: Words, code: u32) -> bool {
-    is_word(words, code) && code != words.instance
+fn is_schema(words: Words, code: u32) -> bool {
+    if code == words.subclass || code == words.subproperty {
+        return true;
+    }
+    code == words.domain || code == words.range
 }
 
-// Whether a counted pattern asks for constraints.
+// Whether a counted pattern asks for schema triples.
 fn query_retired(words: Words, query: &[u32]) -> bool {
     let count = number_at(query, 0) as usize;
     let mut k = 0;
     while k < count {
-        if is_constraint(words, part(query, k, 2)) {
+        if is_schema(words, part(query, k, 2)) {
             return true;
         }
         k += 1;

@@ -116,21 +116,23 @@ wrongAsk = variables 9 5 1 ∷ []
 abbrev said : List (Outcome Bool)
 said = accepted true ∷ refused 12 ∷ accepted true ∷ refused 12 ∷ accepted false ∷ []
 
-read-retired : readForms (lines (givenLines ++ retiredQueries)) ≡ some (forms 14 none given retiredAsks)
+-- the two texts, read
+record Read : Type 0 where
+  goes-on : readForms (lines (givenLines ++ retiredQueries)) ≡ some (forms 14 none given retiredAsks)
+  wrong-first : readForms (lines (givenLines ++ wrongQueries)) ≡ some (forms 14 none given (retiredAsks ++ wrongAsk ∷ []))
+
+read : Read
 unfolding lines collect given triples _>>=_ give _or_ optional many begins word textEnd digit digitFirst moreOf numberOf number lineEnd siteReader wordsReader tripleReader endIn endReader patternReader nextReader askReader formsReader readForms
-read-retired = refl
+read = record { goes-on = refl; wrong-first = refl }
 
-read-wrong : readForms (lines (givenLines ++ wrongQueries)) ≡ some (forms 14 none given (retiredAsks ++ wrongAsk ∷ []))
-unfolding lines collect given triples _>>=_ give _or_ optional many begins word textEnd digit digitFirst moreOf numberOf number lineEnd siteReader wordsReader tripleReader endIn endReader patternReader nextReader askReader formsReader readForms
-read-wrong = refl
+-- and asked
+record Asked : Type 0 where
+  goes-on : queryAnswers rdfs summarised exampleMap retiredAsks ≡ said
+  wrong-first : queryAnswers rdfs summarised exampleMap (retiredAsks ++ wrongAsk ∷ []) ≡ said ++ refused 6 ∷ []
 
-said-is : queryAnswers rdfs summarised exampleMap (retiredAsks ++ wrongAsk ∷ []) ≡ said ++ refused 6 ∷ []
+asked : Asked
 unfolding queryAnswers summarised flat askOutcome askChecks decided wrongSize wrongWords repeated wrongLength wrongCodes wrongTriple wrongEnd any kind reserved triples wrongQuery wrongPattern wrongPatternEnd countedPatterns retired schemaProperty tabulate queryOf search tried fitTriple fitEnd
-said-is = refl
-
-retired-said : queryAnswers rdfs summarised exampleMap retiredAsks ≡ said
-unfolding queryAnswers summarised flat askOutcome askChecks decided wrongSize wrongWords repeated wrongLength wrongCodes wrongTriple wrongEnd any kind reserved triples wrongQuery wrongPattern wrongPatternEnd countedPatterns retired schemaProperty tabulate queryOf search tried fitTriple fitEnd
-retired-said = refl
+asked = record { goes-on = refl; wrong-first = refl }
 
 retired-report : report summarised exampleMap said ≡ lines (printedLines ++ retiredAnswers)
 unfolding report lines collect tabulate summarised triples tripleLine summaryLine pairLine nodeLine nodeLines answerLine numeral digits
@@ -144,7 +146,7 @@ loaded-printed = refl
 pub prints-retired : PrintsRetired
 unfolding any lines collect shown refusedLine numeral digits
 prints-retired = record {
-  goes-on = text-printed (lines (givenLines ++ retiredQueries)) retiredAsks said false refl read-retired retired-said refl ∙ retired-report;
-  wrong-first = text-printed (lines (givenLines ++ wrongQueries)) (retiredAsks ++ wrongAsk ∷ []) (said ++ refused 6 ∷ []) true refl read-wrong said-is refl;
+  goes-on = text-printed (lines (givenLines ++ retiredQueries)) retiredAsks said false refl (read .goes-on) (asked .goes-on) refl ∙ retired-report;
+  wrong-first = text-printed (lines (givenLines ++ wrongQueries)) (retiredAsks ++ wrongAsk ∷ []) (said ++ refused 6 ∷ []) true refl (read .wrong-first) (asked .wrong-first) refl;
   by-loaded-words = loaded-printed;
 }

@@ -29,7 +29,8 @@ pub record AnswerLines (f : Forms) (out : List ℕ) : Type 0 where
   pub answers : List (List ℕ)
   pub one-each : length answers ≡ length (f .asks)
   pub behind : out ≡ report (summaryOf f) (representativesOf f) [] ++ collect (λ line. line) answers
-  pub lines : (k : ℕ) → k < length (f .asks) → QueryLine (loaded (f .words)) (summaryOf f) (representativesOf f) (queryOf (getD (f .asks) k [])) (getD answers k [])
+  pub lines : (k : ℕ) → k < length (f .asks)
+      → QueryLine (loaded (f .words)) (summaryOf f) (representativesOf f) (queryOf (getD (f .asks) k [])) (getD answers k [])
 
 -- 02: "the printer writes `(ask retired)` for it and goes on with the next, in the same sequence"
 -- whatever is printed but a refusal has these lines

@@ -38,11 +38,14 @@ givenLines =
     ∷ "(t 11 6 13)"
     ∷ []
 
+abbrev pub firstQuery : String
+firstQuery = "(ask ((v 0) 5 (v 1)) ((v 0) 6 (v 2)))"
+
+abbrev pub secondQuery : String
+secondQuery = "(ask ((v 0) 7 (v 1)) ((v 1) 7 (v 2)))"
+
 abbrev pub givenQueries : List String
-givenQueries =
-    "(ask ((v 0) 5 (v 1)) ((v 0) 6 (v 2)))"
-    ∷ "(ask ((v 0) 7 (v 1)) ((v 1) 7 (v 2)))"
-    ∷ []
+givenQueries = firstQuery ∷ secondQuery ∷ []
 
 -- 01: "it prints the triple count, the triples, for each node in rising order its code with its representative"
 -- 02: "The printed example now has 14 triples in its summary, the new ones being 5 3 8, 5 3 9, 6 3 8, 6 3 9 and 7 3 9"
@@ -111,11 +114,11 @@ PrintsExample = printed (lines (givenLines ++ givenQueries)) ≡ lines (printedL
 -- The same with queries between the two: about subclass, about type, and with domain as the second pattern's property.
 abbrev pub retiredQueries : List String
 retiredQueries =
-    "(ask ((v 0) 5 (v 1)) ((v 0) 6 (v 2)))"
+    firstQuery
     ∷ "(ask ((v 0) 1 (v 1)))"
     ∷ "(ask ((v 0) 0 (v 1)))"
     ∷ "(ask ((v 0) 5 (v 1)) ((v 1) 3 (v 2)))"
-    ∷ "(ask ((v 0) 7 (v 1)) ((v 1) 7 (v 2)))"
+    ∷ secondQuery
     ∷ []
 
 -- 02: "the printer writes `(ask retired)` for it and goes on with the next, in the same sequence"

@@ -18,7 +18,7 @@ use Rattle.query.specs.declared.Asked.{Asked}
 use Rattle.query.specs.declared.Asked.the-variants.{Maybe, None, Refused}
 use Rattle.query.specs.Ask.{asked}
 use Rattle.site_form.specs.Text.{bytes, numeral}
-use Rattle.site_form.specs.Printing.{refusedLine, summaryLine, pairLine, nodeLine, nodeLines, answerLine}
+use Rattle.site_form.specs.Printing.{refusedLine, summaryLine, pairLine, nodeLine, nodeLines, maybeLine, noneLine, retiredLine, answerLine}
 use Rattle.site_bytes.specs.Calls.{Room, Put}
 use Rattle.site_bytes.proofs.Stores.{sets-append, put-length, put-then-two, room-first-two, room-next-two}
 use Rattle.site_report.specs.Lines.{answerAt, answersIn}
@@ -199,11 +199,11 @@ module _ (from : ℕ) {xs ys : List ℕ} (e : xs ≡ ys) where
 
 -- ── the line of an answer ──
 module _ (a : Asked) where
-  pub line-maybe : a ≡ Maybe → answerLine (asked a) ≡ bytes "(ask maybe)\n"
+  pub line-maybe : a ≡ Maybe → answerLine (asked a) ≡ maybeLine
   unfolding answerLine asked
   line-maybe e = ap (λ (x : Asked). answerLine (asked x)) e
 
-  pub line-none : a ≡ None → answerLine (asked a) ≡ bytes "(ask none)\n"
+  pub line-none : a ≡ None → answerLine (asked a) ≡ noneLine
   unfolding answerLine asked
   line-none e = ap (λ (x : Asked). answerLine (asked x)) e
 
@@ -212,7 +212,7 @@ module _ (a : Asked) where
   line-refused r e = ap (λ (x : Asked). answerLine (asked x)) e
 
 module _ (n : ℕ) {t : Bool} (h : t ≡ eqb n 12) where
-  pub line-retired : t ≡ true → answerLine (refused n) ≡ bytes "(ask retired)\n"
+  pub line-retired : t ≡ true → answerLine (refused n) ≡ retiredLine
   unfolding answerLine
   line-retired e = rw (← h, e)
 

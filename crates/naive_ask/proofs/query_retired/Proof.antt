@@ -21,8 +21,8 @@ loop-holds c = search needs
 part-requires : tie.Need-part-requires Inv-loop μ-loop
 part-requires c κs = search needs
 
-is-constraint-requires : tie.Need-is-constraint-requires Inv-loop μ-loop
-is-constraint-requires c κs = search needs
+is-schema-requires : tie.Need-is-schema-requires Inv-loop μ-loop
+is-schema-requires c κs = search needs
 
 returns : tie.Need-returns Inv-loop μ-loop
 returns c = search needs
@@ -49,7 +49,7 @@ query-retired-spec =
     cast-count
     loop-holds
     part-requires
-    is-constraint-requires
+    is-schema-requires
     returns
     add-k
     loop-less
