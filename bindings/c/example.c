@@ -118,7 +118,7 @@ static void ask_words(uint32_t n, size_t count) {
         if (k == WS_TYPE) {
             check(status == WS_OK && maybe == 1, "a query about types: maybe");
         } else {
-            check(status == WS_REFUSED_RETIRED && maybe == 2, "a query about constraints is refused with 12");
+            check(status == WS_REFUSED_RETIRED && maybe == 2, "a query for schema triples is refused with 12");
         }
     }
 }

@@ -283,7 +283,7 @@ def repeats():
 
 
 def retired():
-    """Queries for constraints, alone, among others and beside wrong ones."""
+    """Queries for schema triples, alone, among others and beside wrong ones."""
     *lines, last = PAPER.splitlines(True)
     three = b"".join([*lines, b"(ask ((v 0) 1 (v 1)))\n", last])
     yield from (three, three + b"(ask ((v 9) 5 (v 1)))\n", three + b"(ask ((v 9) 1 (v 1)))\n", three + b"(ask ((v 0) 1 (c 14)))\n")

@@ -46,7 +46,7 @@ fn lent(random: &mut Random, words: &Words, table: &[u32], n: usize, slots: usiz
     }
 }
 
-/// Asks for the last triple that is no constraint, and for a domain of its subject, which is retired.
+/// Asks for the last triple that is no schema triple, and for a domain of its subject, which is retired.
 fn ask_both(report: &mut Report, mistake: Mistake, words: &Words, table: &[u32], n: usize) {
     let t = table.chunks_exact(3).rfind(|t| asks::is_answered(words, t[1])).unwrap();
     for property in [t[1], words[3]] {

@@ -1,4 +1,4 @@
-//! Queries about constraints are retired: ask refuses them with 12, by the loaded words and the counted patterns.
+//! Queries for schema triples are retired: ask refuses them with 12, by the loaded words and the counted patterns.
 
 mod common;
 
@@ -27,7 +27,7 @@ fn all_words_but_type_are_retired() {
 }
 
 #[test]
-fn tables_without_constraints_refuse_too() {
+fn tables_without_schema_triples_refuse_too() {
     for table in [&[][..], &[10, 5, 11]] {
         assert_eq!(ask(RDFS, table, &[10; 12], &one(X, 3, Y)), Err(Refusal::Retired));
     }

@@ -1,5 +1,5 @@
 // Random queries: on a table, on its saturation and on a summary with its map. Of those that are not wrong one in nine asks for
-// constraints; wrong ones do so too, and patterns past the count.
+// schema triples; wrong ones do so too, and patterns past the count.
 ghost use Prim.Native.Nat.{_≤_};
 ghost use lib.ListN.{length};
 use comparison::calls;
@@ -60,7 +60,7 @@ fn put_end(query: &mut [u32], k: usize, seed: u64, node: u32) {
     set(query, i + 1, pick(seed, 2, 26));
 }
 
-// The place of a triple of the list: of sixteen draws the first that is no constraint.
+// The place of a triple of the list: of sixteen draws the first that is no schema triple.
 fn place_of(seed: u64, right: Vocabulary, list: &[u32]) -> usize
     ensures { λ r. ⌜ r ≤ 16777215 ⌝ }
 {
@@ -76,7 +76,7 @@ fn place_of(seed: u64, right: Vocabulary, list: &[u32]) -> usize
     sites::place_in(seed, 1, count)
 }
 
-// A pattern's property: mostly that of its triple, now and then any, or that of a constraint.
+// A pattern's property: mostly that of its triple, now and then any, or that of a schema triple.
 fn property(seed: u64, right: Vocabulary, own: u32) -> u32 {
     let x = pick(seed, 4, 72);
     if x < 3 {

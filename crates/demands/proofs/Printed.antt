@@ -53,42 +53,42 @@ any-wrong f r =
     any-map isWrong _ _ (f .asks) (λ ps. wrong-is v _ _ (ask-refuses-queries f r) (queryOf ps) ∙ ap (λ (n : ℕ). wrongQuery n (queryOf ps)) long)
 
 module _ (text : List ℕ) (f : Forms) (r : ReachesQueries text f) where
-  abbrev all : List ℕ
-  all = report (summaryOf f) (representativesOf f) (answersOf f)
+  abbrev reported : List ℕ
+  reported = report (summaryOf f) (representativesOf f) (answersOf f)
 
   abbrev either : Bool → Outcome (List ℕ)
-  either b = cond b (refused 6) (accepted all)
+  either b = cond b (refused 6) (accepted reported)
 
-  forms-are : printForms f ≡ either (anyWrong f)
+  forms-outcome : printForms f ≡ either (anyWrong f)
   unfolding printForms printChecked decided
-  forms-are =
+  forms-outcome =
       let R = r .right in
       let size = or-neither (wrongSize (f .size)) _ (R .size) (le-ltb _ _ (r .printable)) in
       rw (size, R .words, R .codes, le-ltb _ _ (R .slots), any-wrong f R)
 
-  outcome-is : printOutcome text ≡ either (anyWrong f)
+  text-outcome : printOutcome text ≡ either (anyWrong f)
   unfolding printOutcome
-  outcome-is =
+  text-outcome =
       ap (λ (b : Bool). cond b (refused 8) (printRead (readForms text))) (le-ltb mostBytes (length text) (r .short))
       ∙ ap printRead (r .reads)
-      ∙ forms-are
+      ∙ forms-outcome
 
-  either-shown : (b : Bool) → shown (either b) ≡ cond b (refusedLine 6) all
+  either-shown : (b : Bool) → shown (either b) ≡ cond b (refusedLine 6) reported
   unfolding shown
   either-shown true = refl
   either-shown false = refl
 
-  pub printed-is : printed text ≡ cond (anyWrong f) (refusedLine 6) all
+  six-or-report : printed text ≡ cond (anyWrong f) (refusedLine 6) reported
   unfolding printed
-  printed-is = ap shown outcome-is ∙ either-shown (anyWrong f)
+  six-or-report = ap shown text-outcome ∙ either-shown (anyWrong f)
 
-  pub lines-read : anyWrong f ≡ false → AnswerLines f (printed text)
-  lines-read right =
-      subst (AnswerLines f) (sym (printed-is ∙ ap (λ (b : Bool). cond b (refusedLine 6) all) right))
-      (forms-answers f all (forms-are ∙ ap either right))
+  lines-printed : anyWrong f ≡ false → AnswerLines f (printed text)
+  lines-printed right =
+      subst (AnswerLines f) (sym (six-or-report ∙ ap (λ (b : Bool). cond b (refusedLine 6) reported) right))
+      (forms-answers f reported (forms-outcome ∙ ap either right))
 
 pub six-for-wrong : SixForWrong
-six-for-wrong = printed-is
+six-for-wrong = six-or-report
 
 pub retired-read : RetiredRead
-retired-read = lines-read
+retired-read = lines-printed

@@ -118,7 +118,7 @@ fn example() {
 }
 
 // A map that is too short, a word table with a code twice, one with a code that is too large, a reserved code as an object, a query
-// without patterns, one for constraints with a variable that is too large, one for constraints.
+// without patterns, one for schema triples with a variable that is too large, one for schema triples.
 fn refusals() {
     let four = [0u32; 4];
     let five = [0u32; 5];
