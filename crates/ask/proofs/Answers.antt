@@ -1,25 +1,38 @@
 -- The outcome of ask, branch by branch.
 -- Assumes nothing.
-use Prim.Native.Nat.{ℕ, _/_, _<_}
-use native.Mathlib.Omega.{arith}
+use Prim.Native.Nat.{ℕ, _%_}
 use mathlib.Core.Path.{_≡_, sym, _∙_}
-use mathlib.Core.Bool.{Bool, true, false}
+use mathlib.Core.Bool.{Bool, true, false, not}
 use mathlib.Core.List.{List}
+use lib.Dec.{eqb, ltb}
 use lib.ListN.{length}
+use borrow.Author.Tests.{ltb-false}
 use Rattle.model.specs.declared.Vocabulary.{Vocabulary}
 use Rattle.model.specs.Codes.{wrongWords}
-use Rattle.model.specs.Lists.{any, tabulate}
 use Rattle.model.specs.Triples.{triples}
 use Rattle.model.specs.Roster.{wrongCodes}
 use Rattle.model.specs.declared.Refusal.the-variants.{Length, Words as WrongWords, Code as WrongCode, Query as WrongQuery, Retired as RetiredQuery}
 use Rattle.model.specs.Outcomes.{decided, refusalNumber, wrongSize, wrongLength}
-use Rattle.lists.specs.Flat.{at}
 use Rattle.query.specs.declared.Query.{Query}
 use Rattle.query.specs.declared.Asked.the-variants.{Maybe, None, Refused}
+use Rattle.theory.proofs.Tests.{neither-right}
+use Rattle.query.proofs.Exact.{node-below}
+use Rattle.query_parts.specs.Parts.{InOrder}
+use Rattle.query_settling.specs.Settling.{Searchable}
 use Rattle.query.specs.Ask.{unbound, search, wrongQuery, retired, askChecks, askOutcome, asked}
-use Rattle.query_parts.specs.Parts.{stepAt}
-use Rattle.query.proofs.Steps.{some-pattern}
-use Rattle.query_search.proofs.Tries.{search-all}
+
+-- what the checks give the search
+pub searchable : (v : Vocabulary) (table map : List ℕ) (q : Query) (rising : Bool)
+    → wrongSize (length map) ≡ false → wrongLength (length table) ≡ false → wrongCodes v (length map) (triples table) ≡ false → wrongQuery (length map) q ≡ false
+    → InOrder table rising → Searchable table map q rising
+unfolding wrongSize wrongLength
+searchable v table map q rising h₁ h₂ h₃ h₄ o = record {
+  right = h₄;
+  order = o;
+  nodes = node-below v (length map) (triples table) h₃;
+  small = ltb-false 65536 (length map) (neither-right (ltb (length map) 5) _ h₁);
+  short = ltb-false 3145728 (length table) (neither-right (not (eqb (length table % 3) 0)) _ h₂);
+}
 
 module _ (v : Vocabulary) where
   -- ── the outcome ──
@@ -53,14 +66,11 @@ module _ (v : Vocabulary) where
               unfolding askOutcome askChecks decided asked refusalNumber
               retired-query h = rw (← e₁, h₁, ← e₂, h₂, ← e₀, h₀, ← e₃, h₃, ← e₄, h₄, ← e₅, h)
 
-              module _ (h₅ : x₅ ≡ false) (n : ℕ) (m : n ≡ length table / 3) {x : Bool} (e : x ≡ any (stepAt table map q 0 unbound) (tabulate (at table) 0 n)) where
-                searched : x ≡ search (triples table) map (q .patterns) (q .count) 0 unbound
-                searched = let l : 0 < q .count = some-pattern (length map) q (sym e₄ ∙ h₄) in e ∙ search-all table map q (q .count) 0 unbound n (omega arith) m
-
+              module _ (h₅ : x₅ ≡ false) {x : Bool} (e : x ≡ search (triples table) map (q .patterns) (q .count) 0 unbound) where
                 pub answer-maybe : x ≡ true → asked Maybe ≡ askOutcome v table map q
                 unfolding askOutcome askChecks decided asked
-                answer-maybe h = rw (← e₁, h₁, ← e₂, h₂, ← e₀, h₀, ← e₃, h₃, ← e₄, h₄, ← e₅, h₅, ← searched, h)
+                answer-maybe h = rw (← e₁, h₁, ← e₂, h₂, ← e₀, h₀, ← e₃, h₃, ← e₄, h₄, ← e₅, h₅, ← e, h)
 
                 pub answer-none : x ≡ false → asked None ≡ askOutcome v table map q
                 unfolding askOutcome askChecks decided asked
-                answer-none h = rw (← e₁, h₁, ← e₂, h₂, ← e₀, h₀, ← e₃, h₃, ← e₄, h₄, ← e₅, h₅, ← searched, h)
+                answer-none h = rw (← e₁, h₁, ← e₂, h₂, ← e₀, h₀, ← e₃, h₃, ← e₄, h₄, ← e₅, h₅, ← e, h)

@@ -3,7 +3,6 @@
 ghost use mathlib.Core.Path.{_≡_};
 ghost use Rattle.query.specs.Ask.{asked, askOutcome};
 ghost use Rattle.query_parts.specs.Parts.{InOrder};
-use lists::Code;
 use lists::rises;
 use model::Refusal;
 use model::Vocabulary;
@@ -11,7 +10,7 @@ use query::Asked;
 use query::Query;
 use query_parts::query_retired;
 use query_parts::query_wrong;
-use query_search::try_pattern;
+use query_settling::some_choice;
 
 // Whether the table is known to be in rising order. One pattern looks at each triple once, so then it is not asked.
 fn known_rising(table: &[u32], count: u32) -> bool
@@ -46,16 +45,7 @@ pub fn ask(words: Vocabulary, table: &[u32], map: &[u32], q: Query) -> Asked
         return Asked::Refused(Refusal::Retired);
     }
     let rising = known_rising(table, q.count);
-    if try_pattern(
-        table,
-        map,
-        q,
-        [Code::ABSENT; 8],
-        0,
-        0,
-        table.len() / 3,
-        rising,
-    ) {
+    if some_choice(table, map, q, rising) {
         return Asked::Maybe;
     }
     Asked::None

@@ -77,7 +77,7 @@ searching-end f a b t low high s h =
 -- ── what the bound says of membership ──
 module _ (f : ℕ → Triple) (a b : ℕ) (t : Triple) (i : ℕ) (r : RisingPart f a b) (w : Bound f a b t i) where
   -- a place that holds t is the bound
-  at-bound : (j : ℕ) → a ≤ j → j < b → t ≡ f j → j ≡ i
+  pub at-bound : (j : ℕ) → a ≤ j → j < b → t ≡ f j → j ≡ i
   at-bound j x y e = go (cmp j i)
     where
       go : Cmp j i → j ≡ i

@@ -16,7 +16,7 @@ use Rattle.model.specs.Codes.{wrongWords, absent}
 use Rattle.model.specs.Triples.{triples}
 use Rattle.model.specs.Roster.{wrongCodes, wrongTriple, wrongEnd}
 use Rattle.model.specs.Partition.{label}
-use Rattle.model.specs.Cliques.{source}
+use Rattle.model.specs.Cliques.{Side, source, target, end}
 use Rattle.model.specs.Outcomes.{Outcome, accepted, decided, wrongSize, wrongLength}
 use Rattle.query.specs.declared.Pattern.{Pattern}
 use Rattle.query.specs.declared.Query.{Query}
@@ -24,16 +24,17 @@ use Rattle.query.specs.declared.Fit.{Fit}
 use Rattle.theory.proofs.Checks.{passes-first}
 use Rattle.query.specs.Ask.{patternAt, unbound, fitTriple, tried, search, stepOf, wrongQuery, retired, askChecks, askOutcome}
 use Rattle.query.specs.Match.{NodeOf, patternTriple, Choice, AskAccepted, Exact, AskExact}
+use Rattle.query.specs.Choices.{Agrees, Puts, Putting, Present}
 use Rattle.theory.proofs.Tests.{and-left, and-right, neither-left, neither-right, not-true-false}
 use Rattle.theory.proofs.Lists.{any-holds, any-found, any-none}
-use Rattle.query.proofs.Steps.{GoodQuery, good-query, Extends, Bound, Fitting, triple-complete, Tried, triple-sound}
+use Rattle.query.proofs.Steps.{GoodQuery, good-query, Bound, Fitting, triple-complete, Tried, triple-sound}
 
 -- ── the search ──
 module _ (ts : List Triple) (map : List ℕ) (q : Query) (g : GoodQuery (length map) q) where
   At : (ℕ → ℕ) → ℕ → Type 0
   At σ k = Mem (patternTriple (label map) σ (patternAt q k)) ts
 
-  search-complete : (σ : ℕ → ℕ) (left k : ℕ) (b : List ℕ) → k + left ≡ q .count → ((j : ℕ) → j < q .count → At σ j) → length b ≡ 8 → Extends σ b
+  search-complete : (σ : ℕ → ℕ) (left k : ℕ) (b : List ℕ) → k + left ≡ q .count → ((j : ℕ) → j < q .count → At σ j) → length b ≡ 8 → Agrees σ b
       → search ts map (q .patterns) left k b ≡ true
   unfolding search tried At
   search-complete σ zero k b n m l h = refl
@@ -46,12 +47,12 @@ module _ (ts : List Triple) (map : List ℕ) (q : Query) (g : GoodQuery (length 
   -- a choice for the patterns from the k-th on that agrees with the bindings
   record Found (k : ℕ) (b : List ℕ) : Type 0 where
     pub chosen : ℕ → ℕ
-    pub extends : Extends chosen b
+    pub extends : Agrees chosen b
     pub nodes : (v : ℕ) → v < 8 → NodeOf ts (chosen v)
     pub there : (j : ℕ) → k ≤ j → j < q .count → At chosen j
 
   -- no end of a triple is the absent mark, and z is a node
-  module _ (present : (t : Triple) → Mem t ts → (t .subject ≡ absent → ⊥) × (t .object ≡ absent → ⊥)) (z : ℕ) (nz : NodeOf ts z) where
+  module _ (present : Present ts) (z : ℕ) (nz : NodeOf ts z) where
     -- a variable that is left without a node takes z
     search-sound : (left k : ℕ) (b : List ℕ) → k + left ≡ q .count → search ts map (q .patterns) left k b ≡ true → length b ≡ 8 → Bound ts b → Found k b
     unfolding search tried At
@@ -89,6 +90,44 @@ unfolding search
 some-triple ts map ps zero k b l y = let o : ⊥ = omega arith in absurd o
 some-triple ts map ps (suc left) k b l y = let w = any-found (stepOf ts map ps left k b) ts y in (w .0, w .1)
 
+-- ── the whole search ──
+module _ (ts : List Triple) (map : List ℕ) (q : Query) (right : wrongQuery (length map) q ≡ false) where
+  answer : Bool
+  answer = search ts map (q .patterns) (q .count) 0 unbound
+
+  good : GoodQuery (length map) q
+  good = good-query (length map) q right
+
+  at-start : (σ : ℕ → ℕ) → Agrees σ unbound
+  at-start σ w l m = absurd (m (getD-replicate 8 w absent 0 l))
+
+  finds : Putting ts map q 0 unbound → answer ≡ true
+  unfolding answer At
+  finds c =
+      search-complete ts map q good (c .0) (q .count) 0 unbound (omega arith) (λ j l. c .1 .puts j (omega arith) l)
+      (length-replicate 8 absent) (at-start (c .0))
+
+  found : Present ts → answer ≡ true → Choice ts map q
+  unfolding answer At
+  found present y =
+      let w = some-triple ts map (q .patterns) (q .count) 0 unbound (good .some) y in
+      let r = search-sound ts map q good present (w .0 .subject) (record { by = w .0; held = w .1; side = source; is-end = refl }) (q .count) 0 unbound
+      (omega arith) y (length-replicate 8 absent) (λ w l m. absurd (m (getD-replicate 8 w absent 0 l))) in
+      record { chosen = r .chosen; nodes = r .nodes; puts = λ j l. r .there j (omega arith) l }
+
+  -- an answer that is true exactly if there is a choice is the search's
+  pub search-exact : Present ts → {r : Bool} → (r ≡ true → Putting ts map q 0 unbound)
+      → ((σ : ℕ → ℕ) → Puts ts map q 0 unbound σ → ((v : ℕ) → v < 8 → NodeOf ts (σ v)) → r ≡ true)
+      → r ≡ search ts map (q .patterns) (q .count) 0 unbound
+  unfolding answer
+  search-exact present {r} sound complete = go r refl
+    where
+      go : (t : Bool) → r ≡ t → r ≡ answer
+      go true e = e ∙ sym (finds (sound e))
+      go false e = e ∙ sym (not-true-false answer (λ y.
+          let c = found present y in
+          true≢false (sym (complete (c .chosen) (record { agrees = at-start (c .chosen); puts = λ j l m. c .puts j m }) (c .nodes)) ∙ e)))
+
 -- ── the checks ──
 -- no check of ask fails
 record Passed (v : Vocabulary) (table map : List ℕ) (q : Query) : Type 0 where
@@ -111,6 +150,26 @@ below : (v : Vocabulary) (n c : ℕ) → wrongEnd v n c ≡ false → c < n
 unfolding wrongEnd
 below v n c e = leb-false n c (neither-left (leb n c) _ e)
 
+-- what check 3 gives: every node is below N, and none is the absent mark
+module _ (v : Vocabulary) (n : ℕ) (ts : List Triple) (right : wrongCodes v n ts ≡ false) where
+  ends-below : (t : Triple) → Mem t ts → (t .subject < n) × (t .object < n)
+  unfolding wrongCodes wrongTriple
+  ends-below t m =
+      let e : wrongTriple v n t ≡ false = any-none (wrongTriple v n) ts right t m in (
+        below v n (t .subject) (neither-left (wrongEnd v n (t .subject)) _ e),
+        below v n (t .object) (neither-right (leb n (t .property)) _ (neither-right (wrongEnd v n (t .subject)) _ e)),
+      )
+
+  pub node-below : (x : ℕ) → NodeOf ts x → x < n
+  node-below x h = go (h .side) (h .is-end)
+    where
+      go : (s : Side) → end s (h .by) ≡ x → x < n
+      go source e = subst (λ (y : ℕ). y < n) e (ends-below (h .by) (h .held) .0)
+      go target e = subst (λ (y : ℕ). y < n) e (ends-below (h .by) (h .held) .1)
+
+  pub ends-present : n ≤ 65536 → Present ts
+  ends-present small t m = let w = ends-below t m in (λ z. omega (arith, w .0), λ z. omega (arith, w .1))
+
 module _ (v : Vocabulary) (table map : List ℕ) (q : Query) (a : Passed v table map q) where
   ts : List Triple
   ts = triples table
@@ -119,51 +178,29 @@ module _ (v : Vocabulary) (table map : List ℕ) (q : Query) (a : Passed v table
   unfolding wrongSize
   small = ltb-false 65536 (length map) (neither-right (ltb (length map) 5) _ (neither-left (wrongSize (length map)) _ (a .lengths)))
 
-  present : (t : Triple) → Mem t ts → (t .subject ≡ absent → ⊥) × (t .object ≡ absent → ⊥)
-  unfolding ts wrongCodes wrongTriple
-  present t m =
-      let e : wrongTriple v (length map) t ≡ false = any-none (wrongTriple v (length map)) ts (a .codes) t m in
-      let s : t .subject < length map = below v _ _ (neither-left (wrongEnd v (length map) (t .subject)) _ e) in
-      let o : t .object < length map = below v _ _ (neither-right (leb (length map) (t .property)) _ (neither-right (wrongEnd v (length map) (t .subject)) _ e)) in
-      (λ z. omega (arith, small), λ z. omega (arith, small))
-
-  answer : Bool
-  answer = search ts map (q .patterns) (q .count) 0 unbound
-
-  answered : askOutcome v table map q ≡ accepted answer
+  outcome : askOutcome v table map q ≡ accepted (answer ts map q (a .query))
   unfolding askOutcome askChecks decided answer ts
-  answered = simp (a .lengths, a .words, a .codes, a .query, a .answered)
+  outcome = simp (a .lengths, a .words, a .codes, a .query, a .answered)
 
-  at-start : (w : ℕ) → w < 8 → getD unbound w 0 ≡ absent
-  at-start w l = getD-replicate 8 w absent 0 l
+  maybe-choice : answer ts map q (a .query) ≡ true → Choice ts map q
+  unfolding ts
+  maybe-choice y = found ts map q (a .query) (ends-present v (length map) ts (a .codes) small) y
 
-  finds : Choice ts map q → answer ≡ true
-  unfolding answer At
-  finds c =
-      search-complete ts map q (good-query _ _ (a .query)) (c .chosen) (q .count) 0 unbound (omega arith)
-      (c .puts) (length-replicate 8 absent) (λ w l m. absurd (m (at-start w l)))
-
-  found : answer ≡ true → Choice ts map q
-  unfolding answer At
-  found y =
-      let g = good-query _ _ (a .query) in
-      let w = some-triple ts map (q .patterns) (q .count) 0 unbound (g .some) y in
-      let r = search-sound ts map q g present (w .0 .subject) (record { by = w .0; held = w .1; side = source; is-end = refl }) (q .count) 0 unbound
-      (omega arith) y (length-replicate 8 absent) (λ w l m. absurd (m (at-start w l))) in
-      record { chosen = r .chosen; nodes = r .nodes; puts = λ j l. r .there j (omega arith) l }
+  choice-maybe : Choice ts map q → answer ts map q (a .query) ≡ true
+  choice-maybe c = finds ts map q (a .query) (c .chosen, record { agrees = at-start ts map q (a .query) (c .chosen); puts = λ j l m. c .puts j m })
 
   exact : Exact v table map q
   unfolding ts
   exact = record {
-    maybe = (λ e. found (told true e), λ c. answered ∙ ap (λ (t : Bool). accepted t) (finds c));
+    maybe = (λ e. maybe-choice (told true e), λ c. outcome ∙ ap (λ (t : Bool). accepted t) (choice-maybe c));
     none = (
-      λ e c. true≢false (sym (finds c) ∙ told false e),
-      λ h. answered ∙ ap (λ (t : Bool). accepted t) (not-true-false answer (λ y. h (found y))),
+      λ e c. true≢false (sym (choice-maybe c) ∙ told false e),
+      λ h. outcome ∙ ap (λ (t : Bool). accepted t) (not-true-false (answer ts map q (a .query)) (λ y. h (maybe-choice y))),
     );
   }
     where
-      told : (t : Bool) → askOutcome v table map q ≡ accepted t → answer ≡ t
-      told t e = let e′ : _≡_ {A = Outcome Bool} (accepted answer) (accepted t) = sym answered ∙ e in cc
+      told : (t : Bool) → askOutcome v table map q ≡ accepted t → answer ts map q (a .query) ≡ t
+      told t e = let e′ : _≡_ {A = Outcome Bool} (accepted (answer ts map q (a .query))) (accepted t) = sym outcome ∙ e in cc
 
 pub ask-exact : AskExact
 ask-exact v table map q a = exact v table map q (passed v table map q a)

@@ -34,8 +34,8 @@ pub enum Asked {
 
 // Whether a pattern's end fits a node, and the variables' nodes afterwards.
 pub struct Fit {
-    pub fits: bool,
     pub bindings: [u32; 8],
+    pub fits: bool,
 }
 
 // The pattern `((v 0) 0 (v 0))`, which stands in the places past a query's count.

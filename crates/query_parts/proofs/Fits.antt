@@ -3,27 +3,29 @@
 use Prim.Native.Nat.{ℕ, _+_, _*_, _<_, _≤_}
 use native.Mathlib.Omega.{arith}
 use mathlib.Core.Path.{_≡_, refl, sym, ap, _∙_, subst}
-use mathlib.Core.Bool.{Bool, true, false, true≢false}
+use mathlib.Core.Bool.{Bool, true, false, cond, true≢false}
 use mathlib.Core.Logic.{_⊎_, inl, inr, ⊎-elim}
 use mathlib.Core.List.{List}
 use lib.Dec.{eqb}
-use lib.ListN.{getD}
+use lib.ListN.{getD, set}
 use borrow.Author.Tests.{eqb-true, eq-eqb, ne-eqb}
 use Rattle.model.specs.declared.Triple.{Triple}
 use Rattle.model.specs.Codes.{absent}
 use Rattle.model.specs.Partition.{label}
-use Rattle.model.specs.Triples.{triple}
-use Rattle.theory.proofs.Tests.{and-true, and-both, bool-cases}
+use Rattle.model.specs.Triples.{triple, same}
+use Rattle.theory.proofs.Tests.{and-left, and-right, and-true, and-both, bool-cases, not-true-false}
+use Rattle.theory.proofs.Order.{triple-eq, same-eq, same-refl}
 use Rattle.lists.specs.Flat.{at, RisingPart, Bound}
 use Rattle.lists.proofs.Compare.{Cmp, lt, eq, gt, cmp}
+use Rattle.lists.proofs.Search.{at-bound}
 use Rattle.lists.proofs.Fronts.{front-not-before, front-later}
 use Rattle.query.specs.declared.End.{End}
 use Rattle.query.specs.declared.End.the-variants.{Var, Code}
 use Rattle.query.specs.declared.Pattern.{Pattern}
 use Rattle.query_parts.specs.declared.Wanted.{Wanted}
 use Rattle.query_parts.specs.declared.Wanted.the-variants.{Any, Node}
-use Rattle.query.specs.Ask.{fitEnd, fitTriple}
-use Rattle.query_parts.specs.Parts.{FirstWith, FirstOf, FirstFit, front, wantedOf}
+use Rattle.query.specs.Ask.{fit, fitEnd, fitTriple}
+use Rattle.query_parts.specs.Parts.{FirstWith, FirstOf, FirstSame, FirstFit, front, wantedOf}
 
 -- ── the node that an end must have ──
 module _ (map : List ℕ) (e : End) (b : List ℕ) where
@@ -53,6 +55,14 @@ fits-met map (Code c) b y = refl
 wanted-only : (map : List ℕ) (e : End) (b : List ℕ) (x y : ℕ) → Node x ≡ wantedOf map e b → (y ≡ x → ⊥) → fitEnd map e y b .fits ≡ false
 unfolding met
 wanted-only map e b x y h n = fits-met map e b y ∙ ap (λ (w : Wanted). met w y) (sym h) ∙ ne-eqb x y (λ q. n (sym q))
+
+wanted-node : (map : List ℕ) (e : End) (b : List ℕ) (x y : ℕ) → Node x ≡ wantedOf map e b → fitEnd map e y b .fits ≡ true → y ≡ x
+unfolding met
+wanted-node map e b x y h z = sym (eqb-true x y (sym (fits-met map e b y ∙ ap (λ (w : Wanted). met w y) (sym h)) ∙ z))
+
+not-any : (x : ℕ) → Node x ≡ Any → ⊥
+unfolding met
+not-any x h = true≢false (sym (sym (ne-eqb x (x + 1) (λ e. omega arith)) ∙ ap (λ (w : Wanted). met w (x + 1)) h))
 
 -- ── the front ──
 pub front-there : (l : List ℕ) (i s p : ℕ) → getD l (3 * i) 0 ≡ s → eqb (getD l (3 * i + 1) 0) p ≡ front s p (at l i)
@@ -109,6 +119,26 @@ module _ (f : ℕ → Triple) (s p a b i : ℕ) (w : Bound f a b (triple s p 0) 
       go j x y (eq z) = subst (λ (k : ℕ). f k .subject ≡ s → f k .property ≡ p → ⊥) z off
       go j x y (gt z) = absurd (omega arith)
 
+-- ── the whole triple ──
+module _ (f : ℕ → Triple) (t : Triple) (a b i : ℕ) (R : RisingPart f a b) (w : Bound f a b t i) where
+  pub same-here : same t (f i) ≡ true → FirstSame f t a b i
+  same-here h = record {
+    low = w .low;
+    high = w .high;
+    others = λ j x y e. let z : j ≡ i = at-bound f a b t i R w j x (omega (arith, w .high)) e in omega arith;
+    has = λ z. same-eq t (f i) h;
+  }
+
+  nowhere : ((j : ℕ) → a ≤ j → j < b → t ≡ f j → ⊥) → FirstSame f t a b b
+  nowhere none = record { low = omega (arith, w .low, w .high); high = omega arith; others = none; has = λ z. absurd (omega arith) }
+
+  pub same-past : b ≤ i → FirstSame f t a b b
+  same-past h = nowhere (λ j x y e. let z : j ≡ i = at-bound f a b t i R w j x y e in omega arith)
+
+  pub same-other : same t (f i) ≡ false → FirstSame f t a b b
+  same-other n = nowhere (λ j x y e.
+      true≢false (sym (same-refl t (f i) (subst (λ (k : ℕ). t ≡ f k) (at-bound f a b t i R w j x y e) e)) ∙ n))
+
 -- ── what does not fit ──
 module _ (f : ℕ → Triple) (map : List ℕ) (p : Pattern) (bindings : List ℕ) (a b r : ℕ) where
   other-property : (t : Triple) → (t .property ≡ p .property → ⊥) → fitTriple map p t bindings .fits ≡ false
@@ -128,3 +158,33 @@ module _ (f : ℕ → Triple) (map : List ℕ) (p : Pattern) (bindings : List �
 
   pub fit-of : (x : ℕ) → Node x ≡ wantedOf map (p .subject) bindings → FirstOf f x (p .property) a b r → FirstFit f map p bindings a b r
   fit-of x h w = record { low = w .low; high = w .high; others = λ i y z. other-node x h (f i) (w .others i y z); has = w .has }
+
+  -- an end that must have a node leaves the bindings as they are
+  bindings-kept : (e : End) (x y : ℕ) → Node x ≡ wantedOf map e bindings → fitEnd map e y bindings .bindings ≡ bindings
+  unfolding fitEnd wantedOf
+  bindings-kept (Code c) x y h = refl
+  bindings-kept (Var v) x y h = go (eqb (getD bindings v 0) absent) h
+    where
+      go : (t : Bool) → Node x ≡ cond t Any (Node (getD bindings v 0))
+          → cond t (fit true (set bindings v y)) (fit (eqb (getD bindings v 0) y) bindings) .bindings ≡ bindings
+      go true h = absurd (not-any x h)
+      go false h = refl
+
+  other-object : (x y : ℕ) → Node x ≡ wantedOf map (p .subject) bindings → Node y ≡ wantedOf map (p .object) bindings
+      → (t : Triple) → (triple x (p .property) y ≡ t → ⊥) → fitTriple map p t bindings .fits ≡ false
+  unfolding fitTriple
+  other-object x y h g t n = not-true-false _ (λ z.
+      let s : t .subject ≡ x = wanted-node map (p .subject) bindings x (t .subject) h (and-left _ _ (and-right (eqb (t .property) (p .property)) _ z)) in
+      let o : t .object ≡ y = wanted-node map (p .object) bindings y (t .object) g
+      (ap (λ (b : List ℕ). fitEnd map (p .object) (t .object) b .fits) (sym (bindings-kept (p .subject) x (t .subject) h))
+      ∙ and-right (fitEnd map (p .subject) (t .subject) bindings .fits) _ (and-right (eqb (t .property) (p .property)) _ z)) in
+      n (triple-eq (sym s) (sym (eqb-true _ _ (and-left _ _ z))) (sym o)))
+
+  pub fit-both : (x y : ℕ) → Node x ≡ wantedOf map (p .subject) bindings → Node y ≡ wantedOf map (p .object) bindings
+      → FirstSame f (triple x (p .property) y) a b r → FirstFit f map p bindings a b r
+  fit-both x y h g w = record {
+    low = w .low;
+    high = w .high;
+    others = λ i l m. other-object x y h g (f i) (w .others i l m);
+    has = λ l. ap (λ (t : Triple). t .property) (sym (w .has l));
+  }

@@ -1,6 +1,6 @@
 -- What the parts of ask promise.
 -- Assumes nothing.
-use Prim.Native.Nat.{ℕ, _+_, _-_, _/_, _<_, _≤_}
+use Prim.Native.Nat.{ℕ, _/_, _<_, _≤_}
 use mathlib.Core.Path.{_≡_}
 use mathlib.Core.Bool.{Bool, true, false, cond, _&&_}
 use mathlib.Core.List.{List}
@@ -9,15 +9,13 @@ use lib.ListN.{length, getD}
 use Rattle.model.specs.declared.Triple.{Triple}
 use Rattle.model.specs.Codes.{absent}
 use Rattle.model.specs.Partition.{label}
-use Rattle.model.specs.Triples.{triples}
 use Rattle.lists.specs.Flat.{at, RisingPart}
 use Rattle.query.specs.declared.End.{End}
 use Rattle.query.specs.declared.End.the-variants.{Var, Code}
 use Rattle.query.specs.declared.Pattern.{Pattern}
-use Rattle.query.specs.declared.Query.{Query}
 use Rattle.query_parts.specs.declared.Wanted.{Wanted}
 use Rattle.query_parts.specs.declared.Wanted.the-variants.{Any, Node}
-use Rattle.query.specs.Ask.{fitTriple, stepOf}
+use Rattle.query.specs.Ask.{fitTriple}
 
 -- r is the first place from a to before b whose triple has the property p, or b
 pub record FirstWith (f : ℕ → Triple) (p a b r : ℕ) : Type 0 where
@@ -37,6 +35,13 @@ pub record FirstOf (f : ℕ → Triple) (s p a b r : ℕ) : Type 0 where
   pub others : (i : ℕ) → a ≤ i → i < r → f i .subject ≡ s → f i .property ≡ p → ⊥
   pub has : r < b → f r .property ≡ p
 
+-- r is the first place from a to before b with this triple, or b
+pub record FirstSame (f : ℕ → Triple) (t : Triple) (a b r : ℕ) : Type 0 where
+  pub low : a ≤ r
+  pub high : r ≤ b
+  pub others : (i : ℕ) → a ≤ i → i < r → t ≡ f i → ⊥
+  pub has : r < b → t ≡ f r
+
 -- the node that an end must have, if there is one
 unfoldable pub wantedOf : List ℕ → End → List ℕ → Wanted
 wantedOf map (Var v) b = cond (eqb (getD b v 0) absent) Any (Node (getD b v 0))
@@ -52,7 +57,3 @@ pub record FirstFit (f : ℕ → Triple) (map : List ℕ) (p : Pattern) (binding
 -- the table is in rising order, if that is known of it
 abbrev pub InOrder : List ℕ → Bool → Type 0
 InOrder table rising = rising ≡ true → RisingPart (at table) 0 (length table / 3)
-
--- the k-th pattern of a query tried with one triple of a table, then the patterns after it
-abbrev pub stepAt : List ℕ → List ℕ → Query → ℕ → List ℕ → Triple → Bool
-stepAt table map q k b = stepOf (triples table) map (q .patterns) (q .count - (k + 1)) k b

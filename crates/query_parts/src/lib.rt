@@ -6,9 +6,11 @@ ghost use Prim.Native.Nat.{_+_, _*_, _<_, _≤_};
 ghost use lib.ListN.{length};
 ghost use Rattle.lists.specs.Flat.{at, RisingPart};
 ghost use Rattle.query.specs.Ask.{fitEnd, wrongPatternEnd, wrongPattern, wrongQuery, retired};
-ghost use Rattle.query_parts.specs.Parts.{FirstWith, FirstOf, FirstFit, front, wantedOf, InOrder};
+ghost use Rattle.query_parts.specs.Parts.{FirstWith, FirstOf, FirstSame, FirstFit, front, wantedOf, InOrder};
 use lists::Code;
 use lists::lower_bound;
+use lists::same;
+use lists::triple_at;
 use model::Triple;
 use model::Vocabulary;
 use query::End;
@@ -20,6 +22,12 @@ use query::Query;
 pub enum Wanted {
     Any,
     Node(u32),
+}
+
+// A place of a table, and what it cost to find it: a step for each place passed over and some for the search itself.
+pub struct Reached {
+    pub place: usize,
+    pub cost: usize,
 }
 
 fn end_wrong(e: End, n: usize) -> bool
@@ -96,20 +104,20 @@ pub fn fit_end(map: &[u32], e: End, x: u32, bindings: [u32; 8]) -> Fit
                 let mut more = bindings;
                 more[v as usize] = x;
                 return Fit {
-                    fits: true,
                     bindings: more,
+                    fits: true,
                 };
             }
             Fit {
-                fits: node == x,
                 bindings: bindings,
+                fits: node == x,
             }
         }
         End::Code(c) => {
             let entry = map[c as usize];
             Fit {
-                fits: entry == x,
                 bindings: bindings,
+                fits: entry == x,
             }
         }
     }
@@ -180,8 +188,57 @@ fn first_of(table: &[u32], subject: u32, property: u32, from: usize, to: usize) 
     to
 }
 
-// The first place from..to whose triple has the pattern's property and may fit, or `to`. In rising order a subject that must be
-// one node is searched for.
+// In rising order: the place from..to of this triple, or `to`.
+fn first_both(table: &[u32], t: Triple, from: usize, to: usize) -> usize
+    requires { ⌜ (from ≤ to) × (3 * to ≤ length (now table)) × RisingPart (at (now table)) from to ⌝ }
+    ensures { λ r. ⌜ FirstSame (at (now (table .entry))) t from to r ⌝ }
+{
+    let i = lower_bound(table, from, to, t);
+    if i < to {
+        if same(t, triple_at(table, i)) {
+            return i;
+        }
+    }
+    to
+}
+
+// The first place from..to whose triple has the pattern's property and may fit, or `to`, in a table in rising order: a subject that must
+// be one node is searched for, and with it an object that must be one node.
+fn first_in_order(
+    table: &[u32],
+    map: &[u32],
+    p: Pattern,
+    bindings: [u32; 8],
+    from: usize,
+    to: usize,
+) -> Reached
+    requires { ⌜ (wrongPatternEnd (length (now map)) (p .subject) ≡ false) × (wrongPatternEnd (length (now map)) (p .object) ≡ false) × (from ≤ to) × (3 * to ≤ length (now table)) × RisingPart (at (now table)) from to ⌝ }
+    ensures { λ r. ⌜ FirstFit (at (now (table .entry))) (now (map .entry)) p bindings from to (r .place) ⌝ }
+{
+    let property = p.property;
+    let subject = p.subject;
+    let Wanted::Node(x) = node_wanted(map, subject, bindings) else {
+        let i = first_with(table, property, from, to);
+        return Reached {
+            place: i,
+            cost: i - from + 4,
+        };
+    };
+    let object = p.object;
+    let Wanted::Node(y) = node_wanted(map, object, bindings) else {
+        let i = first_of(table, x, property, from, to);
+        return Reached { place: i, cost: 8 };
+    };
+    let t = Triple {
+        subject: x,
+        property: property,
+        object: y,
+    };
+    let i = first_both(table, t, from, to);
+    Reached { place: i, cost: 8 }
+}
+
+// The first place from..to whose triple has the pattern's property and may fit, or `to`.
 pub fn first_fit(
     table: &[u32],
     map: &[u32],
@@ -190,17 +247,16 @@ pub fn first_fit(
     from: usize,
     to: usize,
     rising: bool,
-) -> usize
-    requires { ⌜ (wrongPatternEnd (length (now map)) (p .subject) ≡ false) × (from ≤ to) × (3 * to ≤ length (now table)) × InOrder (now table) rising ⌝ }
-    ensures { λ r. ⌜ FirstFit (at (now (table .entry))) (now (map .entry)) p bindings from to r ⌝ }
+) -> Reached
+    requires { ⌜ (wrongPatternEnd (length (now map)) (p .subject) ≡ false) × (wrongPatternEnd (length (now map)) (p .object) ≡ false) × (from ≤ to) × (3 * to ≤ length (now table)) × InOrder (now table) rising ⌝ }
+    ensures { λ r. ⌜ FirstFit (at (now (table .entry))) (now (map .entry)) p bindings from to (r .place) ⌝ }
 {
-    let property = p.property;
-    if !rising {
-        return first_with(table, property, from, to);
+    if rising {
+        return first_in_order(table, map, p, bindings, from, to);
     }
-    let subject = p.subject;
-    let Wanted::Node(node) = node_wanted(map, subject, bindings) else {
-        return first_with(table, property, from, to);
-    };
-    first_of(table, node, property, from, to)
+    let i = first_with(table, p.property, from, to);
+    Reached {
+        place: i,
+        cost: i - from + 4,
+    }
 }

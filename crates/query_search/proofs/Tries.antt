@@ -1,24 +1,36 @@
--- The search over the places of a table, branch by branch.
+-- The search within domains that may give up, branch by branch.
 -- Assumes nothing.
 use Prim.Native.Nat.{ℕ, suc, _+_, _-_, _*_, _/_, _<_, _≤_}
-use native.Mathlib.Nat.{suc-mul}
+use native.Mathlib.Nat.{eq-or-lt-of-le, suc-mul}
 use native.Mathlib.Omega.{arith}
-use mathlib.Core.Path.{_≡_, sym, ap, _∙_}
-use mathlib.Core.Bool.{Bool, true, false, _||_}
-use mathlib.Core.List.{List}
-use lib.ListN.{length}
+use mathlib.Core.Path.{_≡_, refl, sym, ap, subst, _∙_}
+use mathlib.Core.Bool.{Bool, true, false, _&&_, true≢false}
+use mathlib.Core.List.{List, List·Memᴰ as Mem, Memᴰ·cast}
+use mathlib.Core.Logic.{_⊎_, inl, inr, ⊎-elim}
+use lib.Dec.{eqb}
+use borrow.Author.Tests.{eq-eqb}
+use lib.ListN.{length, getD}
 use Rattle.model.specs.declared.Triple.{Triple}
-use Rattle.model.specs.Lists.{any, tabulate}
+use Rattle.model.specs.Codes.{absent}
 use Rattle.model.specs.Triples.{triples}
+use Rattle.model.specs.Partition.{label}
 use Rattle.lists.specs.Flat.{at}
-use Rattle.theory.proofs.Runs.{run-none, run-one, run-parts, run-fails}
+use Rattle.lists.proofs.Compare.{Cmp, lt, eq, gt, cmp}
 use Rattle.lists.proofs.Places.{triples-table}
+use Rattle.theory.proofs.Tests.{and-left, and-right, and-both}
+use Rattle.theory.proofs.Lists.{tabulate-mem, mem-tabulate}
+use Rattle.query.specs.declared.End.{End}
+use Rattle.query.specs.declared.End.the-variants.{Var, Code}
 use Rattle.query.specs.declared.Pattern.{Pattern}
 use Rattle.query.specs.declared.Query.{Query}
 use Rattle.query.specs.declared.Fit.{Fit}
-use Rattle.query.specs.Ask.{patternAt, fitEnd, search}
-use Rattle.query_parts.specs.Parts.{FirstFit, stepAt}
-use Rattle.query_search.proofs.Laws.{step-unfit, step-subject, step-object, step-both, search-none, search-more}
+use Rattle.query.specs.Ask.{patternAt, fitEnd, fitTriple, wrongQuery}
+use Rattle.query.specs.Match.{standsFor, patternTriple}
+use Rattle.query.specs.Choices.{Puts, Putting, Present}
+use Rattle.query.proofs.Steps.{Good, GoodQuery, good-query, Fitting, triple-complete, Tried, triple-sound}
+use Rattle.query_parts.specs.Parts.{FirstFit}
+use Rattle.query_rows.specs.Rows.{allows, Within}
+use Rattle.query_search.specs.Search.{Sure, Sought, SoughtAt, Spent}
 
 -- one pattern fewer
 pub one-fewer : (n k m : ℕ) → k < n → (n - k) * m ≡ (n - (k + 1)) * m + m
@@ -26,111 +38,201 @@ one-fewer n k m h =
     let e : n - k ≡ suc (n - (k + 1)) = omega arith in
     rw e (suc-mul (n - (k + 1)) m)
 
--- the triples at all places
-pub search-all : (table map : List ℕ) (q : Query) (left k : ℕ) (b : List ℕ) (n : ℕ) → left ≡ suc (q .count - (k + 1)) → n ≡ length table / 3
-    → any (stepAt table map q k b) (tabulate (at table) 0 n) ≡ search (triples table) map (q .patterns) left k b
-search-all table map q left k b n e h =
-    ap (λ (m : ℕ). any (stepAt table map q k b) (tabulate (at table) 0 m)) h
-    ∙ ap (any (stepAt table map q k b)) (sym (triples-table table))
-    ∙ sym (search-more (triples table) map (q .patterns) (q .count - (k + 1)) k b)
-    ∙ ap (λ (m : ℕ). search (triples table) map (q .patterns) m k b) (sym e)
+-- the next pattern has one pattern fewer, and this triple's place was one of its places
+pub falls-next : (n m i : ℕ) {t : ℕ} → n * (m / 3 + 1) + (m / 3 - i) ≡ t → 3 * i + 2 < m → n * (m / 3 + 1) + 0 < t
+falls-next n m i e h = omega arith
 
-search-done : (ts : List Triple) (map : List ℕ) (ps : List Pattern) (left k : ℕ) (b : List ℕ) → left ≡ 0 → true ≡ search ts map ps left k b
-search-done ts map ps left k b e = sym (ap (λ (m : ℕ). search ts map ps m k b) e ∙ search-none ts map ps 0 k b)
+-- a choice within the domains is allowed at every end
+allowed-end : (map d : List ℕ) (n : ℕ) (σ : ℕ → ℕ) (e : End) → Good n e → Within d σ → allows d e (standsFor (label map) σ e) ≡ true
+unfolding allows
+allowed-end map d n σ (Var v) g w = w v g
+allowed-end map d n σ (Code c) g w = refl
 
-module _ (table map : List ℕ) (q : Query) (k : ℕ) (b : List ℕ) where
-  -- the triple at place i, which has the pattern's property
-  module _ (i : ℕ) (h : at table i .property ≡ patternAt q k .property) (t : Triple) (same : t ≡ at table i)
-      (f : Fit) (e : f ≡ fitEnd map (patternAt q k .subject) (t .subject) b) where
-    first : f ≡ fitEnd map (patternAt q k .subject) (at table i .subject) b
-    first = e ∙ ap (λ (u : Triple). fitEnd map (patternAt q k .subject) (u .subject) b) same
+-- no choice puts the k-th pattern at a place before `from`
+pub record NoneSoFar (table map d : List ℕ) (q : Query) (k : ℕ) (b : List ℕ) (limited : Bool) (s₀ s from : ℕ) : Type 0 where
+  pub fewer : s ≤ s₀
+  pub high : from ≤ length table / 3
+  pub none : Sure limited s → (σ : ℕ → ℕ) → Puts (triples table) map q k b σ → Within d σ → (i : ℕ) → i < from
+      → patternTriple (label map) σ (patternAt q k) ≡ at table i → ⊥
 
-    pub other-subject : f .fits ≡ false → false ≡ stepAt table map q k b (at table i)
-    other-subject n = step-subject (triples table) map (q .patterns) (q .count - (k + 1)) k b (at table i) h f first n
+module _ (table map d : List ℕ) (q : Query) (right : wrongQuery (length map) q ≡ false) (k : ℕ) (l : k < q .count) (b : List ℕ) (long : length b ≡ 8) where
+  abbrev ts : List Triple
+  ts = triples table
 
-    module _ (y : f .fits ≡ true) (g : Fit) (e′ : g ≡ fitEnd map (patternAt q k .object) (t .object) (f .bindings)) where
-      second : g ≡ fitEnd map (patternAt q k .object) (at table i .object) (f .bindings)
-      second = e′ ∙ ap (λ (u : Triple). fitEnd map (patternAt q k .object) (u .object) (f .bindings)) same
+  abbrev p : Pattern
+  p = patternAt q k
 
-      pub other-object : g .fits ≡ false → false ≡ stepAt table map q k b (at table i)
-      other-object n = step-object (triples table) map (q .patterns) (q .count - (k + 1)) k b (at table i) h f first y g second n
+  good : GoodQuery (length map) q
+  good = good-query (length map) q right
 
-      module _ (z : g .fits ≡ true) where
-        fitting : search (triples table) map (q .patterns) (q .count - (k + 1)) (k + 1) (g .bindings) ≡ stepAt table map q k b (at table i)
-        fitting = step-both (triples table) map (q .patterns) (q .count - (k + 1)) k b (at table i) h f first y g second z
+  abbrev Here : (ℕ → ℕ) → ℕ → Type 0
+  Here σ i = patternTriple (label map) σ (patternAt q k) ≡ at table i
 
-        pub last-pattern : k + 1 ≡ q .count → true ≡ stepAt table map q k b (at table i)
-        last-pattern l = search-done (triples table) map (q .patterns) _ (k + 1) (g .bindings) (omega arith) ∙ fitting
+  -- a choice that puts the pattern at place i fits there
+  module _ (σ : ℕ → ℕ) (a : Puts ts map q k b σ) (i : ℕ) (e : Here σ i) where
+    fitting : Fitting ts map σ (fitTriple map p (at table i) b)
+    fitting = subst (λ t. Fitting ts map σ (fitTriple map p t b)) e
+        (triple-complete ts map σ p b (good .subject k l) (good .object k l) long (a .agrees))
 
-        pub next-pattern : k < q .count → (k + 1 ≡ q .count → ⊥) → (n : ℕ) → n ≡ length table / 3
-            → {x : Bool} → x ≡ any (stepAt table map q (k + 1) (g .bindings)) (tabulate (at table) 0 n) → x ≡ stepAt table map q k b (at table i)
-        next-pattern l m n p r = r ∙ search-all table map q (q .count - (k + 1)) (k + 1) (g .bindings) n (omega arith) p ∙ fitting
+    module _ (w : Within d σ) where
+      allowed-subject : allows d (p .subject) (at table i .subject) ≡ true
+      allowed-subject = subst (λ (t : Triple). allows d (p .subject) (t .subject) ≡ true) e
+          (allowed-end map d (length map) σ (p .subject) (good .subject k l) w)
 
--- ── a run of places: the first whose triple has the pattern's property, then each half of those after it ──
-run : (Triple → Bool) → (ℕ → Triple) → ℕ → ℕ → Bool
-run test f i j = any test (tabulate f i (j - i))
+      allowed-object : allows d (p .object) (at table i .object) ≡ true
+      allowed-object = subst (λ (t : Triple). allows d (p .object) (t .object) ≡ true) e
+          (allowed-end map d (length map) σ (p .object) (good .object k l) w)
 
-run-halves : (test : Triple → Bool) (f : ℕ → Triple) (i m j : ℕ) → i ≤ m → m ≤ j → run test f i j ≡ (run test f i m || run test f m j)
-unfolding run
-run-halves test f i m j h h′ =
-    let e : j - i ≡ (m - i) + (j - m) = omega arith in
-    let e′ : i + (m - i) ≡ m = omega arith in
-    ap (λ (n : ℕ). any test (tabulate f i n)) e
-    ∙ run-parts test f i (m - i) (j - m)
-    ∙ ap (λ (n : ℕ). any test (tabulate f i (m - i)) || any test (tabulate f n (j - m))) e′
+  -- ── one triple ──
+  module _ (present : Present ts) (i : ℕ) (inside : 3 * i + 2 < length table) (h : at table i .property ≡ p .property) (limited : Bool) (s : ℕ) where
+    abbrev Answer : ℕ → Bool → Type 0
+    Answer s′ r = SoughtAt table map d q k b i limited s s′ r
 
-run-first : (test : Triple → Bool) (f : ℕ → Triple) (i : ℕ) → run test f i (i + 1) ≡ test (f i)
-unfolding run
-run-first test f i =
-    let e : (i + 1) - i ≡ 1 = omega arith in
-    ap (λ (n : ℕ). any test (tabulate f i n)) e ∙ run-one test f i
+    no-choice : ((σ : ℕ → ℕ) → Puts ts map q k b σ → Within d σ → Here σ i → ⊥) → Answer s false
+    no-choice f = record { fewer = omega arith; sound = λ z. absurd (true≢false (sym z)); complete = λ y σ a w e. absurd (f σ a w e) }
 
-module _ (table map : List ℕ) (q : Query) (k : ℕ) (b : List ℕ) (from to r : ℕ) (w : FirstFit (at table) map (patternAt q k) b from to r) where
-  here : ℕ → ℕ → Bool
-  here i j = run (stepAt table map q k b) (at table) i j
+    held : Mem (at table i) ts
+    held = subst (Mem (at table i)) (sym (triples-table table)) (mem-tabulate (at table) 0 (length table / 3) i (omega arith) (omega arith))
 
-  skipped : here from r ≡ false
-  unfolding here run
-  skipped =
-      run-fails (stepAt table map q k b) (at table) from (r - from)
-      (λ i x y. sym (step-unfit (triples table) map (q .patterns) (q .count - (k + 1)) k b (at table i) (w .others i x (omega (arith, w .low)))))
+    module _ (t : Triple) (same : t ≡ at table i) where
+      pub subject-outside : {x : Bool} → x ≡ allows d (p .subject) (t .subject) → x ≡ false → Answer s false
+      subject-outside e n = no-choice λ σ a w m.
+          true≢false (sym (allowed-subject σ a i m w) ∙ ap (λ (u : Triple). allows d (p .subject) (u .subject)) (sym same) ∙ sym e ∙ n)
 
-  from-first : here from to ≡ here r to
-  unfolding here
-  from-first = run-halves _ _ from r to (w .low) (w .high) ∙ ap (λ (t : Bool). t || here r to) skipped
+      pub object-outside : {x : Bool} → x ≡ allows d (p .object) (t .object) → x ≡ false → Answer s false
+      object-outside e n = no-choice λ σ a w m.
+          true≢false (sym (allowed-object σ a i m w) ∙ ap (λ (u : Triple). allows d (p .object) (u .object)) (sym same) ∙ sym e ∙ n)
 
-  pub try-none : r ≡ to → false ≡ any (stepAt table map q k b) (tabulate (at table) from (to - from))
-  unfolding here run
-  try-none e =
-      let z : to - r ≡ 0 = omega arith in
-      sym (from-first ∙ ap (λ (n : ℕ). any (stepAt table map q k b) (tabulate (at table) r n)) z ∙ run-none _ _ r)
+      module _ (f : Fit) (e : f ≡ fitEnd map (p .subject) (t .subject) b) where
+        first : f ≡ fitEnd map (p .subject) (at table i .subject) b
+        first = e ∙ ap (λ (u : Triple). fitEnd map (p .subject) (u .subject) b) same
 
-  module _ (l : r < to) where
-    after-first : here from to ≡ (stepAt table map q k b (at table r) || here (r + 1) to)
-    unfolding here
-    after-first =
-        from-first ∙ run-halves _ _ r (r + 1) to (omega arith) (omega arith)
-        ∙ ap (λ (t : Bool). t || here (r + 1) to) (run-first (stepAt table map q k b) (at table) r)
+        first-fits : (σ : ℕ → ℕ) → Puts ts map q k b σ → Here σ i → f .fits ≡ true
+        unfolding fitTriple
+        first-fits σ a m = ap (λ (u : Fit). u .fits) first ∙ and-left _ _ (and-right (eqb (at table i .property) (p .property)) _ (fitting σ a i m .fits))
 
-    -- x is what the first triple gives, y and z what the halves give
-    module _ {x : Bool} (e : x ≡ stepAt table map q k b (at table r)) where
-      pub try-first : x ≡ true → true ≡ any (stepAt table map q k b) (tabulate (at table) from (to - from))
-      unfolding here run
-      try-first h = sym (after-first ∙ ap (λ (t : Bool). t || here (r + 1) to) (sym e ∙ h))
+        pub subject-unfit : f .fits ≡ false → Answer s false
+        subject-unfit n = no-choice λ σ a w m. true≢false (sym (first-fits σ a m) ∙ n)
 
-      module _ (n : x ≡ false) (m : ℕ) (l₁ : r + 1 ≤ m) (l₂ : m ≤ to)
-          {y : Bool} (e₁ : y ≡ any (stepAt table map q k b) (tabulate (at table) (r + 1) (m - (r + 1)))) where
-        by-halves : here from to ≡ (y || here m to)
-        unfolding here run
-        by-halves =
-            after-first ∙ ap (λ (t : Bool). t || here (r + 1) to) (sym e ∙ n)
-            ∙ run-halves _ _ (r + 1) m to l₁ l₂ ∙ ap (λ (t : Bool). t || here m to) (sym e₁)
+        module _ (y : f .fits ≡ true) (g : Fit) (e′ : g ≡ fitEnd map (p .object) (t .object) (f .bindings)) where
+          second : g ≡ fitEnd map (p .object) (at table i .object) (fitEnd map (p .subject) (at table i .subject) b .bindings)
+          second = e′ ∙ ap (λ (u : Triple). fitEnd map (p .object) (u .object) (f .bindings)) same
+              ∙ ap (λ (u : Fit). fitEnd map (p .object) (at table i .object) (u .bindings)) first
 
-        pub try-left : y ≡ true → true ≡ any (stepAt table map q k b) (tabulate (at table) from (to - from))
-        unfolding here run
-        try-left h = sym (by-halves ∙ ap (λ (t : Bool). t || here m to) h)
+          second-fits : (σ : ℕ → ℕ) → Puts ts map q k b σ → Here σ i → g .fits ≡ true
+          unfolding fitTriple
+          second-fits σ a m =
+              ap (λ (u : Fit). u .fits) second
+              ∙ and-right (fitEnd map (p .subject) (at table i .subject) b .fits) _ (and-right (eqb (at table i .property) (p .property)) _ (fitting σ a i m .fits))
 
-        pub try-right : y ≡ false → {z : Bool} → z ≡ any (stepAt table map q k b) (tabulate (at table) m (to - m))
-            → z ≡ any (stepAt table map q k b) (tabulate (at table) from (to - from))
-        unfolding here run
-        try-right h e₂ = e₂ ∙ sym (by-halves ∙ ap (λ (t : Bool). t || here m to) h)
+          pub object-unfit : g .fits ≡ false → Answer s false
+          object-unfit n = no-choice λ σ a w m. true≢false (sym (second-fits σ a m) ∙ n)
+
+          module _ (z : g .fits ≡ true) where
+            both : fitTriple map p (at table i) b .fits ≡ true
+            unfolding fitTriple
+            both = and-both (eqb (at table i .property) (p .property)) _ (eq-eqb _ _ h)
+                (and-both (fitEnd map (p .subject) (at table i .subject) b .fits) _ (ap (λ (u : Fit). u .fits) (sym first) ∙ y) (ap (λ (u : Fit). u .fits) (sym second) ∙ z))
+
+            after : fitTriple map p (at table i) b .bindings ≡ g .bindings
+            unfolding fitTriple
+            after = ap (λ (u : Fit). u .bindings) (sym second)
+
+            tried : Tried ts map p (at table i) b (fitTriple map p (at table i) b)
+            tried = triple-sound ts map p (at table i) b held both (present (at table i) held .0) (present (at table i) held .1)
+                (good .subject k l) (good .object k l) long
+
+            pub next-long : length (g .bindings) ≡ 8
+            next-long = ap (λ (x : List ℕ). length x) (sym after) ∙ tried .long
+
+            -- a choice for the patterns after this one is one for this one too
+            put-here : Putting ts map q (k + 1) (g .bindings) → Putting ts map q k b
+            put-here w =
+                let σ : ℕ → ℕ = w .0 in
+                let agrees = subst (λ (x : List ℕ). (v : ℕ) → v < 8 → (getD x v 0 ≡ absent → ⊥) → σ v ≡ getD x v 0) (sym after) (w .1 .agrees) in (
+                  σ,
+                  record {
+                    agrees = tried .back σ agrees;
+                    puts = λ j l₁ l₂. ⊎-elim {C = Mem (patternTriple (label map) σ (patternAt q j)) ts}
+                        (λ m. Memᴰ·cast {a = patternTriple (label map) σ (patternAt q j)}
+                        (ap (λ (x : ℕ). patternTriple (label map) σ (patternAt q x)) (sym m) ∙ tried .there σ agrees) held)
+                        (λ m. w .1 .puts j (omega arith) l₂)
+                        (eq-or-lt-of-le l₁);
+                  },
+                )
+
+            pub all-put : k + 1 ≡ q .count → Answer s true
+            all-put m = record {
+              fewer = omega arith;
+              sound = λ w. put-here (λ v. getD (g .bindings) v 0, record { agrees = λ v lv n. refl; puts = λ j l₁ l₂. let o : ⊥ = omega arith in absurd o });
+              complete = λ w σ a x n. refl;
+            }
+
+            ahead : (σ : ℕ → ℕ) → Puts ts map q k b σ → Here σ i → Puts ts map q (k + 1) (g .bindings) σ
+            ahead σ a m = record {
+              agrees = subst (λ (x : List ℕ). (v : ℕ) → v < 8 → (getD x v 0 ≡ absent → ⊥) → σ v ≡ getD x v 0) after (fitting σ a i m .extends);
+              puts = λ j l₁ l₂. a .puts j (omega arith) l₂;
+            }
+
+            pub next-sought : (s′ : ℕ) {r : Bool} → Sought table map d q (k + 1) (g .bindings) limited s s′ r → Answer s′ r
+            next-sought s′ w = record {
+              fewer = w .fewer;
+              sound = λ x. put-here (w .sound x);
+              complete = λ x σ a y n. w .complete x σ (ahead σ a n) y;
+            }
+
+  -- ── one triple after the other ──
+  module _ (limited : Bool) (s₀ : ℕ) where
+    pub try-start : NoneSoFar table map d q k b limited s₀ s₀ 0
+    try-start = record { fewer = omega arith; high = omega arith; none = λ y σ a w i m e. let o : ⊥ = omega arith in o }
+
+    pub try-end : (s from : ℕ) → NoneSoFar table map d q k b limited s₀ s from → length table / 3 ≤ from → Sought table map d q k b limited s₀ s false
+    try-end s from h m = record {
+      fewer = h .fewer;
+      sound = λ z. absurd (true≢false (sym z));
+      complete = λ y σ a w.
+          let x = tabulate-mem (at table) 0 (length table / 3) (subst (Mem (patternTriple (label map) σ p)) (triples-table table) (a .puts k (omega arith) l)) in
+          absurd (h .none y σ a w (x .0) (omega (arith, x .2)) (x .3));
+    }
+
+    module _ (s from : ℕ) (h : NoneSoFar table map d q k b limited s₀ s from) (i : ℕ) (w : FirstFit (at table) map p b from (length table / 3) i) where
+      skip : (s′ : ℕ) → s′ ≤ s → NoneSoFar table map d q k b limited s₀ s′ i
+      skip s′ m = record {
+        fewer = omega (arith, h .fewer);
+        high = w .high;
+        none = λ y σ a x j z e. go y σ a x j z e (cmp j from);
+      }
+        where
+          go : Sure limited s′ → (σ : ℕ → ℕ) → Puts ts map q k b σ → Within d σ → (j : ℕ) → j < i → Here σ j → Cmp j from → ⊥
+          go y σ a x j z e (lt o) = h .none (λ u v. y u (omega arith)) σ a x j o e
+          go y σ a x j z e (eq o) = true≢false (sym (fitting σ a j e .fits) ∙ w .others j (omega arith) z)
+          go y σ a x j z e (gt o) = true≢false (sym (fitting σ a j e .fits) ∙ w .others j (omega arith) z)
+
+      module _ (s₁ : ℕ) {u : Bool} (c : Spent limited s s₁ u) where
+        pub gave-up : u ≡ true → Sought table map d q k b limited s₀ s₁ false
+        gave-up e = record {
+          fewer = omega (arith, h .fewer, c .fewer);
+          sound = λ z. absurd (true≢false (sym z));
+          complete = λ y σ a x. absurd (y (c .up e .0) (c .up e .1));
+        }
+
+        pub none-left : i ≡ length table / 3 → Sought table map d q k b limited s₀ s₁ false
+        none-left e = try-end s₁ i (skip s₁ (c .fewer)) (omega arith)
+
+        module _ (s₂ : ℕ) {r : Bool} (x : SoughtAt table map d q k b i limited s₁ s₂ r) where
+          pub found-here : r ≡ true → Sought table map d q k b limited s₀ s₂ true
+          found-here e = record {
+            fewer = omega (arith, h .fewer, c .fewer, x .fewer);
+            sound = λ z. x .sound e;
+            complete = λ y σ a z. refl;
+          }
+
+          pub try-step : i < length table / 3 → r ≡ false → NoneSoFar table map d q k b limited s₀ s₂ (i + 1)
+          try-step m e = record {
+            fewer = omega (arith, h .fewer, c .fewer, x .fewer);
+            high = omega arith;
+            none = λ y σ a o j z v. ⊎-elim
+                (λ (n : j ≡ i). true≢false (sym (x .complete y σ a o (subst (λ (j : ℕ). Here σ j) n v)) ∙ e))
+                (λ (n : j < i). skip s₂ (omega (arith, c .fewer, x .fewer)) .none y σ a o j n v)
+                (eq-or-lt-of-le {n = j} {m = i} (omega arith));
+          }

@@ -1,77 +1,111 @@
-// The search for a choice of nodes: the patterns of a query tried with the triples of a table.
+// The search for a choice of nodes: the patterns of a query tried with the triples of a table, within domains and a limit of steps.
 
 ghost use mathlib.Core.Path.{_≡_};
 ghost use mathlib.Core.Bool.{false};
-ghost use Prim.Native.Nat.{_+_, _-_, _*_, _<_, _≤_};
+ghost use Prim.Native.Nat.{_+_, _*_, _<_, _≤_};
 ghost use lib.ListN.{length};
-ghost use Rattle.model.specs.Lists.{any, tabulate};
+ghost use Rattle.model.specs.Triples.{triples};
 ghost use Rattle.lists.specs.Flat.{at};
 ghost use Rattle.query.specs.Ask.{patternAt, wrongQuery};
-ghost use Rattle.query_parts.specs.Parts.{InOrder, stepAt};
+ghost use Rattle.query.specs.Choices.{Present};
+ghost use Rattle.query_parts.specs.Parts.{InOrder};
+ghost use Rattle.query_search.specs.Search.{Sought, SoughtAt, Spent};
 use query::Query;
 use query_parts::first_fit;
 use query_parts::fit_end;
+use query_rows::allowed;
 
-// Tries pattern k with the triples at places from..to: the first that may fit, then each half of those after it.
+// Takes a cost off the steps of a limited search. Whether it must give up.
+fn spend(limited: bool, steps: &mut usize, cost: usize) -> bool
+    ensures { λ r. ⌜ Spent limited (now (steps .entry)) (now (steps .exit)) r ⌝ }
+{
+    if !limited {
+        return false;
+    }
+    if *steps <= cost {
+        *steps = 0;
+        return true;
+    }
+    *steps = *steps - cost;
+    false
+}
+
+// Tries pattern k with one triple after the other, and the patterns after it. One call a pattern stands on the stack.
 pub fn try_pattern(
     table: &[u32],
     map: &[u32],
+    rows: &[u64],
     q: Query,
     bindings: [u32; 8],
     k: usize,
-    from: usize,
-    to: usize,
     rising: bool,
+    limited: bool,
+    steps: &mut usize,
 ) -> bool
-    requires { ⌜ (wrongQuery (length (now map)) q ≡ false) × (k < q .count) × (from ≤ to) × (3 * to ≤ length (now table)) × InOrder (now table) rising ⌝ }
-    ensures { λ r. ⌜ r ≡ any (stepAt (now (table .entry)) (now (map .entry)) q k bindings) (tabulate (at (now (table .entry))) from (to - from)) ⌝ }
+    requires { ⌜ (wrongQuery (length (now map)) q ≡ false) × (k < q .count) × InOrder (now table) rising × Present (triples (now table)) × (length (now rows) ≤ 13312) × (length bindings ≡ 8) ⌝ }
+    ensures { λ r. ⌜ Sought (now (table .entry)) (now (map .entry)) (now (rows .entry)) q k bindings limited (now (steps .entry)) (now (steps .exit)) r ⌝ }
 {
     let pattern = q.patterns[k];
-    let first = first_fit(table, map, pattern, bindings, from, to, rising);
-    if first == to {
-        return false;
+    let n = table.len() / 3;
+    let mut from = 0;
+    while from < n {
+        let first = first_fit(table, map, pattern, bindings, from, n, rising);
+        let i = first.place;
+        if spend(limited, steps, first.cost) {
+            return false;
+        }
+        if i == n {
+            return false;
+        }
+        if try_triple(table, map, rows, q, bindings, k, i, rising, limited, steps) {
+            return true;
+        }
+        from = i + 1;
     }
-    if try_triple(table, map, q, bindings, k, first, rising) {
-        return true;
-    }
-    let middle = first + 1 + (to - first - 1) / 2;
-    if try_pattern(table, map, q, bindings, k, first + 1, middle, rising) {
-        return true;
-    }
-    try_pattern(table, map, q, bindings, k, middle, to, rising)
+    false
 }
 
 // Tries pattern k with the triple at place i, which has its property: a triple that fits tries the next pattern.
 fn try_triple(
     table: &[u32],
     map: &[u32],
+    rows: &[u64],
     q: Query,
     bindings: [u32; 8],
     k: usize,
     i: usize,
     rising: bool,
+    limited: bool,
+    steps: &mut usize,
 ) -> bool
-    requires { ⌜ (wrongQuery (length (now map)) q ≡ false) × (k < q .count) × (3 * i + 2 < length (now table)) × (at (now table) i .property ≡ patternAt q k .property) × InOrder (now table) rising ⌝ }
-    ensures { λ r. ⌜ r ≡ stepAt (now (table .entry)) (now (map .entry)) q k bindings (at (now (table .entry)) i) ⌝ }
+    requires { ⌜ (wrongQuery (length (now map)) q ≡ false) × (k < q .count) × (3 * i + 2 < length (now table)) × (at (now table) i .property ≡ patternAt q k .property) × InOrder (now table) rising × Present (triples (now table)) × (length (now rows) ≤ 13312) × (length bindings ≡ 8) ⌝ }
+    ensures { λ r. ⌜ SoughtAt (now (table .entry)) (now (map .entry)) (now (rows .entry)) q k bindings i limited (now (steps .entry)) (now (steps .exit)) r ⌝ }
 {
     let pattern = q.patterns[k];
     let triple = lists::triple_at(table, i);
     let subject = pattern.subject;
+    let object = pattern.object;
     let x = triple.subject;
     let y = triple.object;
-    let first = fit_end(map, subject, x, bindings);
-    if first.fits {
-        let object = pattern.object;
-        let bound = first.bindings;
-        let second = fit_end(map, object, y, bound);
-        if second.fits {
-            let count = q.count as usize;
-            if k + 1 == count {
-                return true;
-            }
-            let next = second.bindings;
-            return try_pattern(table, map, q, next, k + 1, 0, table.len() / 3, rising);
-        }
+    if !allowed(rows, subject, x) {
+        return false;
     }
-    false
+    if !allowed(rows, object, y) {
+        return false;
+    }
+    let first = fit_end(map, subject, x, bindings);
+    if !first.fits {
+        return false;
+    }
+    let bound = first.bindings;
+    let second = fit_end(map, object, y, bound);
+    if !second.fits {
+        return false;
+    }
+    let count = q.count as usize;
+    if k + 1 == count {
+        return true;
+    }
+    let next = second.bindings;
+    try_pattern(table, map, rows, q, next, k + 1, rising, limited, steps)
 }

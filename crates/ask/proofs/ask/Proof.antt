@@ -1,7 +1,6 @@
 use mathlib.Core.Path.{sym, _∙_}
-use native.Mathlib.Omega.{arith}
-use Rattle.query.proofs.Steps.{some-pattern, few-patterns}
-use Rattle.ask.proofs.Answers.{wrong-size, wrong-length, wrong-words, wrong-codes, wrong-query, retired-query, answer-maybe, answer-none}
+use Rattle.query.proofs.Steps.{few-patterns}
+use Rattle.ask.proofs.Answers.{searchable, wrong-size, wrong-length, wrong-words, wrong-codes, wrong-query, retired-query, answer-maybe, answer-none}
 use borrow.Author.Needs.{needs}
 use Rattle.ask.proofs.ask.Statement.{statement}
 use Rattle.ask.proofs.ask.Tie as tie
@@ -95,13 +94,16 @@ returns-6 c =
 known-rising-requires : tie.Need-known-rising-requires
 known-rising-requires c κs = search needs
 
-try-pattern-requires : tie.Need-try-pattern-requires
-try-pattern-requires c κs =
-    let back4 = c .before .before .before .before in
-    let start = back4 .before .before .before .before .before .before .before .before .before .before .before in
+some-choice-requires : tie.Need-some-choice-requires
+some-choice-requires c κs =
+    let back3 = c .before .before .before in
+    let back6 = back3 .before .before .before in
+    let back9 = back6 .before .before .before in
+    let start = back9 .before .before .before .before .before .before in
     let x = start .args in
-    let right = sym (back4 .query-wrong .ensures) ∙ c .before .before .before .if5 .left in
-    (right, some-pattern _ (x .q) right, omega arith, omega arith, c .known-rising .ensures)
+    searchable _ (x .table .now) (x .map .now) (x .q) _ (sym (back9 .before .before .before .size-wrong .ensures) ∙ back9 .before .before .if1 .left)
+    (sym (back9 .before .length-wrong .ensures) ∙ back9 .if2 .left) (sym (back6 .codes-wrong .ensures) ∙ back3 .before .before .if4 .left)
+    (sym (back3 .before .query-wrong .ensures) ∙ back3 .if5 .left) (c .known-rising .ensures)
 
 returns-7 : tie.Need-returns-7
 returns-7 c =
@@ -121,8 +123,8 @@ returns-7 c =
     let x = start .args in
     answer-maybe _ (x .table .now) (x .map .now) (x .q) (back14 .size-wrong .ensures) (back13 .if1 .left) (back12 .length-wrong .ensures)
     (back11 .if2 .left) (back10 .words-wrong .ensures) (back9 .if3 .left) (back8 .codes-wrong .ensures) (back7 .if4 .left)
-    (back6 .query-wrong .ensures) (back5 .if5 .left) (back4 .query-retired .ensures) (back3 .if6 .left) _ (omega arith)
-    (c .before .try-pattern .ensures) (c .if7 .taken)
+    (back6 .query-wrong .ensures) (back5 .if5 .left) (back4 .query-retired .ensures) (back3 .if6 .left)
+    (c .before .some-choice .ensures) (c .if7 .taken)
 
 returns-8 : tie.Need-returns-8
 returns-8 c =
@@ -142,8 +144,8 @@ returns-8 c =
     let x = start .args in
     answer-none _ (x .table .now) (x .map .now) (x .q) (back14 .size-wrong .ensures) (back13 .if1 .left) (back12 .length-wrong .ensures)
     (back11 .if2 .left) (back10 .words-wrong .ensures) (back9 .if3 .left) (back8 .codes-wrong .ensures) (back7 .if4 .left)
-    (back6 .query-wrong .ensures) (back5 .if5 .left) (back4 .query-retired .ensures) (back3 .if6 .left) _ (omega arith)
-    (c .before .try-pattern .ensures) (c .if7 .left)
+    (back6 .query-wrong .ensures) (back5 .if5 .left) (back4 .query-retired .ensures) (back3 .if6 .left)
+    (c .before .some-choice .ensures) (c .if7 .left)
 
 pub ask-spec : {M : Type 1} → statement M
 ask-spec =
@@ -162,6 +164,6 @@ ask-spec =
     query-retired-requires
     returns-6
     known-rising-requires
-    try-pattern-requires
+    some-choice-requires
     returns-7
     returns-8)

@@ -1,10 +1,12 @@
 use Prim.Native.Nat.{ℕ, _+_, _-_, _*_, _/_, _<_}
 use native.Mathlib.Omega.{arith}
 use lib.ListN.{length}
+use borrow.Author.Tests.{not-false, not-true}
+use borrow.Author.Needs.{needs}
+use Rattle.query.proofs.Steps.{few-patterns, right-subject, right-object}
+use Rattle.query_search.proofs.Tries.{one-fewer, falls-next, NoneSoFar, subject-outside, object-outside, subject-unfit, object-unfit, next-long, all-put, next-sought, try-start, try-end, gave-up, none-left, found-here, try-step}
 use borrow.Fn.Kinds.{In}
 use borrow.Fn.PlainCycle.{Measures, is, falls, and}
-use Rattle.query.proofs.Steps.{few-patterns, right-subject, right-object}
-use Rattle.query_search.proofs.Tries.{one-fewer, other-subject, other-object, last-pattern, next-pattern, try-none, try-first, try-left, try-right}
 use Rattle.query_search.proofs.try_pattern.Reads as try-pattern
 use Rattle.query_search.proofs.try_pattern.Kinds as try-pattern-kinds
 use Rattle.query_search.proofs.+try_pattern+try_triple.Lts-try_pattern as try-pattern-lts
@@ -14,6 +16,8 @@ use Rattle.query_search.proofs.+try_pattern+try_triple.Lts-try_triple a
 use Rattle.lists.proofs.triple_at.Reads as triple-at-reads
 use Rattle.query_parts.proofs.first_fit.Reads as first-fit-reads
 use Rattle.query_parts.proofs.fit_end.Reads as fit-end-reads
+use Rattle.query_rows.proofs.allowed.Reads as allowed-reads
+use Rattle.query_search.proofs.spend.Reads as spend-reads
 use Rattle.query_search.proofs.+try_pattern+try_triple.{statement}
 use Rattle.query_search.proofs.+try_pattern+try_triple.Tie.{close}
 
@@ -21,236 +25,573 @@ use Rattle.query_search.proofs.+try_pattern+try_triple.Tie.{close}
 abbrev falling : ℕ → ℕ → ℕ → ℕ
 falling patterns table triples = patterns * (table / 3 + 1) + triples
 
-abbrev μ-try-pattern : Measures 2 try-pattern-kinds.ps ℕ
-μ-try-pattern κs a = falling (a .1 .1 .0 .count - a .1 .1 .1 .1 .0) (length (a .0 .now)) (a .1 .1 .1 .1 .1 .1 .0 - a .1 .1 .1 .1 .1 .0)
+abbrev μ-try-pattern : Measures 4 try-pattern-kinds.ps ℕ
+μ-try-pattern κs a = falling (a .1 .1 .1 .0 .count - a .1 .1 .1 .1 .1 .0) (length (a .0 .now)) 0
 
-abbrev μ-try-triple : Measures 2 try-triple-kinds.ps ℕ
-μ-try-triple κs a = falling (a .1 .1 .0 .count - a .1 .1 .1 .1 .0) (length (a .0 .now)) 0
+abbrev μ-try-triple : Measures 4 try-triple-kinds.ps ℕ
+μ-try-triple κs a =
+    falling (a .1 .1 .1 .0 .count - (a .1 .1 .1 .1 .1 .0 + 1)) (length (a .0 .now)) (length (a .0 .now) / 3 - a .1 .1 .1 .1 .1 .1 .0)
 
-abbrev try-pattern-at : ℕ → In 2 try-pattern-kinds.ps
+abbrev try-pattern-at : ℕ → In 4 try-pattern-kinds.ps
 try-pattern-at t =
-    and 2 try-pattern-kinds.ps (is 2 try-pattern-kinds.ps μ-try-pattern t) try-pattern.Pre
+    and 4 try-pattern-kinds.ps (is 4 try-pattern-kinds.ps μ-try-pattern t) try-pattern.Pre
 
-abbrev try-pattern-below : ℕ → In 2 try-pattern-kinds.ps
+abbrev try-pattern-below : ℕ → In 4 try-pattern-kinds.ps
 try-pattern-below t =
-    and 2 try-pattern-kinds.ps (falls 2 try-pattern-kinds.ps _<_ μ-try-pattern t) try-pattern.Pre
+    and 4 try-pattern-kinds.ps (falls 4 try-pattern-kinds.ps _<_ μ-try-pattern t) try-pattern.Pre
 
-abbrev try-triple-at : ℕ → In 2 try-triple-kinds.ps
+abbrev try-triple-at : ℕ → In 4 try-triple-kinds.ps
 try-triple-at t =
-    and 2 try-triple-kinds.ps (is 2 try-triple-kinds.ps μ-try-triple t) try-triple.Pre
+    and 4 try-triple-kinds.ps (is 4 try-triple-kinds.ps μ-try-triple t) try-triple.Pre
 
-abbrev try-triple-below : ℕ → In 2 try-triple-kinds.ps
+abbrev try-triple-below : ℕ → In 4 try-triple-kinds.ps
 try-triple-below t =
-    and 2 try-triple-kinds.ps (falls 2 try-triple-kinds.ps _<_ μ-try-triple t) try-triple.Pre
+    and 4 try-triple-kinds.ps (falls 4 try-triple-kinds.ps _<_ μ-try-triple t) try-triple.Pre
 
-abbrev pattern-calls : ℕ → try-pattern-lts.Claims
-pattern-calls t = (
+abbrev try-pattern-Inv-loop : try-pattern-lts.InvT-loop
+try-pattern-Inv-loop table map rows bindings k rising limited steps₀ q pattern n from₀ steps from =
+    NoneSoFar table map rows q k bindings limited steps₀ steps from
+
+abbrev try-pattern-μ-loop : try-pattern-lts.MeasureT-loop
+try-pattern-μ-loop table map rows bindings k rising limited steps₀ q pattern n from₀ steps from =
+    n - from
+
+try-pattern-mul-pattern : (t : ℕ) → try-pattern-lts.Need-mul-pattern (
   first-fit-reads.Asked,
   first-fit-reads.Learnt,
+  spend-reads.Asked,
+  spend-reads.Learnt,
   try-triple-below t,
   try-triple.Post,
-  try-pattern-below t,
-  try-pattern.Post,
-)
+) (try-pattern-at t) try-pattern.Post try-pattern-Inv-loop try-pattern-μ-loop
+try-pattern-mul-pattern t c =
+    omega (arith, few-patterns _ _ (c .before .before .before .pre .1 .0))
 
-abbrev triple-calls : ℕ → try-triple-lts.Claims
-triple-calls t = (
+try-pattern-element-copy-out-pattern : (t : ℕ) → try-pattern-lts.Need-element-copy-out-pattern (
+  first-fit-reads.Asked,
+  first-fit-reads.Learnt,
+  spend-reads.Asked,
+  spend-reads.Learnt,
+  try-triple-below t,
+  try-triple.Post,
+) (try-pattern-at t) try-pattern.Post try-pattern-Inv-loop try-pattern-μ-loop
+try-pattern-element-copy-out-pattern t c =
+    omega (arith, few-patterns _ _ (c .before .before .before .pre .1 .0))
+
+try-pattern-loop-holds : (t : ℕ) → try-pattern-lts.Need-loop-holds (
+  first-fit-reads.Asked,
+  first-fit-reads.Learnt,
+  spend-reads.Asked,
+  spend-reads.Learnt,
+  try-triple-below t,
+  try-triple.Post,
+) (try-pattern-at t) try-pattern.Post try-pattern-Inv-loop try-pattern-μ-loop
+try-pattern-loop-holds t c =
+    let start = c .before .before .before .before in
+    let x = start .args in
+    let h = start .pre .1 in
+    try-start (x .table .now) (x .map .now) (x .rows .now) (x .t4) (h .0) (x .k) (h .1) (x .bindings) (h .5) (x .limited) _
+
+try-pattern-first-fit-requires : (t : ℕ) → try-pattern-lts.Need-first-fit-requires (
+  first-fit-reads.Asked,
+  first-fit-reads.Learnt,
+  spend-reads.Asked,
+  spend-reads.Learnt,
+  try-triple-below t,
+  try-triple.Post,
+) (try-pattern-at t) try-pattern.Post try-pattern-Inv-loop try-pattern-μ-loop
+try-pattern-first-fit-requires t c κs =
+    let start = c .before .before .before .before .before .before in
+    let x = start .args in
+    let h = start .pre .1 in
+    (right-subject _ (x .t4) (h .0) (x .k) (h .1), right-object _ (x .t4) (h .0) (x .k) (h .1), omega arith, omega arith, h .2)
+
+try-pattern-spend-requires : (t : ℕ) → try-pattern-lts.Need-spend-requires (
+  first-fit-reads.Asked,
+  first-fit-reads.Learnt,
+  spend-reads.Asked,
+  spend-reads.Learnt,
+  try-triple-below t,
+  try-triple.Post,
+) (try-pattern-at t) try-pattern.Post try-pattern-Inv-loop try-pattern-μ-loop
+try-pattern-spend-requires t c κs =
+    search needs
+
+try-pattern-returns : (t : ℕ) → try-pattern-lts.Need-returns (
+  first-fit-reads.Asked,
+  first-fit-reads.Learnt,
+  spend-reads.Asked,
+  spend-reads.Learnt,
+  try-triple-below t,
+  try-triple.Post,
+) (try-pattern-at t) try-pattern.Post try-pattern-Inv-loop try-pattern-μ-loop
+try-pattern-returns t c =
+    let back3 = c .before .before .before in
+    let back5 = back3 .before .before in
+    let start = back5 .before .before .before .before .before in
+    let x = start .args in
+    let h = start .pre .1 in
+    gave-up (x .table .now) (x .map .now) (x .rows .now) (x .t4) (h .0) (x .k) (h .1) (x .bindings) (h .5) (x .limited) _ _ _
+    (back5 .loop .inv) _ (back3 .first-fit .ensures) _ (c .before .spend .ensures) (c .if1 .taken)
+
+try-pattern-returns-2 : (t : ℕ) → try-pattern-lts.Need-returns-2 (
+  first-fit-reads.Asked,
+  first-fit-reads.Learnt,
+  spend-reads.Asked,
+  spend-reads.Learnt,
+  try-triple-below t,
+  try-triple.Post,
+) (try-pattern-at t) try-pattern.Post try-pattern-Inv-loop try-pattern-μ-loop
+try-pattern-returns-2 t c =
+    let back4 = c .before .before .before .before in
+    let back6 = back4 .before .before in
+    let start = back6 .before .before .before .before .before in
+    let x = start .args in
+    let h = start .pre .1 in
+    none-left (x .table .now) (x .map .now) (x .rows .now) (x .t4) (h .0) (x .k) (h .1) (x .bindings) (h .5) (x .limited) _ _ _
+    (back6 .loop .inv) _ (back4 .first-fit .ensures) _ (c .before .before .spend .ensures) (c .if2 .taken)
+
+try-pattern-try-triple-requires : (t : ℕ) → try-pattern-lts.Need-try-triple-requires (
+  first-fit-reads.Asked,
+  first-fit-reads.Learnt,
+  spend-reads.Asked,
+  spend-reads.Learnt,
+  try-triple-below t,
+  try-triple.Post,
+) (try-pattern-at t) try-pattern.Post try-pattern-Inv-loop try-pattern-μ-loop
+try-pattern-try-triple-requires t c κs =
+    let back5 = c .before .before .before .before .before in
+    let start = back5 .before .before .before .before .before .before .before in
+    let x = start .args in
+    let h = start .pre .1 in
+    let w = back5 .first-fit .ensures in
+    let m : back5 .first-fit .result .place < length (x .table .now) / 3 = omega (arith, w .high) in (
+      omega (arith, one-fewer (x .t4 .count) (x .k) (length (x .table .now) / 3 + 1) (h .1)),
+      (h .0, h .1, omega arith, w .has m, h .2, h .3, h .4, h .5),
+    )
+
+try-pattern-returns-3 : (t : ℕ) → try-pattern-lts.Need-returns-3 (
+  first-fit-reads.Asked,
+  first-fit-reads.Learnt,
+  spend-reads.Asked,
+  spend-reads.Learnt,
+  try-triple-below t,
+  try-triple.Post,
+) (try-pattern-at t) try-pattern.Post try-pattern-Inv-loop try-pattern-μ-loop
+try-pattern-returns-3 t c =
+    let back5 = c .before .before .before .before .before in
+    let back7 = back5 .before .before in
+    let back9 = back7 .before .before in
+    let start = back9 .before .before .before .before .before in
+    let x = start .args in
+    let h = start .pre .1 in
+    found-here (x .table .now) (x .map .now) (x .rows .now) (x .t4) (h .0) (x .k) (h .1) (x .bindings) (h .5) (x .limited) _ _ _
+    (back9 .loop .inv) _ (back7 .first-fit .ensures) _ (back5 .spend .ensures) _ (c .before .try-triple .ensures) (c .if3 .taken)
+
+try-pattern-add-from : (t : ℕ) → try-pattern-lts.Need-add-from (
+  first-fit-reads.Asked,
+  first-fit-reads.Learnt,
+  spend-reads.Asked,
+  spend-reads.Learnt,
+  try-triple-below t,
+  try-triple.Post,
+) (try-pattern-at t) try-pattern.Post try-pattern-Inv-loop try-pattern-μ-loop
+try-pattern-add-from t c =
+    let w = c .before .before .before .before .before .before .before .first-fit .ensures in
+    omega (arith, w .high)
+
+try-pattern-loop-less : (t : ℕ) → try-pattern-lts.Need-loop-less (
+  first-fit-reads.Asked,
+  first-fit-reads.Learnt,
+  spend-reads.Asked,
+  spend-reads.Learnt,
+  try-triple-below t,
+  try-triple.Post,
+) (try-pattern-at t) try-pattern.Post try-pattern-Inv-loop try-pattern-μ-loop
+try-pattern-loop-less t c =
+    let w = c .before .before .before .before .before .before .before .first-fit .ensures in
+    omega (arith, w .low, w .high)
+
+try-pattern-loop-again : (t : ℕ) → try-pattern-lts.Need-loop-again (
+  first-fit-reads.Asked,
+  first-fit-reads.Learnt,
+  spend-reads.Asked,
+  spend-reads.Learnt,
+  try-triple-below t,
+  try-triple.Post,
+) (try-pattern-at t) try-pattern.Post try-pattern-Inv-loop try-pattern-μ-loop
+try-pattern-loop-again t c =
+    let back5 = c .before .before .before .before .before in
+    let back7 = back5 .before .before in
+    let back9 = back7 .before .before in
+    let start = back9 .before .before .before .before .before in
+    let x = start .args in
+    let h = start .pre .1 in
+    let w = back7 .first-fit .ensures in
+    try-step (x .table .now) (x .map .now) (x .rows .now) (x .t4) (h .0) (x .k) (h .1) (x .bindings) (h .5) (x .limited) _ _ _
+    (back9 .loop .inv) _ w _ (back5 .spend .ensures) _ (c .before .try-triple .ensures) (omega (arith, w .high)) (c .if3 .left)
+
+try-pattern-returns-4 : (t : ℕ) → try-pattern-lts.Need-returns-4 (
+  first-fit-reads.Asked,
+  first-fit-reads.Learnt,
+  spend-reads.Asked,
+  spend-reads.Learnt,
+  try-triple-below t,
+  try-triple.Post,
+) (try-pattern-at t) try-pattern.Post try-pattern-Inv-loop try-pattern-μ-loop
+try-pattern-returns-4 t c =
+    let start = c .before .before .before .before .before .before in
+    let x = start .args in
+    let h = start .pre .1 in
+    try-end (x .table .now) (x .map .now) (x .rows .now) (x .t4) (h .0) (x .k) (h .1) (x .bindings) (h .5) (x .limited) _ _ _ (c .before .loop .inv)
+    (c .loop-test .left)
+
+try-triple-mul-pattern : (t : ℕ) → try-triple-lts.Need-mul-pattern (
   triple-at-reads.Asked,
   triple-at-reads.Learnt,
+  allowed-reads.Asked,
+  allowed-reads.Learnt,
   fit-end-reads.Asked,
   fit-end-reads.Learnt,
   try-pattern-below t,
   try-pattern.Post,
-)
+) (try-triple-at t) try-triple.Post
+try-triple-mul-pattern t c =
+    omega (arith, few-patterns _ _ (c .before .before .before .pre .1 .0))
 
-module _ (t : ℕ) where
-  try-pattern-mul-pattern : try-pattern-lts.Need-mul-pattern (pattern-calls t) (try-pattern-at t) try-pattern.Post
-  try-pattern-mul-pattern c = omega (arith, few-patterns _ _ (c .before .before .pre .1 .0))
+try-triple-element-copy-out-pattern : (t : ℕ) → try-triple-lts.Need-element-copy-out-pattern (
+  triple-at-reads.Asked,
+  triple-at-reads.Learnt,
+  allowed-reads.Asked,
+  allowed-reads.Learnt,
+  fit-end-reads.Asked,
+  fit-end-reads.Learnt,
+  try-pattern-below t,
+  try-pattern.Post,
+) (try-triple-at t) try-triple.Post
+try-triple-element-copy-out-pattern t c =
+    omega (arith, few-patterns _ _ (c .before .before .before .pre .1 .0))
 
-  try-pattern-element-copy-out-pattern : try-pattern-lts.Need-element-copy-out-pattern (pattern-calls t) (try-pattern-at t) try-pattern.Post
-  try-pattern-element-copy-out-pattern c = omega (arith, few-patterns _ _ (c .before .before .pre .1 .0))
+try-triple-triple-at-requires : (t : ℕ) → try-triple-lts.Need-triple-at-requires (
+  triple-at-reads.Asked,
+  triple-at-reads.Learnt,
+  allowed-reads.Asked,
+  allowed-reads.Learnt,
+  fit-end-reads.Asked,
+  fit-end-reads.Learnt,
+  try-pattern-below t,
+  try-pattern.Post,
+) (try-triple-at t) try-triple.Post
+try-triple-triple-at-requires t c κs =
+    c .before .before .before .before .pre .1 .2
 
-  try-pattern-first-fit-requires : try-pattern-lts.Need-first-fit-requires (pattern-calls t) (try-pattern-at t) try-pattern.Post
-  try-pattern-first-fit-requires c κs =
-      let start = c .before .before .before in
-      let x = start .args in
-      let p = start .pre .1 in
-      (right-subject _ (x .t3) (p .0) (x .k) (p .1), p .2, p .3, p .4)
+try-triple-allowed-requires : (t : ℕ) → try-triple-lts.Need-allowed-requires (
+  triple-at-reads.Asked,
+  triple-at-reads.Learnt,
+  allowed-reads.Asked,
+  allowed-reads.Learnt,
+  fit-end-reads.Asked,
+  fit-end-reads.Learnt,
+  try-pattern-below t,
+  try-pattern.Post,
+) (try-triple-at t) try-triple.Post
+try-triple-allowed-requires t c κs =
+    c .before .before .before .before .before .pre .1 .6
 
-  try-pattern-returns : try-pattern-lts.Need-returns (pattern-calls t) (try-pattern-at t) try-pattern.Post
-  try-pattern-returns c =
-      let start = c .before .before .before .before .before in
-      let x = start .args in
-      try-none (x .table .now) (x .map .now) (x .t3) (x .k) (x .bindings) _ _ _ (c .before .first-fit .ensures) (c .if1 .taken)
+try-triple-returns : (t : ℕ) → try-triple-lts.Need-returns (
+  triple-at-reads.Asked,
+  triple-at-reads.Learnt,
+  allowed-reads.Asked,
+  allowed-reads.Learnt,
+  fit-end-reads.Asked,
+  fit-end-reads.Learnt,
+  try-pattern-below t,
+  try-pattern.Post,
+) (try-triple-at t) try-triple.Post
+try-triple-returns t c =
+    let start = c .before .before .before .before .before .before .before in
+    let x = start .args in
+    let h = start .pre .1 in
+    subject-outside (x .table .now) (x .map .now) (x .rows .now) (x .t4) (h .0) (x .k) (h .1) (x .bindings) (h .7) (h .5) (x .i) (h .2) (h .3)
+    (x .limited) _ _ (c .before .before .triple-at .ensures)
+    (c .before .allowed .ensures) (not-true _ (c .if1 .taken))
 
-  try-pattern-try-triple-requires : try-pattern-lts.Need-try-triple-requires (pattern-calls t) (try-pattern-at t) try-pattern.Post
-  try-pattern-try-triple-requires c κs =
-      let start = c .before .before .before .before .before in
-      (omega arith, (start .pre .1 .0, start .pre .1 .1, omega arith, c .before .first-fit .ensures .has (omega arith), start .pre .1 .4))
+try-triple-allowed-requires-2 : (t : ℕ) → try-triple-lts.Need-allowed-requires-2 (
+  triple-at-reads.Asked,
+  triple-at-reads.Learnt,
+  allowed-reads.Asked,
+  allowed-reads.Learnt,
+  fit-end-reads.Asked,
+  fit-end-reads.Learnt,
+  try-pattern-below t,
+  try-pattern.Post,
+) (try-triple-at t) try-triple.Post
+try-triple-allowed-requires-2 t c κs =
+    c .before .before .before .before .before .before .before .pre .1 .6
 
-  try-pattern-returns-2 : try-pattern-lts.Need-returns-2 (pattern-calls t) (try-pattern-at t) try-pattern.Post
-  try-pattern-returns-2 c =
-      let back3 = c .before .before .before in
-      let start = back3 .before .before .before .before in
-      let x = start .args in
-      try-first (x .table .now) (x .map .now) (x .t3) (x .k) (x .bindings) _ _ _ (back3 .first-fit .ensures) (omega arith)
-      (c .before .try-triple .ensures) (c .if2 .taken)
+try-triple-returns-2 : (t : ℕ) → try-triple-lts.Need-returns-2 (
+  triple-at-reads.Asked,
+  triple-at-reads.Learnt,
+  allowed-reads.Asked,
+  allowed-reads.Learnt,
+  fit-end-reads.Asked,
+  fit-end-reads.Learnt,
+  try-pattern-below t,
+  try-pattern.Post,
+) (try-triple-at t) try-triple.Post
+try-triple-returns-2 t c =
+    let back4 = c .before .before .before .before in
+    let start = back4 .before .before .before .before .before in
+    let x = start .args in
+    let h = start .pre .1 in
+    object-outside (x .table .now) (x .map .now) (x .rows .now) (x .t4) (h .0) (x .k) (h .1) (x .bindings) (h .7) (h .5) (x .i) (h .2) (h .3)
+    (x .limited) _ _ (back4 .triple-at .ensures)
+    (c .before .allowed2 .ensures) (not-true _ (c .if2 .taken))
 
-  try-pattern-add-middle : try-pattern-lts.Need-add-middle (pattern-calls t) (try-pattern-at t) try-pattern.Post
-  try-pattern-add-middle c = omega arith
+try-triple-fit-end-requires : (t : ℕ) → try-triple-lts.Need-fit-end-requires (
+  triple-at-reads.Asked,
+  triple-at-reads.Learnt,
+  allowed-reads.Asked,
+  allowed-reads.Learnt,
+  fit-end-reads.Asked,
+  fit-end-reads.Learnt,
+  try-pattern-below t,
+  try-pattern.Post,
+) (try-triple-at t) try-triple.Post
+try-triple-fit-end-requires t c κs =
+    let start = c .before .before .before .before .before .before .before .before .before in
+    let x = start .args in
+    let h = start .pre .1 in
+    right-subject _ (x .t4) (h .0) (x .k) (h .1)
 
-  try-pattern-sub-middle : try-pattern-lts.Need-sub-middle (pattern-calls t) (try-pattern-at t) try-pattern.Post
-  try-pattern-sub-middle c = omega arith
+try-triple-returns-3 : (t : ℕ) → try-triple-lts.Need-returns-3 (
+  triple-at-reads.Asked,
+  triple-at-reads.Learnt,
+  allowed-reads.Asked,
+  allowed-reads.Learnt,
+  fit-end-reads.Asked,
+  fit-end-reads.Learnt,
+  try-pattern-below t,
+  try-pattern.Post,
+) (try-triple-at t) try-triple.Post
+try-triple-returns-3 t c =
+    let back7 = c .before .before .before .before .before .before .before in
+    let start = back7 .before .before .before .before .before in
+    let x = start .args in
+    let h = start .pre .1 in
+    subject-unfit (x .table .now) (x .map .now) (x .rows .now) (x .t4) (h .0) (x .k) (h .1) (x .bindings) (h .7) (h .5) (x .i) (h .2) (h .3)
+    (x .limited) _ _ (back7 .triple-at .ensures)
+    _ (c .before .before .fit-end .ensures) (not-true _ (c .if3 .taken))
 
-  try-pattern-sub-middle-2 : try-pattern-lts.Need-sub-middle-2 (pattern-calls t) (try-pattern-at t) try-pattern.Post
-  try-pattern-sub-middle-2 c = omega arith
+try-triple-fit-end-requires-2 : (t : ℕ) → try-triple-lts.Need-fit-end-requires-2 (
+  triple-at-reads.Asked,
+  triple-at-reads.Learnt,
+  allowed-reads.Asked,
+  allowed-reads.Learnt,
+  fit-end-reads.Asked,
+  fit-end-reads.Learnt,
+  try-pattern-below t,
+  try-pattern.Post,
+) (try-triple-at t) try-triple.Post
+try-triple-fit-end-requires-2 t c κs =
+    let start = c .before .before .before .before .before .before .before .before .before .before .before .before .before in
+    let x = start .args in
+    let h = start .pre .1 in
+    right-object _ (x .t4) (h .0) (x .k) (h .1)
 
-  try-pattern-add-middle-2 : try-pattern-lts.Need-add-middle-2 (pattern-calls t) (try-pattern-at t) try-pattern.Post
-  try-pattern-add-middle-2 c = omega arith
+try-triple-returns-4 : (t : ℕ) → try-triple-lts.Need-returns-4 (
+  triple-at-reads.Asked,
+  triple-at-reads.Learnt,
+  allowed-reads.Asked,
+  allowed-reads.Learnt,
+  fit-end-reads.Asked,
+  fit-end-reads.Learnt,
+  try-pattern-below t,
+  try-pattern.Post,
+) (try-triple-at t) try-triple.Post
+try-triple-returns-4 t c =
+    let back4 = c .before .before .before .before in
+    let back6 = back4 .before .before in
+    let back11 = back6 .before .before .before .before .before in
+    let start = back11 .before .before .before .before .before in
+    let x = start .args in
+    let h = start .pre .1 in
+    object-unfit (x .table .now) (x .map .now) (x .rows .now) (x .t4) (h .0) (x .k) (h .1) (x .bindings) (h .7) (h .5) (x .i) (h .2) (h .3)
+    (x .limited) _ _ (back11 .triple-at .ensures)
+    _ (back6 .fit-end .ensures) (not-false _ (back4 .if3 .left)) _ (c .before .before .fit-end2 .ensures) (not-true _ (c .if4 .taken))
 
-  try-pattern-add-try-pattern : try-pattern-lts.Need-add-try-pattern (pattern-calls t) (try-pattern-at t) try-pattern.Post
-  try-pattern-add-try-pattern c = omega arith
+try-triple-cast-count : (t : ℕ) → try-triple-lts.Need-cast-count (
+  triple-at-reads.Asked,
+  triple-at-reads.Learnt,
+  allowed-reads.Asked,
+  allowed-reads.Learnt,
+  fit-end-reads.Asked,
+  fit-end-reads.Learnt,
+  try-pattern-below t,
+  try-pattern.Post,
+) (try-triple-at t) try-triple.Post
+try-triple-cast-count t c =
+    let start = c .before .before .before .before .before .before .before .before .before .before .before .before .before .before .before .before in
+    record { fits = omega (arith, few-patterns _ _ (start .pre .1 .0)) }
 
-  try-pattern-try-pattern-requires : try-pattern-lts.Need-try-pattern-requires (pattern-calls t) (try-pattern-at t) try-pattern.Post
-  try-pattern-try-pattern-requires c κs =
-      let start = c .before .before .before .before .before .before .before in
-      (omega arith, (start .pre .1 .0, start .pre .1 .1, omega arith, omega arith, start .pre .1 .4))
+try-triple-add-if5 : (t : ℕ) → try-triple-lts.Need-add-if5 (
+  triple-at-reads.Asked,
+  triple-at-reads.Learnt,
+  allowed-reads.Asked,
+  allowed-reads.Learnt,
+  fit-end-reads.Asked,
+  fit-end-reads.Learnt,
+  try-pattern-below t,
+  try-pattern.Post,
+) (try-triple-at t) try-triple.Post
+try-triple-add-if5 t c =
+    let start = c .before .before .before .before .before .before .before .before .before .before .before .before .before .before .before .before in
+    omega (arith, few-patterns _ _ (start .pre .1 .0))
 
-  try-pattern-returns-3 : try-pattern-lts.Need-returns-3 (pattern-calls t) (try-pattern-at t) try-pattern.Post
-  try-pattern-returns-3 c =
-      let back3 = c .before .before .before in
-      let back5 = back3 .before .before in
-      let start = back5 .before .before .before .before in
-      let x = start .args in
-      try-left (x .table .now) (x .map .now) (x .t3) (x .k) (x .bindings) _ _ _ (back5 .first-fit .ensures) (omega arith)
-      (back3 .try-triple .ensures) (c .before .before .if2 .left) _ (omega arith) (omega arith) (c .before .try-pattern .ensures) (c .if3 .taken)
+try-triple-returns-5 : (t : ℕ) → try-triple-lts.Need-returns-5 (
+  triple-at-reads.Asked,
+  triple-at-reads.Learnt,
+  allowed-reads.Asked,
+  allowed-reads.Learnt,
+  fit-end-reads.Asked,
+  fit-end-reads.Learnt,
+  try-pattern-below t,
+  try-pattern.Post,
+) (try-triple-at t) try-triple.Post
+try-triple-returns-5 t c =
+    let back3 = c .before .before .before in
+    let back5 = back3 .before .before in
+    let back7 = back5 .before .before in
+    let back12 = back7 .before .before .before .before .before in
+    let start = back12 .before .before .before .before .before in
+    let x = start .args in
+    let h = start .pre .1 in
+    all-put (x .table .now) (x .map .now) (x .rows .now) (x .t4) (h .0) (x .k) (h .1) (x .bindings) (h .7) (h .5) (x .i) (h .2) (h .3) (x .limited) _
+    _ (back12 .triple-at .ensures)
+    _ (back7 .fit-end .ensures) (not-false _ (back5 .if3 .left)) _ (back3 .fit-end2 .ensures) (not-false _ (c .before .if4 .left)) (c .if5 .taken)
 
-  try-pattern-try-pattern-requires-2 : try-pattern-lts.Need-try-pattern-requires-2 (pattern-calls t) (try-pattern-at t) try-pattern.Post
-  try-pattern-try-pattern-requires-2 c κs =
-      let start = c .before .before .before .before .before .before .before .before .before in
-      (omega arith, (start .pre .1 .0, start .pre .1 .1, omega arith, start .pre .1 .3, start .pre .1 .4))
+try-triple-add-try-pattern : (t : ℕ) → try-triple-lts.Need-add-try-pattern (
+  triple-at-reads.Asked,
+  triple-at-reads.Learnt,
+  allowed-reads.Asked,
+  allowed-reads.Learnt,
+  fit-end-reads.Asked,
+  fit-end-reads.Learnt,
+  try-pattern-below t,
+  try-pattern.Post,
+) (try-triple-at t) try-triple.Post
+try-triple-add-try-pattern t c =
+    let start = c .before .before .before .before .before .before .before .before .before .before .before .before .before .before .before .before .before .before in
+    omega (arith, few-patterns _ _ (start .pre .1 .0))
 
-  try-pattern-returns-4 : try-pattern-lts.Need-returns-4 (pattern-calls t) (try-pattern-at t) try-pattern.Post
-  try-pattern-returns-4 c =
-      let back3 = c .before .before .before in
-      let back4 = back3 .before in
-      let back6 = back4 .before .before in
-      let start = back6 .before .before .before .before in
-      let x = start .args in
-      try-right (x .table .now) (x .map .now) (x .t3) (x .k) (x .bindings) _ _ _ (back6 .first-fit .ensures) (omega arith)
-      (back4 .try-triple .ensures) (back3 .if2 .left) _ (omega arith) (omega arith) (c .before .before .try-pattern .ensures)
-      (c .before .if3 .left) (c .try-pattern2 .ensures)
+try-triple-try-pattern-requires : (t : ℕ) → try-triple-lts.Need-try-pattern-requires (
+  triple-at-reads.Asked,
+  triple-at-reads.Learnt,
+  allowed-reads.Asked,
+  allowed-reads.Learnt,
+  fit-end-reads.Asked,
+  fit-end-reads.Learnt,
+  try-pattern-below t,
+  try-pattern.Post,
+) (try-triple-at t) try-triple.Post
+try-triple-try-pattern-requires t c κs =
+    let back3 = c .before .before .before in
+    let back5 = back3 .before .before in
+    let back7 = back5 .before .before in
+    let back9 = back7 .before .before in
+    let back14 = back9 .before .before .before .before .before in
+    let start = back14 .before .before .before .before .before in
+    let x = start .args in
+    let h = start .pre .1 in (
+      falls-next (x .t4 .count - (x .k + 1)) (length (x .table .now)) (x .i) (start .pre .0) (h .2),
+      (
+        h .0,
+        omega (arith, h .1),
+        h .4,
+        h .5,
+        h .6,
+        next-long (x .table .now) (x .map .now) (x .rows .now) (x .t4) (h .0) (x .k) (h .1) (x .bindings) (h .7) (h .5) (x .i) (h .2) (h .3)
+            (x .limited) 0 _ (back14 .triple-at .ensures)
+            _ (back9 .fit-end .ensures) (not-false _ (back7 .if3 .left)) _ (back5 .fit-end2 .ensures) (not-false _ (back3 .if4 .left)),
+      ),
+    )
 
-  try-triple-mul-pattern : try-triple-lts.Need-mul-pattern (triple-calls t) (try-triple-at t) try-triple.Post
-  try-triple-mul-pattern c = omega (arith, few-patterns _ _ (c .before .before .pre .1 .0))
-
-  try-triple-element-copy-out-pattern : try-triple-lts.Need-element-copy-out-pattern (triple-calls t) (try-triple-at t) try-triple.Post
-  try-triple-element-copy-out-pattern c = omega (arith, few-patterns _ _ (c .before .before .pre .1 .0))
-
-  try-triple-triple-at-requires : try-triple-lts.Need-triple-at-requires (triple-calls t) (try-triple-at t) try-triple.Post
-  try-triple-triple-at-requires c κs = c .before .before .before .pre .1 .2
-
-  try-triple-fit-end-requires : try-triple-lts.Need-fit-end-requires (triple-calls t) (try-triple-at t) try-triple.Post
-  try-triple-fit-end-requires c κs =
-      let start = c .before .before .before .before in
-      let x = start .args in
-      right-subject _ (x .t3) (start .pre .1 .0) (x .k) (start .pre .1 .1)
-
-  try-triple-fit-end-requires-2 : try-triple-lts.Need-fit-end-requires-2 (triple-calls t) (try-triple-at t) try-triple.Post
-  try-triple-fit-end-requires-2 c κs =
-      let start = c .before .before .before .before .before .before .before in
-      let x = start .args in
-      right-object _ (x .t3) (start .pre .1 .0) (x .k) (start .pre .1 .1)
-
-  try-triple-cast-count : try-triple-lts.Need-cast-count (triple-calls t) (try-triple-at t) try-triple.Post
-  try-triple-cast-count c = omega arith
-
-  try-triple-add-if3 : try-triple-lts.Need-add-if3 (triple-calls t) (try-triple-at t) try-triple.Post
-  try-triple-add-if3 c = omega (arith, few-patterns _ _ (c .before .before .before .before .before .before .before .before .before .pre .1 .0))
-
-  try-triple-returns : try-triple-lts.Need-returns (triple-calls t) (try-triple-at t) try-triple.Post
-  try-triple-returns c =
-      let back4 = c .before .before .before .before in
-      let back5 = back4 .before in
-      let back6 = back5 .before in
-      let start = back6 .before .before .before .before in
-      let x = start .args in
-      last-pattern (x .table .now) (x .map .now) (x .t3) (x .k) (x .bindings) (x .i) (start .pre .1 .3) _ (back6 .triple-at .ensures) _
-      (back5 .fit-end .ensures) (back4 .if1 .taken) _ (c .before .before .fit-end2 .ensures) (c .before .if2 .taken) (c .if3 .taken)
-
-  try-triple-add-try-pattern : try-triple-lts.Need-add-try-pattern (triple-calls t) (try-triple-at t) try-triple.Post
-  try-triple-add-try-pattern c =
-      let start = c .before .before .before .before .before .before .before .before .before .before .before in
-      omega (arith, few-patterns _ _ (start .pre .1 .0))
-
-  try-triple-try-pattern-requires : try-triple-lts.Need-try-pattern-requires (triple-calls t) (try-triple-at t) try-triple.Post
-  try-triple-try-pattern-requires c κs =
-      let start = c .before .before .before .before .before .before .before .before .before .before .before in
-      let x = start .args in (
-        omega (arith, one-fewer (x .t3 .count) (x .k) (length (x .table .now) / 3 + 1) (start .pre .1 .1)),
-        (start .pre .1 .0, omega arith, omega arith, omega arith, start .pre .1 .4),
-      )
-
-  try-triple-returns-2 : try-triple-lts.Need-returns-2 (triple-calls t) (try-triple-at t) try-triple.Post
-  try-triple-returns-2 c =
-      let back3 = c .before .before .before in
-      let back4 = back3 .before in
-      let back6 = back4 .before .before in
-      let back7 = back6 .before in
-      let back8 = back7 .before in
-      let start = back8 .before .before .before .before in
-      let x = start .args in
-      next-pattern (x .table .now) (x .map .now) (x .t3) (x .k) (x .bindings) (x .i) (start .pre .1 .3) _ (back8 .triple-at .ensures) _
-      (back7 .fit-end .ensures) (back6 .if1 .taken) _ (back4 .fit-end2 .ensures) (back3 .if2 .taken) (start .pre .1 .1)
-      (c .before .before .if3 .left) _ (omega arith) (c .try-pattern .ensures)
-
-  try-triple-returns-3 : try-triple-lts.Need-returns-3 (triple-calls t) (try-triple-at t) try-triple.Post
-  try-triple-returns-3 c =
-      let back3 = c .before .before .before in
-      let back4 = back3 .before in
-      let back5 = back4 .before in
-      let start = back5 .before .before .before .before in
-      let x = start .args in
-      other-object (x .table .now) (x .map .now) (x .t3) (x .k) (x .bindings) (x .i) (start .pre .1 .3) _ (back5 .triple-at .ensures) _
-      (back4 .fit-end .ensures) (back3 .if1 .taken) _ (c .before .fit-end2 .ensures) (c .if2 .left)
-
-  try-triple-returns-4 : try-triple-lts.Need-returns-4 (triple-calls t) (try-triple-at t) try-triple.Post
-  try-triple-returns-4 c =
-      let start = c .before .before .before .before .before .before in
-      let x = start .args in
-      other-subject (x .table .now) (x .map .now) (x .t3) (x .k) (x .bindings) (x .i) (start .pre .1 .3) _ (c .before .before .triple-at .ensures) _
-      (c .before .fit-end .ensures) (c .if1 .left)
+try-triple-returns-6 : (t : ℕ) → try-triple-lts.Need-returns-6 (
+  triple-at-reads.Asked,
+  triple-at-reads.Learnt,
+  allowed-reads.Asked,
+  allowed-reads.Learnt,
+  fit-end-reads.Asked,
+  fit-end-reads.Learnt,
+  try-pattern-below t,
+  try-pattern.Post,
+) (try-triple-at t) try-triple.Post
+try-triple-returns-6 t c =
+    let back4 = c .before .before .before .before in
+    let back6 = back4 .before .before in
+    let back8 = back6 .before .before in
+    let back10 = back8 .before .before in
+    let back15 = back10 .before .before .before .before .before in
+    let start = back15 .before .before .before .before .before in
+    let x = start .args in
+    let h = start .pre .1 in
+    next-sought (x .table .now) (x .map .now) (x .rows .now) (x .t4) (h .0) (x .k) (h .1) (x .bindings) (h .7) (h .5) (x .i) (h .2) (h .3)
+    (x .limited) _ _ (back15 .triple-at .ensures)
+    _ (back10 .fit-end .ensures) (not-false _ (back8 .if3 .left)) _ (back6 .fit-end2 .ensures) (not-false _ (back4 .if4 .left)) _
+    (c .try-pattern .ensures)
 
 pub +try-pattern+try-triple-spec : {M : Type 1} → statement M
-+try-pattern+try-triple-spec =
-    close μ-try-pattern μ-try-triple
-    (λ t. try-pattern-lts.spec (pattern-calls t) (try-pattern-at t) try-pattern.Post
++try-pattern+try-triple-spec = close μ-try-pattern μ-try-triple (λ t. try-pattern-lts.spec (
+  first-fit-reads.Asked,
+  first-fit-reads.Learnt,
+  spend-reads.Asked,
+  spend-reads.Learnt,
+  try-triple-below t,
+  try-triple.Post,
+)
+    (try-pattern-at t)
+    try-pattern.Post
+    try-pattern-Inv-loop
+    try-pattern-μ-loop
     (try-pattern-mul-pattern t)
     (try-pattern-element-copy-out-pattern t)
+    (try-pattern-loop-holds t)
     (try-pattern-first-fit-requires t)
+    (try-pattern-spend-requires t)
     (try-pattern-returns t)
-    (try-pattern-try-triple-requires t)
     (try-pattern-returns-2 t)
-    (try-pattern-add-middle t)
-    (try-pattern-sub-middle t)
-    (try-pattern-sub-middle-2 t)
-    (try-pattern-add-middle-2 t)
-    (try-pattern-add-try-pattern t)
-    (try-pattern-try-pattern-requires t)
+    (try-pattern-try-triple-requires t)
     (try-pattern-returns-3 t)
-    (try-pattern-try-pattern-requires-2 t)
+    (try-pattern-add-from t)
+    (try-pattern-loop-less t)
+    (try-pattern-loop-again t)
     (try-pattern-returns-4 t))
-    λ t. try-triple-lts.spec (triple-calls t) (try-triple-at t) try-triple.Post
+    λ t. try-triple-lts.spec (
+      triple-at-reads.Asked,
+      triple-at-reads.Learnt,
+      allowed-reads.Asked,
+      allowed-reads.Learnt,
+      fit-end-reads.Asked,
+      fit-end-reads.Learnt,
+      try-pattern-below t,
+      try-pattern.Post,
+    )
+    (try-triple-at t)
+    try-triple.Post
     (try-triple-mul-pattern t)
     (try-triple-element-copy-out-pattern t)
     (try-triple-triple-at-requires t)
-    (try-triple-fit-end-requires t)
-    (try-triple-fit-end-requires-2 t)
-    (try-triple-cast-count t)
-    (try-triple-add-if3 t)
+    (try-triple-allowed-requires t)
     (try-triple-returns t)
+    (try-triple-allowed-requires-2 t)
+    (try-triple-returns-2 t)
+    (try-triple-fit-end-requires t)
+    (try-triple-returns-3 t)
+    (try-triple-fit-end-requires-2 t)
+    (try-triple-returns-4 t)
+    (try-triple-cast-count t)
+    (try-triple-add-if5 t)
+    (try-triple-returns-5 t)
     (try-triple-add-try-pattern t)
     (try-triple-try-pattern-requires t)
-    (try-triple-returns-2 t)
-    (try-triple-returns-3 t)
-    (try-triple-returns-4 t)
+    (try-triple-returns-6 t)

@@ -1,0 +1,4 @@
+pub mod Fills
+pub mod Marks
+pub mod Supports
+pub mod Sweeps

@@ -1,0 +1,69 @@
+use Prim.Native.Nat.{_-_}
+use mathlib.Core.Logic.{⊎-elim}
+use Rattle.query_order.proofs.Best.{CutTo, cut-start, cut-same, cut-here}
+use borrow.Author.Needs.{needs}
+use Rattle.query_order.proofs.cut_variable.Statement.{statement}
+use Rattle.query_order.proofs.cut_variable.Tie as tie
+
+abbrev Inv-loop : tie.InvT-loop
+Inv-loop q k bindings best₀ fewest₀ v₀ best fewest v = CutTo bindings v best
+
+abbrev μ-loop : tie.MeasureT-loop
+μ-loop q k bindings best₀ fewest₀ v₀ best fewest v = 8 - v
+
+closings-requires : tie.Need-closings-requires Inv-loop μ-loop
+closings-requires c κs = search needs
+
+loop-holds : tie.Need-loop-holds Inv-loop μ-loop
+loop-holds c = cut-start _
+
+cast-node : tie.Need-cast-node Inv-loop μ-loop
+cast-node c = search needs
+
+mul-node : tie.Need-mul-node Inv-loop μ-loop
+mul-node c = search needs
+
+array-read-node : tie.Need-array-read-node Inv-loop μ-loop
+array-read-node c = search needs
+
+is-absent-requires : tie.Need-is-absent-requires Inv-loop μ-loop
+is-absent-requires c κs = search needs
+
+closings-requires-2 : tie.Need-closings-requires-2 Inv-loop μ-loop
+closings-requires-2 c κs = search needs
+
+add-v : tie.Need-add-v Inv-loop μ-loop
+add-v c = search needs
+
+loop-less : tie.Need-loop-less Inv-loop μ-loop
+loop-less c = search needs
+
+loop-again : tie.Need-loop-again Inv-loop μ-loop
+loop-again c =
+    let back2 = c .before .before in
+    let d = back2 .before .loop .inv in
+    let l = back2 .loop-test .taken in
+    ⊎-elim (λ w. cut-here _ _ _ _ l (c .before .is-absent .ensures) (w .0 .taken) (w .3))
+    (⊎-elim (λ w. cut-same _ _ _ _ d l (w .3)) (λ w. cut-same _ _ _ _ d l (w .1)))
+    (c .if1 .came)
+
+returns : tie.Need-returns Inv-loop μ-loop
+returns c = c .before .loop .inv .free
+
+pub cut-variable-spec : {M : Type 1} → statement M
+cut-variable-spec =
+    tie.close
+    (tie.spec
+    Inv-loop
+    μ-loop
+    closings-requires
+    loop-holds
+    cast-node
+    mul-node
+    array-read-node
+    is-absent-requires
+    closings-requires-2
+    add-v
+    loop-less
+    loop-again
+    returns)

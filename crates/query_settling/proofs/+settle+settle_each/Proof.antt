@@ -1,0 +1,837 @@
+use Prim.Native.Nat.{ℕ, _+_, _-_, _*_, _<_, _≤_}
+use native.Mathlib.Omega.{arith}
+use mathlib.Core.Path.{sym, _∙_}
+use mathlib.Core.Bool.{true≢false}
+use borrow.Author.Tests.{not-false, not-true, ltb-true}
+use Rattle.query.proofs.Steps.{few-patterns}
+use Rattle.query_order.proofs.Arranged.{arranged-right}
+use Rattle.query_settling.proofs.Settles.{sized-as, fitting-arranged, fitting-fixed, rows-fewer, rows-more, swept-rows, unsupported, found-within, none-within, steps-left, cut-kept, copied-rows, settled-arranged, NoneFixed, fix-start, none-left, fix-found, fix-step, fix-end, each-falls, settle-falls}
+use borrow.Fn.Kinds.{In}
+use borrow.Fn.PlainCycle.{Measures, is, falls, and}
+use Rattle.query_settling.proofs.settle.Reads as settle
+use Rattle.query_settling.proofs.settle.Kinds as settle-kinds
+use Rattle.query_settling.proofs.+settle+settle_each.Lts-settle as settle-lts
+use Rattle.query_settling.proofs.settle_each.Reads as settle-each
+use Rattle.query_settling.proofs.settle_each.Kinds as settle-each-kinds
+use Rattle.query_settling.proofs.+settle+settle_each.Lts-settle_each as settle-each-lts
+use Rattle.query_domains.proofs.sweep_all.Reads as sweep-all-reads
+use Rattle.query_order.proofs.arrange.Reads as arrange-reads
+use Rattle.query_rows.proofs.copy_row.Reads as copy-row-reads
+use Rattle.query_rows.proofs.next_in_row.Reads as next-in-row-reads
+use Rattle.query_search.proofs.try_pattern.Reads as try-pattern-reads
+use Rattle.query_settling.proofs.next_cut.Reads as next-cut-reads
+use Rattle.query_settling.proofs.step_limit.Reads as step-limit-reads
+use Rattle.query_settling.proofs.+settle+settle_each.{statement}
+use Rattle.query_settling.proofs.+settle+settle_each.Tie.{close}
+
+abbrev μ-settle : Measures 3 settle-kinds.ps ℕ
+μ-settle κs a = 2 * (3 - a .1 .1 .1 .1 .1 .1 .1 .0) + 1
+
+abbrev μ-settle-each : Measures 3 settle-each-kinds.ps ℕ
+μ-settle-each κs a = 2 * (3 - a .1 .1 .1 .1 .1 .1 .1 .0)
+
+abbrev settle-at : ℕ → In 3 settle-kinds.ps
+settle-at t = and 3 settle-kinds.ps (is 3 settle-kinds.ps μ-settle t) settle.Pre
+
+abbrev settle-below : ℕ → In 3 settle-kinds.ps
+settle-below t = and 3 settle-kinds.ps (falls 3 settle-kinds.ps _<_ μ-settle t) settle.Pre
+
+abbrev settle-each-at : ℕ → In 3 settle-each-kinds.ps
+settle-each-at t =
+    and 3 settle-each-kinds.ps (is 3 settle-each-kinds.ps μ-settle-each t) settle-each.Pre
+
+abbrev settle-each-below : ℕ → In 3 settle-each-kinds.ps
+settle-each-below t =
+    and 3 settle-each-kinds.ps (falls 3 settle-each-kinds.ps _<_ μ-settle-each t) settle-each.Pre
+
+settle-arrange-requires : (t : ℕ) → settle-lts.Need-arrange-requires (
+  arrange-reads.Asked,
+  arrange-reads.Learnt,
+  sweep-all-reads.Asked,
+  sweep-all-reads.Learnt,
+  next-cut-reads.Asked,
+  next-cut-reads.Learnt,
+  step-limit-reads.Asked,
+  step-limit-reads.Learnt,
+  try-pattern-reads.Asked,
+  try-pattern-reads.Learnt,
+  copy-row-reads.Asked,
+  copy-row-reads.Learnt,
+  settle-each-below t,
+  settle-each.Post,
+) (settle-at t) settle.Post
+settle-arrange-requires t c κs =
+    let start = c .before .before .before in
+    let x = start .args in
+    let f = start .pre .1 .0 in
+    few-patterns _ _ (f .right)
+
+settle-sweep-all-requires : (t : ℕ) → settle-lts.Need-sweep-all-requires (
+  arrange-reads.Asked,
+  arrange-reads.Learnt,
+  sweep-all-reads.Asked,
+  sweep-all-reads.Learnt,
+  next-cut-reads.Asked,
+  next-cut-reads.Learnt,
+  step-limit-reads.Asked,
+  step-limit-reads.Learnt,
+  try-pattern-reads.Asked,
+  try-pattern-reads.Learnt,
+  copy-row-reads.Asked,
+  copy-row-reads.Learnt,
+  settle-each-below t,
+  settle-each.Post,
+) (settle-at t) settle.Post
+settle-sweep-all-requires t c κs =
+    let start = c .before .before .before .before .before in
+    let x = start .args in
+    let f = start .pre .1 .0 in
+    (arranged-right _ _ _ _ (c .before .arrange .ensures) (f .right), f .sized)
+
+settle-same-length : (t : ℕ) → settle-lts.Need-same-length (
+  arrange-reads.Asked,
+  arrange-reads.Learnt,
+  sweep-all-reads.Asked,
+  sweep-all-reads.Learnt,
+  next-cut-reads.Asked,
+  next-cut-reads.Learnt,
+  step-limit-reads.Asked,
+  step-limit-reads.Learnt,
+  try-pattern-reads.Asked,
+  try-pattern-reads.Learnt,
+  copy-row-reads.Asked,
+  copy-row-reads.Learnt,
+  settle-each-below t,
+  settle-each.Post,
+) (settle-at t) settle.Post
+settle-same-length t c =
+    c .before .before .before .sweep-all .ensures .size
+
+settle-returns : (t : ℕ) → settle-lts.Need-returns (
+  arrange-reads.Asked,
+  arrange-reads.Learnt,
+  sweep-all-reads.Asked,
+  sweep-all-reads.Learnt,
+  next-cut-reads.Asked,
+  next-cut-reads.Learnt,
+  step-limit-reads.Asked,
+  step-limit-reads.Learnt,
+  try-pattern-reads.Asked,
+  try-pattern-reads.Learnt,
+  copy-row-reads.Asked,
+  copy-row-reads.Learnt,
+  settle-each-below t,
+  settle-each.Post,
+) (settle-at t) settle.Post
+settle-returns t c =
+    let back3 = c .before .before .before in
+    let back5 = back3 .before .before in
+    let start = c .before .before .before .before .before .before .before .before .before in
+    let x = start .args in
+    let f = start .pre .1 .0 in
+    let a = back5 .arrange .ensures in
+    let w = back3 .sweep-all .ensures in (
+      unsupported (x .table .now) (x .map .now) _ _ (x .q) _ (x .k) (x .bindings) a w (not-true _ (c .if1 .taken)),
+      swept-rows (x .table .now)
+          (x .map .now) _ _ (x .q) _ (x .k) (x .bindings) a w _,
+    )
+
+settle-next-cut-requires : (t : ℕ) → settle-lts.Need-next-cut-requires (
+  arrange-reads.Asked,
+  arrange-reads.Learnt,
+  sweep-all-reads.Asked,
+  sweep-all-reads.Learnt,
+  next-cut-reads.Asked,
+  next-cut-reads.Learnt,
+  step-limit-reads.Asked,
+  step-limit-reads.Learnt,
+  try-pattern-reads.Asked,
+  try-pattern-reads.Learnt,
+  copy-row-reads.Asked,
+  copy-row-reads.Learnt,
+  settle-each-below t,
+  settle-each.Post,
+) (settle-at t) settle.Post
+settle-next-cut-requires t c κs =
+    let back5 = c .before .before .before .before .before in
+    let start = c .before .before .before .before .before .before .before .before .before in
+    let x = start .args in
+    let f = start .pre .1 .0 in
+    few-patterns _ _ (arranged-right _ _ _ _ (back5 .arrange .ensures) (f .right))
+
+settle-cast-step-limit : (t : ℕ) → settle-lts.Need-cast-step-limit (
+  arrange-reads.Asked,
+  arrange-reads.Learnt,
+  sweep-all-reads.Asked,
+  sweep-all-reads.Learnt,
+  next-cut-reads.Asked,
+  next-cut-reads.Learnt,
+  step-limit-reads.Asked,
+  step-limit-reads.Learnt,
+  try-pattern-reads.Asked,
+  try-pattern-reads.Learnt,
+  copy-row-reads.Asked,
+  copy-row-reads.Learnt,
+  settle-each-below t,
+  settle-each.Post,
+) (settle-at t) settle.Post
+settle-cast-step-limit t c =
+    let back8 = c .before .before .before .before .before .before .before .before in
+    let start = c .before .before .before .before .before .before .before .before .before .before .before .before in
+    let x = start .args in
+    let f = start .pre .1 .0 in
+    record { fits = omega (arith, few-patterns _ _ (arranged-right _ _ _ _ (back8 .arrange .ensures) (f .right))) }
+
+settle-step-limit-requires : (t : ℕ) → settle-lts.Need-step-limit-requires (
+  arrange-reads.Asked,
+  arrange-reads.Learnt,
+  sweep-all-reads.Asked,
+  sweep-all-reads.Learnt,
+  next-cut-reads.Asked,
+  next-cut-reads.Learnt,
+  step-limit-reads.Asked,
+  step-limit-reads.Learnt,
+  try-pattern-reads.Asked,
+  try-pattern-reads.Learnt,
+  copy-row-reads.Asked,
+  copy-row-reads.Learnt,
+  settle-each-below t,
+  settle-each.Post,
+) (settle-at t) settle.Post
+settle-step-limit-requires t c κs =
+    let back6 = c .before .before .before .before .before .before in
+    let back8 = back6 .before .before in
+    let start = c .before .before .before .before .before .before .before .before .before .before .before .before in
+    let x = start .args in
+    let f = start .pre .1 .0 in (
+      sized-as _ _ (back6 .sweep-all .ensures .size) (f .sized),
+      few-patterns _ _ (arranged-right _ _ _ _ (back8 .arrange .ensures) (f .right)),
+      omega
+          (arith, f .short),
+    )
+
+settle-try-pattern-requires : (t : ℕ) → settle-lts.Need-try-pattern-requires (
+  arrange-reads.Asked,
+  arrange-reads.Learnt,
+  sweep-all-reads.Asked,
+  sweep-all-reads.Learnt,
+  next-cut-reads.Asked,
+  next-cut-reads.Learnt,
+  step-limit-reads.Asked,
+  step-limit-reads.Learnt,
+  try-pattern-reads.Asked,
+  try-pattern-reads.Learnt,
+  copy-row-reads.Asked,
+  copy-row-reads.Learnt,
+  settle-each-below t,
+  settle-each.Post,
+) (settle-at t) settle.Post
+settle-try-pattern-requires t c κs =
+    let back9 = c .before .before .before .before .before .before .before .before .before in
+    let back11 = back9 .before .before in
+    let start = c .before .before .before .before .before .before .before .before .before .before .before .before .before .before .before in
+    let x = start .args in
+    let f = start .pre .1 .0 in
+    let a = back11 .arrange .ensures in (
+      arranged-right _ _ _ _ a (f .right),
+      omega (arith, f .counted, a .count),
+      f .order,
+      f .present,
+      sized-as _ _ (back9 .sweep-all .ensures .size) (f .sized) .1,
+      f .bound,
+    )
+
+settle-same-length-2 : (t : ℕ) → settle-lts.Need-same-length-2 (
+  arrange-reads.Asked,
+  arrange-reads.Learnt,
+  sweep-all-reads.Asked,
+  sweep-all-reads.Learnt,
+  next-cut-reads.Asked,
+  next-cut-reads.Learnt,
+  step-limit-reads.Asked,
+  step-limit-reads.Learnt,
+  try-pattern-reads.Asked,
+  try-pattern-reads.Learnt,
+  copy-row-reads.Asked,
+  copy-row-reads.Learnt,
+  settle-each-below t,
+  settle-each.Post,
+) (settle-at t) settle.Post
+settle-same-length-2 t c =
+    c .before .before .before .before .before .before .before .before .before .before .before .sweep-all .ensures .size
+
+settle-returns-2 : (t : ℕ) → settle-lts.Need-returns-2 (
+  arrange-reads.Asked,
+  arrange-reads.Learnt,
+  sweep-all-reads.Asked,
+  sweep-all-reads.Learnt,
+  next-cut-reads.Asked,
+  next-cut-reads.Learnt,
+  step-limit-reads.Asked,
+  step-limit-reads.Learnt,
+  try-pattern-reads.Asked,
+  try-pattern-reads.Learnt,
+  copy-row-reads.Asked,
+  copy-row-reads.Learnt,
+  settle-each-below t,
+  settle-each.Post,
+) (settle-at t) settle.Post
+settle-returns-2 t c =
+    let back11 = c .before .before .before .before .before .before .before .before .before .before .before in
+    let back13 = back11 .before .before in
+    let start = c .before .before .before .before .before .before .before .before .before .before .before .before .before .before .before .before .before in
+    let x = start .args in
+    let f = start .pre .1 .0 in
+    let a = back13 .arrange .ensures in
+    let w = back11 .sweep-all .ensures in (
+      found-within (x .table .now) (x .map .now) _ _ (x .q) _ (x .k) (x .bindings) a w _ _ _ (c .before .try-pattern .ensures) (c .if2 .taken),
+      swept-rows (x .table .now) (x .map .now) _ _ (x .q) _ (x .k) (x .bindings) a w _,
+    )
+
+settle-same-length-3 : (t : ℕ) → settle-lts.Need-same-length-3 (
+  arrange-reads.Asked,
+  arrange-reads.Learnt,
+  sweep-all-reads.Asked,
+  sweep-all-reads.Learnt,
+  next-cut-reads.Asked,
+  next-cut-reads.Learnt,
+  step-limit-reads.Asked,
+  step-limit-reads.Learnt,
+  try-pattern-reads.Asked,
+  try-pattern-reads.Learnt,
+  copy-row-reads.Asked,
+  copy-row-reads.Learnt,
+  settle-each-below t,
+  settle-each.Post,
+) (settle-at t) settle.Post
+settle-same-length-3 t c =
+    let back12 = c .before .before .before .before .before .before .before .before .before .before .before .before in
+    back12 .sweep-all .ensures .size
+
+settle-returns-3 : (t : ℕ) → settle-lts.Need-returns-3 (
+  arrange-reads.Asked,
+  arrange-reads.Learnt,
+  sweep-all-reads.Asked,
+  sweep-all-reads.Learnt,
+  next-cut-reads.Asked,
+  next-cut-reads.Learnt,
+  step-limit-reads.Asked,
+  step-limit-reads.Learnt,
+  try-pattern-reads.Asked,
+  try-pattern-reads.Learnt,
+  copy-row-reads.Asked,
+  copy-row-reads.Learnt,
+  settle-each-below t,
+  settle-each.Post,
+) (settle-at t) settle.Post
+settle-returns-3 t c =
+    let back12 = c .before .before .before .before .before .before .before .before .before .before .before .before in
+    let back14 = back12 .before .before in
+    let start = c .before .before .before .before .before .before .before .before .before .before .before .before .before .before .before .before .before .before in
+    let x = start .args in
+    let f = start .pre .1 .0 in
+    let a = back14 .arrange .ensures in
+    let w = back12 .sweep-all .ensures in (
+      none-within (x .table .now) (x .map .now) _ _ (x .q) _ (x .k) (x .bindings) a w _ _ _ (c .before .before .try-pattern .ensures)
+          (c .before .if2 .left) (λ e z. true≢false (sym e ∙ not-true _ (c .if3 .taken))),
+      swept-rows (x .table .now) (x .map .now) _ _ (x .q) _ (x .k)
+          (x .bindings) a w _,
+    )
+
+settle-same-length-4 : (t : ℕ) → settle-lts.Need-same-length-4 (
+  arrange-reads.Asked,
+  arrange-reads.Learnt,
+  sweep-all-reads.Asked,
+  sweep-all-reads.Learnt,
+  next-cut-reads.Asked,
+  next-cut-reads.Learnt,
+  step-limit-reads.Asked,
+  step-limit-reads.Learnt,
+  try-pattern-reads.Asked,
+  try-pattern-reads.Learnt,
+  copy-row-reads.Asked,
+  copy-row-reads.Learnt,
+  settle-each-below t,
+  settle-each.Post,
+) (settle-at t) settle.Post
+settle-same-length-4 t c =
+    let back13 = c .before .before .before .before .before .before .before .before .before .before .before .before .before in
+    back13 .sweep-all .ensures .size
+
+settle-returns-4 : (t : ℕ) → settle-lts.Need-returns-4 (
+  arrange-reads.Asked,
+  arrange-reads.Learnt,
+  sweep-all-reads.Asked,
+  sweep-all-reads.Learnt,
+  next-cut-reads.Asked,
+  next-cut-reads.Learnt,
+  step-limit-reads.Asked,
+  step-limit-reads.Learnt,
+  try-pattern-reads.Asked,
+  try-pattern-reads.Learnt,
+  copy-row-reads.Asked,
+  copy-row-reads.Learnt,
+  settle-each-below t,
+  settle-each.Post,
+) (settle-at t) settle.Post
+settle-returns-4 t c =
+    let back3 = c .before .before .before in
+    let back13 = back3 .before .before .before .before .before .before .before .before .before .before in
+    let back15 = back13 .before .before in
+    let start = c .before .before .before .before .before .before .before .before .before .before .before .before .before .before .before .before .before .before .before in
+    let x = start .args in
+    let f = start .pre .1 .0 in
+    let a = back15 .arrange .ensures in
+    let w = back13 .sweep-all .ensures in (
+      none-within (x .table .now) (x .map .now) _ _ (x .q) _ (x .k) (x .bindings) a w _ _ _ (back3 .try-pattern .ensures)
+          (c .before .before .if2 .left) (λ e z. steps-left _ (c .if4 .taken) z),
+      swept-rows (x .table .now) (x .map .now) _ _ (x .q) _ (x .k)
+          (x .bindings) a w _,
+    )
+
+settle-add-copy-row : (t : ℕ) → settle-lts.Need-add-copy-row (
+  arrange-reads.Asked,
+  arrange-reads.Learnt,
+  sweep-all-reads.Asked,
+  sweep-all-reads.Learnt,
+  next-cut-reads.Asked,
+  next-cut-reads.Learnt,
+  step-limit-reads.Asked,
+  step-limit-reads.Learnt,
+  try-pattern-reads.Asked,
+  try-pattern-reads.Learnt,
+  copy-row-reads.Asked,
+  copy-row-reads.Learnt,
+  settle-each-below t,
+  settle-each.Post,
+) (settle-at t) settle.Post
+settle-add-copy-row t c =
+    let start = c .before .before .before .before .before .before .before .before .before .before .before .before .before .before .before .before .before .before .before .before in
+    omega (arith, start .pre .1 .1)
+
+settle-cast-copy-row : (t : ℕ) → settle-lts.Need-cast-copy-row (
+  arrange-reads.Asked,
+  arrange-reads.Learnt,
+  sweep-all-reads.Asked,
+  sweep-all-reads.Learnt,
+  next-cut-reads.Asked,
+  next-cut-reads.Learnt,
+  step-limit-reads.Asked,
+  step-limit-reads.Learnt,
+  try-pattern-reads.Asked,
+  try-pattern-reads.Learnt,
+  copy-row-reads.Asked,
+  copy-row-reads.Learnt,
+  settle-each-below t,
+  settle-each.Post,
+) (settle-at t) settle.Post
+settle-cast-copy-row t c =
+    let back10 = c .before .before .before .before .before .before .before .before .before .before in
+    record { fits = omega (arith, back10 .next-cut .ensures .most) }
+
+settle-copy-row-requires : (t : ℕ) → settle-lts.Need-copy-row-requires (
+  arrange-reads.Asked,
+  arrange-reads.Learnt,
+  sweep-all-reads.Asked,
+  sweep-all-reads.Learnt,
+  next-cut-reads.Asked,
+  next-cut-reads.Learnt,
+  step-limit-reads.Asked,
+  step-limit-reads.Learnt,
+  try-pattern-reads.Asked,
+  try-pattern-reads.Learnt,
+  copy-row-reads.Asked,
+  copy-row-reads.Learnt,
+  settle-each-below t,
+  settle-each.Post,
+) (settle-at t) settle.Post
+settle-copy-row-requires t c κs =
+    let back10 = c .before .before .before .before .before .before .before .before .before .before in
+    let back14 = back10 .before .before .before .before in
+    let start = c .before .before .before .before .before .before .before .before .before .before .before .before .before .before .before .before .before .before .before .before in
+    let x = start .args in
+    let f = start .pre .1 .0 in
+    let cut = ltb-true _ 8 (not-false _ (c .before .before .if3 .left)) in
+    let less = back10 .next-cut .ensures .less cut in
+    (sized-as _ _ (back14 .sweep-all .ensures .size) (f .sized), omega arith, omega arith, λ e. let o : ⊥ = omega arith in o)
+
+settle-settle-each-requires : (t : ℕ) → settle-lts.Need-settle-each-requires (
+  arrange-reads.Asked,
+  arrange-reads.Learnt,
+  sweep-all-reads.Asked,
+  sweep-all-reads.Learnt,
+  next-cut-reads.Asked,
+  next-cut-reads.Learnt,
+  step-limit-reads.Asked,
+  step-limit-reads.Learnt,
+  try-pattern-reads.Asked,
+  try-pattern-reads.Learnt,
+  copy-row-reads.Asked,
+  copy-row-reads.Learnt,
+  settle-each-below t,
+  settle-each.Post,
+) (settle-at t) settle.Post
+settle-settle-each-requires t c κs =
+    let back3 = c .before .before .before in
+    let back6 = back3 .before .before .before in
+    let back14 = back6 .before .before .before .before .before .before .before .before in
+    let back18 = back14 .before .before .before .before in
+    let back20 = back18 .before .before in
+    let start = c .before .before .before .before .before .before .before .before .before .before .before .before .before .before .before .before .before .before .before .before .before .before .before .before in
+    let x = start .args in
+    let f = start .pre .1 .0 in
+    let a = back20 .arrange .ensures in
+    let w = back18 .sweep-all .ensures in
+    let cut = ltb-true _ 8 (not-false _ (back6 .if3 .left)) in
+    let v = back14 .next-cut .ensures in
+    let copied = back3 .copy-row .ensures in (
+      each-falls _ (start .pre .0),
+      (
+        fitting-arranged (x .table .now) (x .map .now) (x .rows .now) (x .q) (x .k) (x .bindings) (x .rising) f _ (copied .size ∙ w .size) _ a,
+        v .less cut,
+        cut,
+        v .free cut,
+        cut-kept (x .table .now) (x .map .now) _ _ (x .q) _ (x .k) (x .bindings) a w _ _ _ (omega (arith, f .sized .0, w .size)) cut copied,
+      ),
+    )
+
+settle-same-length-5 : (t : ℕ) → settle-lts.Need-same-length-5 (
+  arrange-reads.Asked,
+  arrange-reads.Learnt,
+  sweep-all-reads.Asked,
+  sweep-all-reads.Learnt,
+  next-cut-reads.Asked,
+  next-cut-reads.Learnt,
+  step-limit-reads.Asked,
+  step-limit-reads.Learnt,
+  try-pattern-reads.Asked,
+  try-pattern-reads.Learnt,
+  copy-row-reads.Asked,
+  copy-row-reads.Learnt,
+  settle-each-below t,
+  settle-each.Post,
+) (settle-at t) settle.Post
+settle-same-length-5 t c =
+    let back6 = c .before .before .before .before .before .before in
+    let back21 = back6 .before .before .before .before .before .before .before .before .before .before .before .before .before .before .before in
+    c .before .before .settle-each .ensures .1 .size ∙ back6 .copy-row .ensures .size ∙ back21 .sweep-all .ensures .size
+
+settle-returns-5 : (t : ℕ) → settle-lts.Need-returns-5 (
+  arrange-reads.Asked,
+  arrange-reads.Learnt,
+  sweep-all-reads.Asked,
+  sweep-all-reads.Learnt,
+  next-cut-reads.Asked,
+  next-cut-reads.Learnt,
+  step-limit-reads.Asked,
+  step-limit-reads.Learnt,
+  try-pattern-reads.Asked,
+  try-pattern-reads.Learnt,
+  copy-row-reads.Asked,
+  copy-row-reads.Learnt,
+  settle-each-below t,
+  settle-each.Post,
+) (settle-at t) settle.Post
+settle-returns-5 t c =
+    let back6 = c .before .before .before .before .before .before in
+    let back9 = back6 .before .before .before in
+    let back21 = back9 .before .before .before .before .before .before .before .before .before .before .before .before in
+    let back23 = back21 .before .before in
+    let start = c .before .before .before .before .before .before .before .before .before .before .before .before .before .before .before .before .before .before .before .before .before .before .before .before .before .before .before in
+    let x = start .args in
+    let f = start .pre .1 .0 in
+    let a = back23 .arrange .ensures in
+    let w = back21 .sweep-all .ensures in
+    let cut = ltb-true _ 8 (not-false _ (back9 .if3 .left)) in
+    let each = c .before .before .settle-each .ensures in (
+      settled-arranged (x .table .now) (x .map .now) (x .q) _ (x .k) (x .bindings) a (each .0),
+      rows-more _ _ _ _ _ (omega arith) (copied-rows (x .table .now) (x .map .now) _ _ (x .q) _ (x .k) (x .bindings) a w _ _ _
+          (omega (arith, f .sized .0, w .size)) cut (back6 .copy-row .ensures)) (each .1),
+    )
+
+abbrev settle-each-Inv-loop : settle-each-lts.InvT-loop
+settle-each-Inv-loop table map rows₀ q k bindings rising depth cut n x₀ rows x =
+    NoneFixed table map rows₀ q k bindings (10 + depth) cut rows x × (x ≤ n)
+
+abbrev settle-each-μ-loop : settle-each-lts.MeasureT-loop
+settle-each-μ-loop table map rows₀ q k bindings rising depth cut n x₀ rows x = n - x
+
+settle-each-loop-holds : (t : ℕ) → settle-each-lts.Need-loop-holds (
+  next-in-row-reads.Asked,
+  next-in-row-reads.Learnt,
+  settle-below t,
+  settle.Post,
+) (settle-each-at t) settle-each.Post settle-each-Inv-loop settle-each-μ-loop
+settle-each-loop-holds t c =
+    (fix-start _ _ _ _ _ _ _ _, omega arith)
+
+settle-each-add-next-in-row : (t : ℕ) → settle-each-lts.Need-add-next-in-row (
+  next-in-row-reads.Asked,
+  next-in-row-reads.Learnt,
+  settle-below t,
+  settle.Post,
+) (settle-each-at t) settle-each.Post settle-each-Inv-loop settle-each-μ-loop
+settle-each-add-next-in-row t c =
+    omega (arith, c .before .before .before .before .before .before .pre .1 .1)
+
+settle-each-next-in-row-requires : (t : ℕ) → settle-each-lts.Need-next-in-row-requires (
+  next-in-row-reads.Asked,
+  next-in-row-reads.Learnt,
+  settle-below t,
+  settle.Post,
+) (settle-each-at t) settle-each.Post settle-each-Inv-loop settle-each-μ-loop
+settle-each-next-in-row-requires t c κs =
+    let start = c .before .before .before .before .before .before in
+    let x = start .args in
+    let f = start .pre .1 .0 in (
+      sized-as _ _ (c .before .before .loop .inv .0 .rows .size) (f .sized),
+      omega (arith, start .pre .1 .1),
+      c .before .before .loop .inv .1,
+      f .small,
+    )
+
+settle-each-same-length : (t : ℕ) → settle-each-lts.Need-same-length (
+  next-in-row-reads.Asked,
+  next-in-row-reads.Learnt,
+  settle-below t,
+  settle.Post,
+) (settle-each-at t) settle-each.Post settle-each-Inv-loop settle-each-μ-loop
+settle-each-same-length t c =
+    c .before .before .before .before .loop .inv .0 .rows .size
+
+settle-each-returns : (t : ℕ) → settle-each-lts.Need-returns (
+  next-in-row-reads.Asked,
+  next-in-row-reads.Learnt,
+  settle-below t,
+  settle.Post,
+) (settle-each-at t) settle-each.Post settle-each-Inv-loop settle-each-μ-loop
+settle-each-returns t c =
+    let back4 = c .before .before .before .before in
+    let start = c .before .before .before .before .before .before .before .before in
+    let x = start .args in
+    let f = start .pre .1 .0 in
+    let h = start .pre .1 in
+    let i = back4 .loop .inv .0 in (
+      none-left (x .table .now) (x .map .now) (x .rows .now) (x .q) (x .k) (x .bindings) (10 + x .depth) (x .cut) (h .2) _ _ i (omega arith) (h .4) _
+          (c .before .next-in-row .ensures) (c .if1 .taken),
+      rows-fewer _ _ _ _ (omega arith) (i .rows),
+    )
+
+settle-each-cast-more : (t : ℕ) → settle-each-lts.Need-cast-more (
+  next-in-row-reads.Asked,
+  next-in-row-reads.Learnt,
+  settle-below t,
+  settle.Post,
+) (settle-each-at t) settle-each.Post settle-each-Inv-loop settle-each-μ-loop
+settle-each-cast-more t c =
+    let start = c .before .before .before .before .before .before .before .before in
+    record { fits = omega (arith, c .before .next-in-row .ensures .high, start .pre .1 .0 .small) }
+
+settle-each-mul-more : (t : ℕ) → settle-each-lts.Need-mul-more (
+  next-in-row-reads.Asked,
+  next-in-row-reads.Learnt,
+  settle-below t,
+  settle.Post,
+) (settle-each-at t) settle-each.Post settle-each-Inv-loop settle-each-μ-loop
+settle-each-mul-more t c =
+    omega (arith, c .before .before .before .before .before .before .before .before .pre .1 .2)
+
+settle-each-array-write-more : (t : ℕ) → settle-each-lts.Need-array-write-more (
+  next-in-row-reads.Asked,
+  next-in-row-reads.Learnt,
+  settle-below t,
+  settle.Post,
+) (settle-each-at t) settle-each.Post settle-each-Inv-loop settle-each-μ-loop
+settle-each-array-write-more t c =
+    omega (arith, c .before .before .before .before .before .before .before .before .pre .1 .2)
+
+settle-each-add-settle : (t : ℕ) → settle-each-lts.Need-add-settle (
+  next-in-row-reads.Asked,
+  next-in-row-reads.Learnt,
+  settle-below t,
+  settle.Post,
+) (settle-each-at t) settle-each.Post settle-each-Inv-loop settle-each-μ-loop
+settle-each-add-settle t c =
+    omega (arith, c .before .before .before .before .before .before .before .before .before .pre .1 .1)
+
+settle-each-settle-requires : (t : ℕ) → settle-each-lts.Need-settle-requires (
+  next-in-row-reads.Asked,
+  next-in-row-reads.Learnt,
+  settle-below t,
+  settle.Post,
+) (settle-each-at t) settle-each.Post settle-each-Inv-loop settle-each-μ-loop
+settle-each-settle-requires t c κs =
+    let back5 = c .before .before .before .before .before in
+    let start = c .before .before .before .before .before .before .before .before .before in
+    let x = start .args in
+    let f = start .pre .1 .0 in (
+      settle-falls _ (start .pre .0) (start .pre .1 .1),
+      (
+        fitting-fixed (x .table .now) (x .map .now) (x .rows .now) (x .q) (x .k) (x .bindings) (x .rising) f _ (back5 .loop .inv .0 .rows .size) _
+            _,
+        omega (arith, start .pre .1 .1),
+      ),
+    )
+
+settle-each-same-length-2 : (t : ℕ) → settle-each-lts.Need-same-length-2 (
+  next-in-row-reads.Asked,
+  next-in-row-reads.Learnt,
+  settle-below t,
+  settle.Post,
+) (settle-each-at t) settle-each.Post settle-each-Inv-loop settle-each-μ-loop
+settle-each-same-length-2 t c =
+    let back3 = c .before .before .before in
+    let back9 = back3 .before .before .before .before .before .before in
+    back3 .settle .ensures .1 .size ∙ back9 .loop .inv .0 .rows .size
+
+settle-each-returns-2 : (t : ℕ) → settle-each-lts.Need-returns-2 (
+  next-in-row-reads.Asked,
+  next-in-row-reads.Learnt,
+  settle-below t,
+  settle.Post,
+) (settle-each-at t) settle-each.Post settle-each-Inv-loop settle-each-μ-loop
+settle-each-returns-2 t c =
+    let back3 = c .before .before .before in
+    let back6 = back3 .before .before .before in
+    let back9 = back6 .before .before .before in
+    let start = c .before .before .before .before .before .before .before .before .before .before .before .before .before in
+    let x = start .args in
+    let f = start .pre .1 .0 in
+    let h = start .pre .1 in
+    let i = back9 .loop .inv .0 in
+    let s = back3 .settle .ensures in (
+      fix-found (x .table .now) (x .map .now) (x .rows .now) (x .q) (x .k) (x .bindings) (10 + x .depth) (x .cut) (h .2) _ _ i (omega arith) (h .4) _
+          (back6 .next-in-row .ensures) (f .bound) (h .3) (s .0) (c .if2 .taken),
+      rows-fewer _ _ _ _ (omega arith) (rows-more _ _ _ _ _ (omega arith) (i .rows) (s .1)),
+    )
+
+settle-each-add-x : (t : ℕ) → settle-each-lts.Need-add-x (
+  next-in-row-reads.Asked,
+  next-in-row-reads.Learnt,
+  settle-below t,
+  settle.Post,
+) (settle-each-at t) settle-each.Post settle-each-Inv-loop settle-each-μ-loop
+settle-each-add-x t c =
+    let back6 = c .before .before .before .before .before .before in
+    let start = back6 .before .before .before .before .before .before .before in
+    omega (arith, back6 .next-in-row .ensures .high, start .pre .1 .0 .small)
+
+settle-each-loop-less : (t : ℕ) → settle-each-lts.Need-loop-less (
+  next-in-row-reads.Asked,
+  next-in-row-reads.Learnt,
+  settle-below t,
+  settle.Post,
+) (settle-each-at t) settle-each.Post settle-each-Inv-loop settle-each-μ-loop
+settle-each-loop-less t c =
+    let back6 = c .before .before .before .before .before .before in
+    omega (arith, back6 .next-in-row .ensures .low, back6 .next-in-row .ensures .high)
+
+settle-each-loop-again : (t : ℕ) → settle-each-lts.Need-loop-again (
+  next-in-row-reads.Asked,
+  next-in-row-reads.Learnt,
+  settle-below t,
+  settle.Post,
+) (settle-each-at t) settle-each.Post settle-each-Inv-loop settle-each-μ-loop
+settle-each-loop-again t c =
+    let back3 = c .before .before .before in
+    let back6 = back3 .before .before .before in
+    let back9 = back6 .before .before .before in
+    let start = c .before .before .before .before .before .before .before .before .before .before .before .before .before in
+    let x = start .args in
+    let f = start .pre .1 .0 in
+    let h = start .pre .1 in
+    let i = back9 .loop .inv .0 in
+    let s = back3 .settle .ensures in
+    let w = back6 .next-in-row .ensures in (
+      fix-step (x .table .now) (x .map .now) (x .rows .now) (x .q) (x .k) (x .bindings) (10 + x .depth) (x .cut) (h .2) _ _ i (omega arith) (h .4) _ w
+          (f .bound) (h .3) (s .0) _ (rows-fewer _ _ _ _ (omega arith) (s .1)) (c .if2 .left),
+      omega (arith, w .high),
+    )
+
+settle-each-same-length-3 : (t : ℕ) → settle-each-lts.Need-same-length-3 (
+  next-in-row-reads.Asked,
+  next-in-row-reads.Learnt,
+  settle-below t,
+  settle.Post,
+) (settle-each-at t) settle-each.Post settle-each-Inv-loop settle-each-μ-loop
+settle-each-same-length-3 t c =
+    c .before .loop .inv .0 .rows .size
+
+settle-each-returns-3 : (t : ℕ) → settle-each-lts.Need-returns-3 (
+  next-in-row-reads.Asked,
+  next-in-row-reads.Learnt,
+  settle-below t,
+  settle.Post,
+) (settle-each-at t) settle-each.Post settle-each-Inv-loop settle-each-μ-loop
+settle-each-returns-3 t c =
+    let start = c .before .before .before .before .before in
+    let x = start .args in
+    let f = start .pre .1 .0 in
+    let i = c .before .loop .inv .0 in (
+      fix-end (x .table .now) (x .map .now) (x .rows .now) (x .q) (x .k) (x .bindings) (10 + x .depth) (x .cut) (start .pre .1 .2) _ _ i
+          (c .loop-test .left),
+      rows-fewer _ _ _ _ (omega arith) (i .rows),
+    )
+
+pub +settle+settle-each-spec : {M : Type 1} → statement M
++settle+settle-each-spec = close μ-settle μ-settle-each (λ t. settle-lts.spec (
+  arrange-reads.Asked,
+  arrange-reads.Learnt,
+  sweep-all-reads.Asked,
+  sweep-all-reads.Learnt,
+  next-cut-reads.Asked,
+  next-cut-reads.Learnt,
+  step-limit-reads.Asked,
+  step-limit-reads.Learnt,
+  try-pattern-reads.Asked,
+  try-pattern-reads.Learnt,
+  copy-row-reads.Asked,
+  copy-row-reads.Learnt,
+  settle-each-below t,
+  settle-each.Post,
+)
+    (settle-at t)
+    settle.Post
+    (settle-arrange-requires t)
+    (settle-sweep-all-requires t)
+    (settle-same-length t)
+    (settle-returns t)
+    (settle-next-cut-requires t)
+    (settle-cast-step-limit t)
+    (settle-step-limit-requires t)
+    (settle-try-pattern-requires t)
+    (settle-same-length-2 t)
+    (settle-returns-2 t)
+    (settle-same-length-3 t)
+    (settle-returns-3 t)
+    (settle-same-length-4 t)
+    (settle-returns-4 t)
+    (settle-add-copy-row t)
+    (settle-cast-copy-row t)
+    (settle-copy-row-requires t)
+    (settle-settle-each-requires t)
+    (settle-same-length-5 t)
+    (settle-returns-5 t))
+    λ t. settle-each-lts.spec
+    (next-in-row-reads.Asked, next-in-row-reads.Learnt, settle-below t, settle.Post)
+    (settle-each-at t)
+    settle-each.Post
+    settle-each-Inv-loop
+    settle-each-μ-loop
+    (settle-each-loop-holds t)
+    (settle-each-add-next-in-row t)
+    (settle-each-next-in-row-requires t)
+    (settle-each-same-length t)
+    (settle-each-returns t)
+    (settle-each-cast-more t)
+    (settle-each-mul-more t)
+    (settle-each-array-write-more t)
+    (settle-each-add-settle t)
+    (settle-each-settle-requires t)
+    (settle-each-same-length-2 t)
+    (settle-each-returns-2 t)
+    (settle-each-add-x t)
+    (settle-each-loop-less t)
+    (settle-each-loop-again t)
+    (settle-each-same-length-3 t)
+    (settle-each-returns-3 t)
