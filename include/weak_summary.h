@@ -101,11 +101,10 @@ extern "C" {
 
 /*
  * The stack that a call uses, in bytes, with its arguments. Measured and rounded up, not proved: bindings/c/stack.c does it,
- * with 65,536 codes and 1,048,576 triples, with the numbers and the queries that go deepest. ws_ask uses less for fewer
- * patterns or triples: with p patterns and t triples at most 2,000 + 928 * p * (1 + log2 t). A dynamic linker that binds
+ * with 65,536 codes and 1,048,576 triples, with the numbers and the queries that go deepest. A dynamic linker that binds
  * memcpy and memset when they are first called uses more at that time.
  */
-#define WS_STACK_ASK 163840    /* ws_ask */
+#define WS_STACK_ASK 24576     /* ws_ask */
 #define WS_STACK_READ 10240    /* ws_read */
 #define WS_STACK_SORTING 8192  /* ws_saturate, ws_summarise, ws_summarise_strong, ws_feed */
 #define WS_STACK_OTHERS 512    /* each other call */
@@ -220,6 +219,11 @@ uint32_t ws_look_up(const uint32_t *list, size_t list_length, uint32_t subject, 
  *   6  a count of 0 or over 8; in a counted pattern a kind over 1, a variable over 7, or a code or property not below N
  *   12 a counted pattern's property is subclass, subproperty, domain or range
  * They alter nothing.
+ * Time, measured and not proved: a query whose variables form no cycle takes about patterns * triples steps where N is at most
+ * 4,096, and mostly so beyond. With a cycle it may take nodes * patterns * triples, and the square or the cube of the nodes
+ * with two or three cycles that share no variable. On 2,048 triples that is below 10 ms, but for two cycles joined by a path,
+ * which took 0.2 s. A query that is easy in its written order takes the time of a search in that order: below 1 us on a summary
+ * of 256 triples.
  * "none" is safe only on the summary of a saturated table, asked by the map that came with that summary: then the saturated
  * table has no match, which is a choice of nodes that puts every pattern, its codes as they are, in it.
  *   The plain summary, of a table that was not saturated, lacks what the rules give. Of the six triples

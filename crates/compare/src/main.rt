@@ -14,7 +14,7 @@ use libc::STDIN_FILENO;
 
 fn main() {
     let mut tally = [0u64; TALLY];
-    let mut text = [0u8; 8192];
+    let mut text = [0u8; 16384];
     let n = io::read_full(STDIN_FILENO, &mut text);
     cases::all(&mut tally, &text[0..n]);
     sizes::all(&mut tally);
