@@ -2,13 +2,14 @@
 
 use crate::inputs::{self, Input, WORDS};
 use crate::measure::{heading, measure, series, sizes, Settings, Timing};
+use crate::searches;
 use weak_summary::calls as proved;
 use weak_summary_reference::{self as plain, QUERY_NUMBERS};
 
 /// A table with a map to ask with.
-struct Asked {
-    table: Vec<u32>,
-    map: Vec<u32>,
+pub struct Asked {
+    pub table: Vec<u32>,
+    pub map: Vec<u32>,
 }
 
 /// The table as it is, sorted, with the codes as they are.
@@ -26,7 +27,7 @@ fn as_summary(input: &Input) -> Asked {
 }
 
 /// A flat query of these patterns.
-fn query(patterns: &[[u32; 5]]) -> Vec<u32> {
+pub fn query(patterns: &[[u32; 5]]) -> Vec<u32> {
     let mut flat = vec![patterns.len() as u32];
     flat.extend(patterns.concat());
     flat.resize(QUERY_NUMBERS, 0);
@@ -34,11 +35,11 @@ fn query(patterns: &[[u32; 5]]) -> Vec<u32> {
 }
 
 /// The ends of the pattern are two variables.
-fn open(s: u32, p: u32, o: u32) -> [u32; 5] {
+pub fn open(s: u32, p: u32, o: u32) -> [u32; 5] {
     [0, s, p, 0, o]
 }
 
-fn ask(settings: &Settings, asked: &Asked, query: &[u32]) -> Timing {
+pub fn ask(settings: &Settings, asked: &Asked, query: &[u32]) -> Timing {
     let (table, map) = (&asked.table, &asked.map);
     measure(
         settings,
@@ -99,4 +100,5 @@ pub fn all(settings: &Settings) {
     series(settings, "one property, a path that is nowhere", &small, |t| {
         ask(settings, &one_property(t), &query(&[open(0, 5, 1), open(1, 5, 2)]))
     });
+    searches::all(settings);
 }

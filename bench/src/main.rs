@@ -6,6 +6,7 @@ mod feeds;
 mod inputs;
 mod measure;
 mod rosters;
+mod searches;
 mod tables;
 mod texts;
 
@@ -16,7 +17,7 @@ const INTRODUCTION: &str = "\
 # Benchmarks
 
 Each call of the proved engine, timed against an ordinary unverified engine in Rust (`bindings/reference`): standard sort,
-hash sets, a textbook union-find, a work-list saturation, an index and a join for ask. `bench/run` prints this file.
+hash sets, a textbook union-find, a work-list saturation, an index, a search and joins for ask. `bench/run` prints this file.
 
 How it is measured:
 
@@ -28,7 +29,7 @@ How it is measured:
 - The proved engine allocates nothing. The plain engine allocates and frees its own working memory within the timed part.
 - After each line both engines' answers and all lists that they wrote are compared; a difference ends the run.
 - The ratio is proved over plain: below 1 the proved engine is faster. \"Per doubling\" is the time over that of the line
-  before, whose size is half: 2 is linear, 4 quadratic.
+  before, whose size is half (the square root of that where it is a quarter): 2 is linear, 4 quadratic.
 - Inputs come from a fixed seed; the words are 0 to 4. Data-heavy: fifteen of 16 triples are data, nodes of 32 kinds, 128
   properties, 64 classes. Type-heavy: fourteen of 16 are types. One class: one property links all nodes. All nodes marked: the
   summary is the table, which comes in falling order.";

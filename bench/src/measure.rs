@@ -64,9 +64,18 @@ fn shown(seconds: f64) -> String {
     }
 }
 
-/// The growth from the size before, or a dash in the first line.
-fn growth(now: f64, before: Option<f64>) -> String {
-    before.map_or("-".to_string(), |before| format!("{:.2}", now / before))
+/// The growth from the time before, for each of so many doublings of the size.
+fn growth(now: f64, before: f64, doublings: f64) -> String {
+    format!("{:.2}", (now / before).powf(1.0 / doublings))
+}
+
+/// The growth of both engines from the size before, or dashes in the first line.
+fn growths(now: &Timing, size: usize, before: &Option<(usize, Timing)>) -> [String; 2] {
+    let Some((smaller, then)) = before else {
+        return ["-".to_string(), "-".to_string()];
+    };
+    let doublings = (size as f64 / *smaller as f64).log2();
+    [growth(now.proved, then.proved, doublings), growth(now.plain, then.plain, doublings)]
 }
 
 pub fn heading(title: &str, note: &str) {
@@ -77,23 +86,22 @@ pub fn heading(title: &str, note: &str) {
 
 /// Times one input at rising sizes and prints a line for each.
 pub fn series(settings: &Settings, input: &str, sizes: &[usize], mut timing: impl FnMut(usize) -> Timing) {
-    let mut before: Option<Timing> = None;
+    let mut before: Option<(usize, Timing)> = None;
     for &size in sizes {
         let now = timing(size);
+        let [proved, plain] = growths(&now, size, &before);
         println!(
-            "| {input} | {size} | {} | {} | {} | {:.2} | {} | {} |",
+            "| {input} | {size} | {} | {} | {} | {:.2} | {proved} | {plain} |",
             now.result,
             shown(now.proved),
             shown(now.plain),
             now.proved / now.plain,
-            growth(now.proved, before.as_ref().map(|b| b.proved)),
-            growth(now.plain, before.as_ref().map(|b| b.plain)),
         );
         if now.proved.max(now.plain) > settings.cap.as_secs_f64() {
             println!("| {input} | larger | left out: over {} s | | | | | |", settings.cap.as_secs());
             return;
         }
-        before = Some(now);
+        before = Some((size, now));
     }
 }
 

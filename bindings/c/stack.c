@@ -1,7 +1,8 @@
 /* Measures the stack that each call uses. The call runs on a painted stack of its own, and what counts is how far down the
    paint is gone, with the call's arguments. The lists are the largest: 65,536 codes and 1,048,576 triples. Their numbers send
-   the sort down as far as it goes, 16 halvings for each of three places, and the queries send ask down in each pattern as far
-   as the table can be halved. A number over the header's is a failure. */
+   the sort down as far as it goes, 16 halvings for each of three places. The queries have eight patterns and send ask through
+   each stage of its search, at last with three variables fixed; tables of several sizes show that they make no difference. A
+   number over the header's is a failure. */
 #define _XOPEN_SOURCE 700
 #include <stdio.h>
 #include <string.h>
@@ -243,67 +244,106 @@ static void measure_intake(void) {
     }
 }
 
-/* So many patterns that only the triple at a place fits, with its subject as a code or as a variable; perhaps a last one that
-   fits nothing. */
-static void make_query(size_t place, uint32_t patterns, int by_variable, int fits) {
+static void ask_expecting(uint32_t expected) {
+    answer = 2;
+    measure(&ask, run_ask, WS_OK);
+    if (answer != expected) {
+        fail("ws_ask", "answered something else than expected");
+    }
+}
+
+/* Eight patterns that the triple at a place fits, with its subject as a code or as a variable; perhaps the last fits
+   nothing. */
+static void make_query(size_t place, int by_variable, int fits) {
     const uint32_t *t = table + 3 * place;
-    query[0] = patterns;
-    for (uint32_t k = 0; k < patterns; k++) {
+    query[0] = WS_MAX_PATTERNS;
+    for (uint32_t k = 0; k < WS_MAX_PATTERNS; k++) {
         uint32_t *pattern = query + 1 + 5 * k;
         pattern[0] = by_variable ? WS_VARIABLE : WS_CODE;
         pattern[1] = by_variable ? k : t[0];
         pattern[2] = t[1];
         pattern[3] = WS_CODE;
-        pattern[4] = fits || k + 1 < patterns ? t[2] : 199;
+        pattern[4] = fits || k + 1 < WS_MAX_PATTERNS ? t[2] : 199;
     }
 }
 
-/* The table's halvings, rounded down. */
-static size_t halvings(size_t triples) {
-    return triples < 2 ? 0 : 1 + halvings(triples / 2);
+/* Patterns of variables: subject, property, object. */
+static void make_open(const uint32_t (*patterns)[3], uint32_t count_of) {
+    query[0] = count_of;
+    for (uint32_t k = 0; k < count_of; k++) {
+        uint32_t *pattern = query + 1 + 5 * k;
+        pattern[0] = pattern[3] = WS_VARIABLE;
+        pattern[1] = patterns[k][0];
+        pattern[2] = patterns[k][1];
+        pattern[4] = patterns[k][2];
+    }
 }
 
-/* Asks for the last triple and for the first ones; the header says how the stack depends on patterns and triples. */
-static void measure_queries(uint32_t patterns) {
-    struct call these = {"ws_ask", 2000 + 928 * patterns * (1 + halvings(given)), 0};
-    for (size_t k = 0; k < 12; k++) {
-        size_t place = k < 4 ? given - 1 : (k / 4 == 1 ? halvings(given) - 1 : 0);
-        make_query(place, patterns, k % 4 / 2, k % 2);
-        measure(&these, run_ask, WS_OK);
-        if (answer != k % 2) {
-            fail("ws_ask", "answered something else than expected");
+/* In rising order: 200 to 219 lead to each other by 7. 300 to 319 lead by 9 to all of these but the last, and by 8 each to
+   the one before it, so no two of them lead to each other. Only 400 leads to the last by 9, and 400 and 401 to each other by
+   8. Other triples follow until the table has so many. */
+static void fill_core(size_t triples) {
+    given = 0;
+    for (uint32_t i = 0; i < 20; i++) {
+        for (uint32_t j = 0; j < 20; j++) {
+            if (j != i) {
+                put(200 + i, 7, 200 + j);
+            }
         }
     }
-    if (these.said < these.most) {
-        fail("ws_ask", "more stack than the header's formula");
+    for (uint32_t i = 0; i < 20; i++) {
+        put(300 + i, 8, 300 + (i + 19) % 20);
+        for (uint32_t j = 0; j < 19; j++) {
+            put(300 + i, 9, 200 + j);
+        }
     }
-    if (ask.most < these.most) {
-        ask.most = these.most;
+    put(400, 8, 401);
+    put(400, 9, 219);
+    put(401, 8, 400);
+    for (uint32_t i = 0; given < triples; i++) {
+        put(500 + i / 32, 10, 500 + i % 32);
     }
 }
 
-/* A rising table, 64 triples to a subject, in which each object of the first subject and the last object stand once. */
-static void measure_rising(size_t triples, uint32_t patterns) {
-    given = 0;
-    while (given < triples - 1) {
-        uint32_t i = (uint32_t)given;
-        put(200 + i / 64, 7, (i < 64 ? 200 : 300) + i % 64);
+/* Three pairs of variables that lead to each other, joined. 400 and 401 are the only nodes for the third, and are found late,
+   so a variable of each pair is fixed; without the first three patterns two are. Apart: the fourth pattern fits nothing. */
+static const uint32_t PAIRS[8][3] = {{0, 7, 1}, {1, 7, 0}, {1, 7, 2}, {2, 7, 3}, {3, 7, 2}, {4, 9, 3}, {5, 8, 4}, {4, 8, 5}};
+static const uint32_t APART[4][3] = {{0, 7, 1}, {2, 7, 3}, {4, 7, 5}, {6, 11, 7}};
+
+/* Every stage of the search on the table as it is. */
+static void measure_stages(void) {
+    for (int k = 0; k < 8; k++) {
+        make_query(k < 4 ? given - 1 : 0, k % 4 / 2, k % 2);
+        ask_expecting(k % 2);
     }
-    put(200 + (uint32_t)given / 64, 7, 400);
-    measure_queries(patterns);
-    table[0] = 65535;
-    measure_queries(patterns);
+    make_open(APART, 4);
+    ask_expecting(0);
+    make_open(PAIRS, 8);
+    ask_expecting(1);
+    make_open(PAIRS + 3, 5);
+    ask_expecting(1);
+}
+
+/* The first triple and the last change places. */
+static void disorder(void) {
+    uint32_t first[3];
+    memcpy(first, table, sizeof first);
+    memcpy(table, table + 3 * given - 3, sizeof first);
+    memcpy(table + 3 * given - 3, first, sizeof first);
 }
 
 /* Tables in rising order, and out of it. */
 static void measure_ask(void) {
+    static const size_t sizes[] = {0, 4000, 40000, MOST};
     for (uint32_t c = 0; c < N; c++) {
         map[c] = c;
     }
-    measure_rising(1000, 1);
-    measure_rising(1024, 2);
-    measure_rising(40000, 8);
-    measure_rising(MOST, 8);
+    for (size_t i = 0; i < sizeof sizes / sizeof *sizes; i++) {
+        fill_core(sizes[i]);
+        measure_stages();
+        disorder();
+        measure_stages();
+    }
 }
 
 static void append(const char *form, int times) {

@@ -1,8 +1,10 @@
-//! Ask, on tables and summaries, with maps of every kind.
+//! Ask, on tables and summaries, with maps of every kind, and with queries that use up the limits of the search.
 
 use crate::generate;
+use crate::hard;
 use crate::random::Random;
 use crate::report::{Call, Report};
+use crate::stages;
 use crate::tables::run;
 use crate::words::{self, Words};
 use weak_summary::calls as proved;
@@ -17,9 +19,6 @@ pub struct Lent {
     pub query: Vec<u32>,
     pub maybe: u32,
 }
-
-/// The most triples with this many patterns, so that a search without joins ends soon.
-const MOST: [usize; 9] = [40, 250, 60, 20, 10, 7, 5, 4, 4];
 
 /// An end that the node fits: a variable of a few, or a code whose entry it is.
 fn end_for(random: &mut Random, node: u32, map: &[u32], variables: usize) -> [u32; 2] {
@@ -119,7 +118,7 @@ fn image_of(words: Words, table: &[u32], map: &[u32]) -> Vec<u32> {
 pub fn ask(random: &mut Random, report: &mut Report, mistake: Mistake) {
     let n = generate::size(random);
     let count = 1 + random.below(8);
-    let amount = random.below(MOST[count] + 1);
+    let amount = generate::amount(random);
     let words = words::right(random, n);
     let mut table = generate::table(random, words, n, amount);
     let mut map = map_for(random, words, &table, n);
@@ -143,9 +142,19 @@ pub fn ask(random: &mut Random, report: &mut Report, mistake: Mistake) {
     compare_ask(report, mistake, Lent { words, table, map, query, maybe: random.next() as u32 });
 }
 
+/// A query that may use up the limits of the search.
+pub fn hard(random: &mut Random, report: &mut Report, mistake: Mistake) {
+    let hard::Hard { words, table, map, query } = hard::hard(random);
+    let maybe = random.next() as u32;
+    compare_ask(report, mistake, Lent { words: words.to_vec(), table, map, query, maybe });
+}
+
 pub fn compare_ask(report: &mut Report, mistake: Mistake, before: Lent) {
     let ours = run(&before, |l| proved::ask(&l.words, &l.table, &l.map, &l.query, &mut l.maybe));
     let theirs = run(&before, |l| plain::ask_with(mistake, &l.words, &l.table, &l.map, &l.query, &mut l.maybe));
     let yes = theirs.lent.maybe == 1;
+    if theirs.status == 0 {
+        report.reached(stages::reach(&before.table, &before.map, &before.query));
+    }
     report.compare(Call::Ask, &before, ours, theirs, yes);
 }

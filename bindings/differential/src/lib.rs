@@ -5,17 +5,20 @@
 mod asks;
 mod feeds;
 mod generate;
+mod hard;
 mod long;
 mod random;
 mod report;
 mod rest;
 mod rosters;
 mod shapes;
+mod stages;
 mod tables;
 mod texts;
 mod words;
 
 pub use report::{Call, Report};
+pub use stages::Stage;
 pub use weak_summary_reference::Mistake;
 
 use random::Random;
@@ -45,6 +48,7 @@ fn turn(random: &mut Random, report: &mut Report, mistake: Mistake) {
         tables::summarise(random, report, mistake, &tables::STRONG);
         tables::look_up(random, report);
         asks::ask(random, report, mistake);
+        asks::hard(random, report, mistake);
         texts::read(random, report);
         texts::write(random, report);
     }

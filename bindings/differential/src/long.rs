@@ -46,12 +46,16 @@ fn lent(random: &mut Random, words: &Words, table: &[u32], n: usize, slots: usiz
     }
 }
 
-/// Asks for the last triple that is no schema triple, and for a domain of its subject, which is retired.
-fn ask_both(report: &mut Report, mistake: Mistake, words: &Words, table: &[u32], n: usize) {
+/// Asks for the last triple that is no schema triple; for a domain of its subject, which is retired; and for three types and a
+/// property that no triple has, which share no variable.
+fn ask_all(report: &mut Report, mistake: Mistake, words: &Words, table: &[u32], n: usize) {
     let t = table.chunks_exact(3).rfind(|t| asks::is_answered(words, t[1])).unwrap();
-    for property in [t[1], words[3]] {
-        let mut query = vec![0; QUERY_NUMBERS];
-        query[..6].copy_from_slice(&[1, 1, t[0], property, 0, 3]);
+    let (word, class) = (words[0], table.chunks_exact(3).find(|t| t[1] == words[0]).unwrap()[2]);
+    let apart = [[0, 0, word, 0, 1], [0, 2, word, 0, 3], [0, 4, word, 0, 5], [0, 6, class, 0, 7]];
+    let one = |property: u32| vec![[1, t[0], property, 0, 3]];
+    for patterns in [one(t[1]), one(words[3]), apart.to_vec()] {
+        let mut query = [vec![patterns.len() as u32], patterns.concat()].concat();
+        query.resize(QUERY_NUMBERS, 0);
         let map = (0..n as u32).collect();
         let before = asks::Lent { words: words.to_vec(), table: table.to_vec(), map, query, maybe: 9 };
         asks::compare_ask(report, mistake, before);
@@ -73,7 +77,7 @@ fn on_table(random: &mut Random, report: &mut Report, mistake: Mistake, words: &
     let t = [table[table.len() - 3], table[table.len() - 2], table[table.len() - 1]];
     tables::compare_look_up(report, table.to_vec(), t, 9);
     tables::compare_look_up(report, table.to_vec(), [t[2], t[1], 3], 9);
-    ask_both(report, mistake, words, table, n);
+    ask_all(report, mistake, words, table, n);
 }
 
 /// Strong summaries of large shapes, the last triples first, with result slots that fit and that do not.

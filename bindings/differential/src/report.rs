@@ -1,5 +1,6 @@
 //! Cases counted by call and outcome, and the differences found.
 
+use crate::stages::{Reach, Stage};
 use std::collections::{BTreeMap, BTreeSet};
 use std::fmt::Debug;
 
@@ -64,6 +65,9 @@ pub struct Report {
     counts: BTreeMap<Call, [usize; NO + 1]>,
     /// The calls in which there was a difference.
     different: BTreeSet<Call>,
+    /// The answers maybe and none to the accepted queries that went as far as each stage, and to those with a second part.
+    stages: BTreeMap<Stage, [usize; 2]>,
+    second_parts: [usize; 2],
     pub cases: usize,
     pub differences: usize,
     shown: usize,
@@ -87,7 +91,15 @@ fn cut(text: String) -> String {
 impl Report {
     /// A report that prints this many differences.
     pub fn new(shown: usize) -> Report {
-        Report { counts: BTreeMap::new(), different: BTreeSet::new(), cases: 0, differences: 0, shown }
+        Report {
+            counts: BTreeMap::new(),
+            different: BTreeSet::new(),
+            stages: BTreeMap::new(),
+            second_parts: [0; 2],
+            cases: 0,
+            differences: 0,
+            shown,
+        }
     }
 
     /// Counts a case and compares the outcomes. `yes` is the answer of an accepted call that has one.
@@ -115,6 +127,31 @@ impl Report {
         }
     }
 
+    /// Counts how far an accepted query went.
+    pub fn reached(&mut self, reach: Reach) {
+        let answer = !reach.maybe as usize;
+        self.stages.entry(reach.furthest).or_default()[answer] += 1;
+        self.second_parts[answer] += reach.parts as usize;
+    }
+
+    /// How many queries went as far as each stage, and how many had a second part tried, by answer.
+    fn lines(&self) -> Vec<(&'static str, [usize; 2])> {
+        let count = |stage: Stage| self.stages.get(&stage).copied().unwrap_or_default();
+        let mut lines = Stage::ALL.map(|stage| (stage.name(), count(stage))).to_vec();
+        lines.push(("a second part", self.second_parts));
+        lines
+    }
+
+    /// Whether there is no difference and every stage was reached.
+    pub fn passed(&self) -> bool {
+        self.differences == 0 && self.unreached().is_empty()
+    }
+
+    /// What no query reached.
+    pub fn unreached(&self) -> Vec<&'static str> {
+        self.lines().into_iter().filter(|(_, by)| by == &[0; 2]).map(|(name, _)| name).collect()
+    }
+
     pub fn print(&self) {
         println!("| call | cases | accepted | {} |", REFUSALS.map(|r| r.to_string()).join(" | "));
         println!("|---|---|---|{}", "---|".repeat(REFUSALS.len()));
@@ -127,7 +164,20 @@ impl Report {
             let refused = REFUSALS.map(|r| by[r].to_string()).join(" | ");
             println!("| {} | {total} | {accepted} | {refused} |", call.name());
         }
-        println!("{} cases, {} differences", self.cases, self.differences);
+        println!("\n| ask went as far as | maybe | none |\n|---|---|---|");
+        for (name, [maybe, none]) in self.lines() {
+            println!("| {name} | {maybe} | {none} |");
+        }
+        println!("\n{} cases, {} differences{}", self.cases, self.differences, self.missing());
+    }
+
+    /// What is left to say of stages that no query reached.
+    fn missing(&self) -> String {
+        let unreached = self.unreached();
+        match unreached.is_empty() {
+            true => String::new(),
+            false => format!(", reached by no query: {}", unreached.join(", ")),
+        }
     }
 
     /// Whether the engines differ in a call.

@@ -7,9 +7,10 @@ fn options(mistake: Mistake, shown: usize) -> Options {
 }
 
 #[test]
-fn engines_agree_and_every_refusal_occurs() {
+fn engines_agree_and_every_refusal_and_stage_occurs() {
     let report = run(&Options { cases: 60_000, ..options(Mistake::None, 20) });
     assert_eq!(report.differences, 0);
+    assert_eq!(report.unreached(), [""; 0]);
     let refusals: [(Call, &[usize]); 13] = [
         (Call::OwnRoster, &[1, 3, 10]),
         (Call::Saturate, &[1, 2, 3, 4, 5, 10]),
@@ -49,8 +50,9 @@ fn strong_summaries_notice_their_mistakes() {
 
 #[test]
 fn asks_notice_their_mistakes() {
-    use Mistake::{FixedWords, RetiredAnswered, RetiredFirst, RetiredPastCount, TypeRetired};
-    for mistake in [FixedWords, RetiredAnswered, RetiredFirst, RetiredPastCount, TypeRetired] {
+    use Mistake::{FixedWords, RetiredAnswered, RetiredFirst, RetiredPastCount, TypeRetired, UsedUpMaybe, UsedUpNone};
+    let retired = [RetiredAnswered, RetiredFirst, RetiredPastCount, TypeRetired];
+    for mistake in [&[FixedWords], &retired[..], &[UsedUpMaybe, UsedUpNone]].concat() {
         assert!(run(&options(mistake, 0)).differs(Call::Ask), "{}", mistake.name());
     }
 }

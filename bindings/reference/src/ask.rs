@@ -1,5 +1,7 @@
-//! Ask: the triples of each pattern's property, then a backtracking join over sorted candidates.
+//! Ask: the triples of each pattern's property, then a backtracking join over sorted candidates; where that takes too many
+//! tries, joins with projection.
 
+use crate::join::{has_row, Relation};
 use crate::triples::PackedMap;
 use crate::{checks, Mistake, Words, CODE, LENGTH, MAX_PATTERNS, OK, QUERY, QUERY_NUMBERS, RETIRED, WORDS};
 
@@ -23,6 +25,30 @@ struct Step {
     /// Whether the object leads, that is stands first in each pair.
     object_leads: bool,
     pairs: Vec<(u32, u32)>,
+}
+
+impl Step {
+    /// The end that stands first in each pair, and the other.
+    fn ends(&self) -> [End; 2] {
+        match self.object_leads {
+            true => [self.object, self.subject],
+            false => [self.subject, self.object],
+        }
+    }
+
+    /// The pairs as rows of the variables.
+    fn relation(&self) -> Relation {
+        let pairs = self.pairs.iter().map(|&(lead, follow)| [lead, follow]);
+        match self.ends() {
+            [End::Variable(v), End::Variable(w)] if v == w => {
+                Relation::new(vec![v], pairs.filter(|[lead, follow]| lead == follow).map(|[lead, _]| [0, lead]))
+            }
+            [End::Variable(v), End::Variable(w)] => Relation::new(vec![v, w], pairs),
+            [End::Variable(v), End::Fixed(_)] => Relation::new(vec![v], pairs.map(|[lead, _]| [0, lead])),
+            [End::Fixed(_), End::Variable(w)] => Relation::new(vec![w], pairs.map(|[_, follow]| [0, follow])),
+            [End::Fixed(_), End::Fixed(_)] => Relation::new(vec![], pairs.map(|_| [0, 0])),
+        }
+    }
 }
 
 fn end_wrong(kind: u32, value: u32, n: usize) -> bool {
@@ -102,12 +128,15 @@ fn admits(end: End, node: u32) -> bool {
 /// The pairs of subject and object of each property that the query names: one pass over the table.
 fn index(table: &[u32], patterns: &[Pattern]) -> PackedMap<Vec<(u32, u32)>> {
     let mut of: PackedMap<Vec<(u32, u32)>> = PackedMap::default();
+    // The last six bits tell most other properties apart.
+    let mut some = 0u64;
     for p in patterns {
         of.entry(p.property as u64).or_default();
+        some |= 1 << (p.property % 64);
     }
-    for t in table.chunks_exact(3) {
-        if patterns.iter().any(|p| p.property == t[1]) {
-            of.get_mut(&(t[1] as u64)).unwrap().push((t[0], t[2]));
+    for t in table.chunks_exact(3).filter(|t| some >> (t[1] % 64) & 1 == 1) {
+        if let Some(pairs) = of.get_mut(&(t[1] as u64)) {
+            pairs.push((t[0], t[2]));
         }
     }
     of
@@ -169,13 +198,12 @@ fn bind(end: End, node: u32, bindings: &mut Bindings) -> bool {
     }
 }
 
-/// Whether the steps can be put in the table at the bindings.
-fn matches(steps: &[Step], bindings: Bindings) -> bool {
+/// Whether the steps can be put in the table at the bindings; none where the tries are used up.
+fn matches(steps: &[Step], bindings: Bindings, tries: &mut usize) -> Option<bool> {
     let Some((step, rest)) = steps.split_first() else {
-        return true;
+        return Some(true);
     };
-    let leading = if step.object_leads { step.object } else { step.subject };
-    let following = if step.object_leads { step.subject } else { step.object };
+    let [leading, following] = step.ends();
     let candidates = match value_of(leading, &bindings) {
         Some(x) => {
             let from = step.pairs.partition_point(|&(lead, _)| lead < x);
@@ -184,9 +212,30 @@ fn matches(steps: &[Step], bindings: Bindings) -> bool {
         }
         None => &step.pairs[..],
     };
-    candidates.iter().any(|&(lead, follow)| {
+    for &(lead, follow) in candidates {
+        *tries = tries.checked_sub(1)?;
         let mut tried = bindings;
-        bind(leading, lead, &mut tried) && bind(following, follow, &mut tried) && matches(rest, tried)
+        let fits = bind(leading, lead, &mut tried) && bind(following, follow, &mut tried);
+        if fits && matches(rest, tried, tries)? {
+            return Some(true);
+        }
+    }
+    Some(false)
+}
+
+/// The tries of the search: about as long as the joins would take.
+fn most_tries(steps: &[Step]) -> usize {
+    1_000 + 2 * steps.iter().map(|step| step.pairs.len()).sum::<usize>()
+}
+
+/// Whether some choice of nodes puts every pattern in the table.
+fn some_choice(mistake: Mistake, table: &[u32], patterns: Vec<Pattern>) -> bool {
+    let steps = plan(table, patterns);
+    let searched = matches(&steps, [None; 8], &mut most_tries(&steps));
+    searched.unwrap_or_else(|| match mistake {
+        Mistake::UsedUpNone => false,
+        Mistake::UsedUpMaybe => true,
+        _ => has_row(steps.iter().map(Step::relation).collect()),
     })
 }
 
@@ -212,7 +261,50 @@ pub fn ask_with(mistake: Mistake, words: &[u32], table: &[u32], map: &[u32], que
     if refusal != OK {
         return refusal;
     }
-    let steps = plan(table, patterns_of(query, map));
-    *maybe = matches(&steps, [None; 8]) as u32;
+    *maybe = some_choice(mistake, table, patterns_of(query, map)) as u32;
     OK
+}
+
+#[cfg(test)]
+mod tests {
+    use super::*;
+
+    /// A number below the bound, from a row of them (splitmix64).
+    fn below(state: &mut u64, bound: u32) -> u32 {
+        *state = state.wrapping_add(0x9e37_79b9_7f4a_7c15);
+        let mut z = *state;
+        z = (z ^ (z >> 30)).wrapping_mul(0xbf58_476d_1ce4_e5b9);
+        z = (z ^ (z >> 27)).wrapping_mul(0x94d0_49bb_1331_11eb);
+        ((z ^ (z >> 31)) % bound as u64) as u32
+    }
+
+    fn end(state: &mut u64, variables: u32, nodes: u32) -> End {
+        match below(state, 12) {
+            0 => End::Fixed(below(state, nodes)),
+            _ => End::Variable(below(state, variables) as usize),
+        }
+    }
+
+    /// The search without a limit and the joins, on small tables of two properties.
+    #[test]
+    fn search_and_joins_agree() {
+        let state = &mut 1;
+        let mut found = [0; 2];
+        for _ in 0..20_000 {
+            let (nodes, amount) = (2 + below(state, 8), below(state, 24));
+            let triple = |state: &mut u64| [below(state, nodes), below(state, 2), below(state, nodes)];
+            let table: Vec<u32> = (0..amount).flat_map(|_| triple(state)).collect();
+            let (count, variables) = (1 + below(state, 8), 1 + below(state, 8));
+            let pattern = |state: &mut u64| Pattern {
+                subject: end(state, variables, nodes),
+                property: below(state, 2),
+                object: end(state, variables, nodes),
+            };
+            let steps = plan(&table, (0..count).map(|_| pattern(state)).collect());
+            let searched = matches(&steps, [None; 8], &mut usize::MAX.clone()).unwrap();
+            assert_eq!(searched, has_row(steps.iter().map(Step::relation).collect()), "{table:?}");
+            found[searched as usize] += 1;
+        }
+        assert!(found.iter().all(|&count| count > 2_000), "{found:?}");
+    }
 }

@@ -6,6 +6,7 @@
 mod ask;
 mod checks;
 mod intake;
+mod join;
 mod mistake;
 mod roster;
 mod saturate;

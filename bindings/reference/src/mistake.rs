@@ -1,6 +1,6 @@
 //! The five course mistakes of the scope paper, one that the rules for domains and ranges invite, one that the word table
-//! invites, two that the strong summary invites, and four that retired queries invite, to show that a comparison with a wrong
-//! engine is noticed.
+//! invites, two that the strong summary invites, four that retired queries invite, and two that a limit of the search invites,
+//! to show that a comparison with a wrong engine is noticed.
 
 use crate::Words;
 
@@ -34,10 +34,14 @@ pub enum Mistake {
     RetiredAnswered,
     /// A pattern past the count retires a query.
     RetiredPastCount,
+    /// A search that has used up its tries answers none.
+    UsedUpNone,
+    /// A search that has used up its tries answers maybe.
+    UsedUpMaybe,
 }
 
 impl Mistake {
-    pub const ALL: [Mistake; 13] = [
+    pub const ALL: [Mistake; 15] = [
         Mistake::OneRound,
         Mistake::TypedOnlyStays,
         Mistake::ClassLinks,
@@ -51,6 +55,8 @@ impl Mistake {
         Mistake::TypeRetired,
         Mistake::RetiredAnswered,
         Mistake::RetiredPastCount,
+        Mistake::UsedUpNone,
+        Mistake::UsedUpMaybe,
     ];
 
     pub fn name(self) -> &'static str {
@@ -69,6 +75,8 @@ impl Mistake {
             Mistake::TypeRetired => "type-retired",
             Mistake::RetiredAnswered => "retired-answered",
             Mistake::RetiredPastCount => "retired-past-count",
+            Mistake::UsedUpNone => "used-up-none",
+            Mistake::UsedUpMaybe => "used-up-maybe",
         }
     }
 

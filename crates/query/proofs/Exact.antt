@@ -22,14 +22,18 @@ use Rattle.query.specs.declared.Pattern.{Pattern}
 use Rattle.query.specs.declared.Query.{Query}
 use Rattle.query.specs.declared.Fit.{Fit}
 use Rattle.theory.proofs.Checks.{passes-first}
-use Rattle.query.specs.Ask.{patternAt, unbound, fitTriple, tried, search, stepOf, wrongQuery, retired, askChecks, askOutcome}
+use Rattle.query.specs.Ask.{blank, patternAt, unbound, fitTriple, tried, search, wrongQuery, retired, askChecks, askOutcome}
 use Rattle.query.specs.Match.{NodeOf, patternTriple, Choice, AskAccepted, Exact, AskExact}
-use Rattle.query.specs.Choices.{Agrees, Puts, Putting, Present}
+use Rattle.query.specs.Choices.{Agrees, Puts, CanPut, Present}
 use Rattle.theory.proofs.Tests.{and-left, and-right, neither-left, neither-right, not-true-false}
 use Rattle.theory.proofs.Lists.{any-holds, any-found, any-none}
-use Rattle.query.proofs.Steps.{GoodQuery, good-query, Bound, Fitting, triple-complete, Tried, triple-sound}
+use Rattle.query.proofs.Steps.{GoodQuery, good-query, agrees-unbound, Bound, Fitting, triple-complete, Tried, triple-sound}
 
 -- ── the search ──
+-- one step of it: the k-th pattern tried with one triple, `left` patterns coming after
+abbrev stepOf : List Triple → List ℕ → List Pattern → ℕ → ℕ → List ℕ → Triple → Bool
+stepOf ts map ps left k b = tried map (getD ps k blank) b (λ b′. search ts map ps left (k + 1) b′)
+
 module _ (ts : List Triple) (map : List ℕ) (q : Query) (g : GoodQuery (length map) q) where
   At : (ℕ → ℕ) → ℕ → Type 0
   At σ k = Mem (patternTriple (label map) σ (patternAt q k)) ts
@@ -98,14 +102,11 @@ module _ (ts : List Triple) (map : List ℕ) (q : Query) (right : wrongQuery (le
   good : GoodQuery (length map) q
   good = good-query (length map) q right
 
-  at-start : (σ : ℕ → ℕ) → Agrees σ unbound
-  at-start σ w l m = absurd (m (getD-replicate 8 w absent 0 l))
-
-  finds : Putting ts map q 0 unbound → answer ≡ true
+  finds : CanPut ts map q 0 unbound → answer ≡ true
   unfolding answer At
   finds c =
       search-complete ts map q good (c .0) (q .count) 0 unbound (omega arith) (λ j l. c .1 .puts j (omega arith) l)
-      (length-replicate 8 absent) (at-start (c .0))
+      (length-replicate 8 absent) (agrees-unbound (c .0))
 
   found : Present ts → answer ≡ true → Choice ts map q
   unfolding answer At
@@ -116,7 +117,7 @@ module _ (ts : List Triple) (map : List ℕ) (q : Query) (right : wrongQuery (le
       record { chosen = r .chosen; nodes = r .nodes; puts = λ j l. r .there j (omega arith) l }
 
   -- an answer that is true exactly if there is a choice is the search's
-  pub search-exact : Present ts → {r : Bool} → (r ≡ true → Putting ts map q 0 unbound)
+  pub search-exact : Present ts → {r : Bool} → (r ≡ true → CanPut ts map q 0 unbound)
       → ((σ : ℕ → ℕ) → Puts ts map q 0 unbound σ → ((v : ℕ) → v < 8 → NodeOf ts (σ v)) → r ≡ true)
       → r ≡ search ts map (q .patterns) (q .count) 0 unbound
   unfolding answer
@@ -126,7 +127,7 @@ module _ (ts : List Triple) (map : List ℕ) (q : Query) (right : wrongQuery (le
       go true e = e ∙ sym (finds (sound e))
       go false e = e ∙ sym (not-true-false answer (λ y.
           let c = found present y in
-          true≢false (sym (complete (c .chosen) (record { agrees = at-start (c .chosen); puts = λ j l m. c .puts j m }) (c .nodes)) ∙ e)))
+          true≢false (sym (complete (c .chosen) (record { agrees = agrees-unbound (c .chosen); puts = λ j l m. c .puts j m }) (c .nodes)) ∙ e)))
 
 -- ── the checks ──
 -- no check of ask fails
@@ -187,7 +188,7 @@ module _ (v : Vocabulary) (table map : List ℕ) (q : Query) (a : Passed v table
   maybe-choice y = found ts map q (a .query) (ends-present v (length map) ts (a .codes) small) y
 
   choice-maybe : Choice ts map q → answer ts map q (a .query) ≡ true
-  choice-maybe c = finds ts map q (a .query) (c .chosen, record { agrees = at-start ts map q (a .query) (c .chosen); puts = λ j l m. c .puts j m })
+  choice-maybe c = finds ts map q (a .query) (c .chosen, record { agrees = agrees-unbound (c .chosen); puts = λ j l m. c .puts j m })
 
   exact : Exact v table map q
   unfolding ts

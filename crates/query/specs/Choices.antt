@@ -1,4 +1,4 @@
--- Choices of nodes for the patterns of a query from one on.
+-- Choices for the counted patterns of a query from the k-th on.
 -- Assumes nothing.
 use Prim.Native.Nat.{ℕ, _<_, _≤_}
 use mathlib.Core.Path.{_≡_}
@@ -11,7 +11,7 @@ use Rattle.query.specs.declared.Query.{Query}
 use Rattle.query.specs.Ask.{patternAt}
 use Rattle.query.specs.Match.{patternTriple}
 
--- a choice gives each variable that has a node that node
+-- a choice that gives every variable that has a node that node
 abbrev pub Agrees : (ℕ → ℕ) → List ℕ → Type 0
 Agrees σ b = (v : ℕ) → v < 8 → (getD b v 0 ≡ absent → ⊥) → σ v ≡ getD b v 0
 
@@ -21,13 +21,13 @@ pub record Puts (ts : List Triple) (map : List ℕ) (q : Query) (k : ℕ) (b : L
   pub puts : (j : ℕ) → k ≤ j → j < q .count → Mem (patternTriple (label map) σ (patternAt q j)) ts
 
 -- there is such a choice
-abbrev pub Putting : List Triple → List ℕ → Query → ℕ → List ℕ → Type 0
-Putting ts map q k b = (σ : ℕ → ℕ) × Puts ts map q k b σ
+abbrev pub CanPut : List Triple → List ℕ → Query → ℕ → List ℕ → Type 0
+CanPut ts map q k b = (σ : ℕ → ℕ) × Puts ts map q k b σ
 
 -- a choice of codes below n
-abbrev pub Below : ℕ → (ℕ → ℕ) → Type 0
-Below n σ = (v : ℕ) → v < 8 → σ v < n
+abbrev pub CodesBelow : ℕ → (ℕ → ℕ) → Type 0
+CodesBelow n σ = (v : ℕ) → v < 8 → σ v < n
 
--- no end of a triple is the mark of a variable without a node
+-- no end of a triple is the absent mark
 abbrev pub Present : List Triple → Type 0
 Present ts = (t : Triple) → Mem t ts → (t .subject ≡ absent → ⊥) × (t .object ≡ absent → ⊥)

@@ -76,10 +76,6 @@ module _ (map d : List ℕ) (p : Pattern) (t u : Triple) (same : t ≡ u) where
       pub by-both : y ≡ true → {r : Bool} → r ≡ endsAgree (p .subject) (p .object) (t .subject) (t .object) → r ≡ supports map d p u
       by-both m {r} k = let z : r ≡ supports map d p t = rw (eq-eqb _ _ h, ← e, n, ← g, m) k in z ∙ ap (supports map d p) same
 
--- ── as many words: `Sized` by the lengths ──
-pub sized-same : (n n′ : ℕ) → n′ ≡ n → (13 ≤ n) × (n ≤ 13312) → (13 ≤ n′) × (n′ ≤ 13312)
-sized-same n n′ e s = (omega (arith, s .0), omega (arith, s .1))
-
 -- ── more nodes in the rows ──
 -- a variable may have a node of its row
 pub row-allows : (d : List ℕ) (v x : ℕ) → inRow d v x ≡ true → allows d (Var v) x ≡ true

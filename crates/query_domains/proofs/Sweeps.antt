@@ -15,6 +15,7 @@ use Rattle.query.specs.declared.Pattern.{Pattern}
 use Rattle.query.specs.declared.Query.{Query}
 use Rattle.query.specs.Ask.{patternAt, wrongPatternEnd}
 use Rattle.query.specs.Match.{standsFor, patternTriple}
+use Rattle.query.proofs.Steps.{code-no-variable, one-variable}
 use Rattle.query_parts.proofs.Ends.{variable-below}
 use Rattle.query_rows.specs.Rows.{inRow, Within, RowSet, RowCopied, Sized}
 use Rattle.query_rows.proofs.Rows.{allows-row}
@@ -23,22 +24,6 @@ use Rattle.query_domains.proofs.Supports.{row-allows, allows-more}
 use Rattle.query_domains.proofs.Marks.{choice-marked}
 
 -- ── variables at ends ──
-isVariable : End → Bool
-isVariable (Var v) = true
-isVariable (Code c) = false
-
-numberOf : End → ℕ
-numberOf (Var v) = v
-numberOf (Code c) = c
-
-code-not-variable : (c v : ℕ) → Code c ≡ Var v → ⊥
-unfolding isVariable
-code-not-variable c v h = true≢false (sym (ap isVariable h))
-
-same-variable : (u v : ℕ) → Var u ≡ Var v → u ≡ v
-unfolding numberOf
-same-variable u v h = ap numberOf h
-
 -- check 6 passed
 pub right-below : (n : ℕ) (e : End) → wrongPatternEnd n e ≡ false → VariableBelow e
 right-below n e w u h = variable-below n u e h w
@@ -48,26 +33,26 @@ module _ (d d′ : List ℕ) (e : End) (w : ℕ) where
   pub variable-kept : (u : ℕ) → e ≡ Var u → RowCopied d d′ u w → DomainKept d d′ e w
   variable-kept u h c = record {
     size = c .size;
-    row = λ v x z. ap (λ (k : ℕ). inRow d′ k x) (same-variable v u (sym z ∙ h)) ∙ c .row x;
+    row = λ v x z. ap (λ (k : ℕ). inRow d′ k x) (one-variable e u v z h) ∙ c .row x;
     others = λ v x n. c .others v x (λ z. n (h ∙ ap Var (sym z)));
   }
 
   pub code-kept : (c : ℕ) → e ≡ Code c → d′ ≡ d → DomainKept d d′ e w
   code-kept c h same = record {
     size = ap length same;
-    row = λ v x z. absurd (code-not-variable c v (sym h ∙ z));
+    row = λ v x z. absurd (code-no-variable _ v c h z);
     others = λ v x n. ap (λ (k : List ℕ). inRow k v x) same;
   }
 
 -- a choice whose nodes are in the rows, with the node of the end in row w
 module _ (d d′ : List ℕ) (σ entry : ℕ → ℕ) (w : ℕ) where
   end-kept : (e : End) → DomainKept d d′ e w → inRow d w (standsFor entry σ e) ≡ true → (v : ℕ) → inRow d v (σ v) ≡ true → inRow d′ v (σ v) ≡ true
-  end-kept (Code c) k there v h = k .others v (σ v) (code-not-variable c v) ∙ h
+  end-kept (Code c) k there v h = k .others v (σ v) (λ e. code-no-variable _ v c refl e) ∙ h
   end-kept (Var u) k there v h = go (ℕ-discrete u v)
     where
       go : Dec (u ≡ v) → inRow d′ v (σ v) ≡ true
       go (yes z) = k .row v (σ v) (ap Var z) ∙ subst (λ (i : ℕ). inRow d w (σ i) ≡ true) z there
-      go (no n) = k .others v (σ v) (λ z. n (same-variable u v z)) ∙ h
+      go (no n) = k .others v (σ v) (λ z. n (one-variable _ v u refl z)) ∙ h
 
 -- ── one pass ──
 module _ (table map d : List ℕ) (p : Pattern) (s : Sized d) (below-s : VariableBelow (p .subject)) (below-o : VariableBelow (p .object))

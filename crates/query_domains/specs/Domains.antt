@@ -42,7 +42,7 @@ pub record EndsMarked (d : List ℕ) (t : Triple) : Type 0 where
   pub subject : inRow d 8 (t .subject) ≡ true
   pub object : inRow d 9 (t .object) ≡ true
 
--- no row loses a node, and if the triple t supports the pattern its ends are marked
+-- no row loses a node, and if the triple t supports the pattern its ends are marked and the answer is true
 pub record TripleMarked (map d d′ : List ℕ) (p : Pattern) (t : Triple) (r : Bool) : Type 0 where
   pub size : length d′ ≡ length d
   pub kept : (u y : ℕ) → inRow d u y ≡ true → inRow d′ u y ≡ true
@@ -78,7 +78,7 @@ pub record Swept (table map d d′ : List ℕ) (p : Pattern) (r : Bool) : Type 0
   pub within : (σ : ℕ → ℕ) → Within d σ → Mem (patternTriple (label map) σ p) (triples table) → Within d′ σ
   pub some : (σ : ℕ → ℕ) → Within d σ → Mem (patternTriple (label map) σ p) (triples table) → r ≡ true
 
--- row v holds the node, or every node where that is the absent mark, and no other row is altered
+-- row v holds the node, or every node where that is the absent mark, and no other row loses a node
 pub record RowFilled (d d′ : List ℕ) (v node : ℕ) : Type 0 where
   pub size : length d′ ≡ length d
   pub row : (x : ℕ) → ((node ≡ absent → ⊥) → x ≡ node) → inRow d′ v x ≡ true

@@ -28,7 +28,7 @@ fn may_stand(map: &[u32], rows: &[u64], e: End, x: u32) -> bool
     }
 }
 
-// Whether the nodes x and y are one where the ends are one variable.
+// False only where both ends are one variable and x is not y.
 fn ends_agree(e: End, f: End, x: u32, y: u32) -> bool
     ensures { λ r. ⌜ r ≡ endsAgree e f x y ⌝ }
 {

@@ -1,28 +1,29 @@
--- Choices for two parts of a query that share no variable are one for both.
+-- Choices for two parts of a query that share no variable without a node are one for both.
 -- Assumes nothing.
-use Prim.Native.Nat.{ℕ, _<_, _≤_}
+use Prim.Native.Nat.{ℕ, _-_, _<_, _≤_}
 use native.Mathlib.Omega.{arith}
-use native.Mathlib.Decide.{decLt}
-use mathlib.Core.Path.{_≡_, refl, sym, ap, _∙_}
+use native.Mathlib.Decide.{ℕ-discrete, decLt}
+use mathlib.Core.Path.{_≡_, refl, sym, ap, subst, _∙_}
 use mathlib.Core.Bool.{Bool, true, false, cond, _||_, true≢false}
 use mathlib.Core.List.{List, List·Memᴰ as Mem, Memᴰ·cast}
 use mathlib.Core.Logic.{inl, inr, ⊎-elim}
 use lib.Dec.{eqb}
-use lib.ListN.{getD-replicate}
+use lib.ListN.{getD}
 use borrow.Author.Tests.{eq-eqb, eqb-true}
 use Rattle.model.specs.declared.Triple.{Triple}
 use Rattle.model.specs.Codes.{absent}
 use Rattle.model.specs.Lists.{any, tabulate}
 use Rattle.model.specs.Partition.{label}
-use Rattle.theory.proofs.Tests.{or-true, or-left, or-right, not-true-false}
+use Rattle.theory.proofs.Tests.{cond-cases, or-true, or-left, or-right, not-true-false}
 use Rattle.theory.proofs.Runs.{run-holds, run-found}
 use Rattle.query.specs.declared.End.{End}
 use Rattle.query.specs.declared.End.the-variants.{Var, Code}
 use Rattle.query.specs.declared.Pattern.{Pattern}
 use Rattle.query.specs.declared.Query.{Query}
-use Rattle.query.specs.Ask.{patternAt, unbound}
+use Rattle.query.specs.Ask.{patternAt, wrongQuery}
 use Rattle.query.specs.Match.{standsFor, patternTriple}
-use Rattle.query.specs.Choices.{Agrees, Putting}
+use Rattle.query.specs.Choices.{Agrees, CanPut}
+use Rattle.query.proofs.Steps.{Good, good-query}
 use Rattle.query_order.specs.Order.{firstPatterns, Holds, Apart}
 
 -- ── a pattern is put alike by choices that agree on its variables ──
@@ -66,22 +67,30 @@ variable-holds v p =
     (λ e. or-right (isVariable v (p .subject)) _ (variable-is v (p .object) e))
 
 -- ── two parts ──
-module _ (q : Query) (k : ℕ) where
-  -- whether a variable is in a pattern before the k-th
+-- the variables of a query that is no wrong one are below 8
+below-eight : (n : ℕ) (q : Query) → wrongQuery n q ≡ false → (i v : ℕ) → i < q .count → Holds v (patternAt q i) → v < 8
+below-eight n q h i v l (inl e) = subst (Good n) e (good-query n q h .subject i l)
+below-eight n q h i v l (inr e) = subst (Good n) e (good-query n q h .object i l)
+
+module _ (q : Query) (k j : ℕ) where
+  -- whether a variable is in a pattern from the k-th to before the j-th
   first : ℕ → Bool
-  first v = any (holds v) (tabulate (patternAt q) 0 k)
+  first v = any (holds v) (tabulate (patternAt q) k (j - k))
 
-  first-in : (i v : ℕ) → i < k → Holds v (patternAt q i) → first v ≡ true
+  first-in : (i v : ℕ) → k ≤ i → i < j → Holds v (patternAt q i) → first v ≡ true
   unfolding first
-  first-in i v l h = run-holds (holds v) (patternAt q) 0 k i (omega arith) (omega arith) (variable-holds v (patternAt q i) h)
+  first-in i v a l h = run-holds (holds v) (patternAt q) k (j - k) i a (omega arith) (variable-holds v (patternAt q i) h)
 
-  first-not : Apart q k → (j v : ℕ) → k ≤ j → j < q .count → Holds v (patternAt q j) → first v ≡ false
+  first-not : (b : List ℕ) → Apart b q k j → (i v : ℕ) → v < 8 → getD b v 0 ≡ absent → j ≤ i → i < q .count → Holds v (patternAt q i)
+      → first v ≡ false
   unfolding first
-  first-not apart j v l m h =
+  first-not b apart i v e free l m h =
       not-true-false (first v)
-      (λ t. let w = run-found (holds v) (patternAt q) 0 k t in apart (w .0) j v (omega (arith, w .2)) l m (holds-variable v _ (w .3)) h)
+      (λ t.
+      let w = run-found (holds v) (patternAt q) k (j - k) t in
+      apart (w .0) i v e free (w .1) (omega (arith, w .1, w .2)) l m (holds-variable v _ (w .3)) h)
 
-  -- one choice for the variables before the k-th pattern, one for the others
+  -- one choice for the variables of those patterns, one for the others
   both : (σ τ : ℕ → ℕ) → ℕ → ℕ
   both σ τ v = cond (first v) (σ v) (τ v)
 
@@ -93,22 +102,32 @@ module _ (q : Query) (k : ℕ) where
   unfolding both
   both-second σ τ v h = rw h
 
--- every choice agrees with no bindings
-agrees-unbound : (σ : ℕ → ℕ) → Agrees σ unbound
-agrees-unbound σ v l n = absurd (n (getD-replicate 8 v absent 0 l))
+  -- where both agree with the bindings, so does that
+  both-agree : (σ τ : ℕ → ℕ) (b : List ℕ) → Agrees σ b → Agrees τ b → Agrees (both σ τ) b
+  unfolding both
+  both-agree σ τ b s t v l n = cond-cases (λ (x : ℕ). x ≡ getD b v 0) (first v) (λ e. s v l n) (λ e. t v l n)
 
-pub parts-joined : (ts : List Triple) (map : List ℕ) (q : Query) (k z : ℕ) → Apart q k → z ≤ q .count
-    → Putting ts map (firstPatterns q k) 0 unbound → Putting ts map (firstPatterns q z) k unbound → Putting ts map (firstPatterns q z) 0 unbound
-parts-joined ts map q k z apart l (σ, s) (τ, t) = (ρ, record { agrees = agrees-unbound ρ; puts = λ j a b. put-at j b (decLt j k) })
+pub parts-joined : (ts : List Triple) (map : List ℕ) (n : ℕ) (q : Query) (b : List ℕ) (k j z : ℕ) → wrongQuery n q ≡ false → Apart b q k j
+    → z ≤ q .count → CanPut ts map (firstPatterns q j) k b → CanPut ts map (firstPatterns q z) j b → CanPut ts map (firstPatterns q z) k b
+parts-joined ts map n q b k j z right apart l (σ, s) (τ, t) =
+    (ρ, record { agrees = agree; puts = λ i a m. put-at i a m (decLt i j) })
   where
     ρ : ℕ → ℕ
-    ρ = both q k σ τ
+    ρ = both q k j σ τ
 
-    put-at : (j : ℕ) → j < z → Dec (j < k) → Mem (patternTriple (label map) ρ (patternAt q j)) ts
-    put-at j b (yes d) =
-        Memᴰ·cast {a = patternTriple (label map) ρ (patternAt q j)}
-        (put-alike (label map) ρ σ (patternAt q j) (λ v h. both-first q k σ τ v (first-in q k j v d h))) (s .puts j (omega arith) d)
-    put-at j b (no d) =
-        let n : k ≤ j = omega arith in
-        Memᴰ·cast {a = patternTriple (label map) ρ (patternAt q j)}
-        (put-alike (label map) ρ τ (patternAt q j) (λ v h. both-second q k σ τ v (first-not q k apart j v n (omega arith) h))) (t .puts j n b)
+    agree : Agrees ρ b
+    agree = both-agree q k j σ τ b (s .agrees) (t .agrees)
+
+    -- at a variable of a pattern from the j-th on
+    second : (i v : ℕ) → j ≤ i → i < q .count → Holds v (patternAt q i) → Dec (getD b v 0 ≡ absent) → ρ v ≡ τ v
+    second i v d m h (yes e) = both-second q k j σ τ v (first-not q k j b apart i v (below-eight n q right i v m h) e d m h)
+    second i v d m h (no o) = let w = below-eight n q right i v m h in agree v w o ∙ sym (t .agrees v w o)
+
+    put-at : (i : ℕ) → k ≤ i → i < z → Dec (i < j) → Mem (patternTriple (label map) ρ (patternAt q i)) ts
+    put-at i a m (yes d) =
+        Memᴰ·cast {a = patternTriple (label map) ρ (patternAt q i)}
+        (put-alike (label map) ρ σ (patternAt q i) (λ v h. both-first q k j σ τ v (first-in q k j i v a d h))) (s .puts i a d)
+    put-at i a m (no d) =
+        let o : j ≤ i = omega arith in
+        Memᴰ·cast {a = patternTriple (label map) ρ (patternAt q i)}
+        (put-alike (label map) ρ τ (patternAt q i) (λ v h. second i v o (omega arith) h (ℕ-discrete (getD b v 0) absent))) (t .puts i o m)

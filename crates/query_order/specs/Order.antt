@@ -29,7 +29,7 @@ exchanged q i j = record { patterns = set (set (q .patterns) i (patternAt q j)) 
 abbrev pub StandsIn : Query → ℕ → Pattern → Type 0
 StandsIn q k p = (i : ℕ) × (k ≤ i) × (i < q .count) × (p ≡ patternAt q i)
 
--- r has the counted patterns of q from the k-th on, in any order, and those before as they are
+-- r has the counted patterns of q from the k-th on, in any order, repeats aside, and those before as they are
 pub record Arranged (k : ℕ) (q r : Query) : Type 0 where
   pub room : length (r .patterns) ≡ 8
   pub count : r .count ≡ q .count
@@ -41,15 +41,17 @@ pub record Arranged (k : ℕ) (q r : Query) : Type 0 where
 abbrev pub Holds : ℕ → Pattern → Type 0
 Holds v p = (p .subject ≡ Var v) ⊎ (p .object ≡ Var v)
 
--- no variable is in a pattern before the z-th and in a counted one from there on
-abbrev pub Apart : Query → ℕ → Type 0
-Apart q z = (i j v : ℕ) → i < z → z ≤ j → j < q .count → Holds v (patternAt q i) → Holds v (patternAt q j) → ⊥
+-- no variable without a node is in a pattern from the k-th to before the z-th and in a counted one from there on
+abbrev pub Apart : List ℕ → Query → ℕ → ℕ → Type 0
+Apart b q k z =
+    (i j v : ℕ) → v < 8 → getD b v 0 ≡ absent → k ≤ i → i < z → z ≤ j → j < q .count → Holds v (patternAt q i) → Holds v (patternAt q j) → ⊥
 
--- z ends a part of the patterns that begins at the k-th: all patterns, or patterns that share no variable with those after it
-pub record PartEnd (q : Query) (k z : ℕ) : Type 0 where
-  pub more : k < z
+-- z ends a part, begun at the j-th, of the patterns from the k-th on: all of them, or some that share no variable without a node
+-- with those after them
+pub record PartEnd (b : List ℕ) (q : Query) (k j z : ℕ) : Type 0 where
+  pub more : j < z
   pub most : z ≤ q .count
-  pub apart : z < q .count → Apart q z
+  pub apart : z < q .count → Apart b q k z
 
 -- a variable that has no node, or 8
 pub record FreeVariable (b : List ℕ) (v : ℕ) : Type 0 where

@@ -1,9 +1,11 @@
-// The order in which the patterns of a query are searched, its parts, and the variable to fix. Which order and which variable is a
+// The order in which the patterns of a query are searched, its parts, and the variable to fix. Which order and which variable are a
 // matter of time only; what is promised is in specs/Order.
 
 ghost use mathlib.Core.Path.{_≡_};
 ghost use mathlib.Core.Bool.{true};
 ghost use Prim.Native.Nat.{ℕ, _<_, _≤_};
+ghost use lib.ListN.{getD};
+ghost use Rattle.model.specs.Codes.{absent};
 ghost use Rattle.query.specs.Ask.{patternAt};
 ghost use Rattle.query.specs.declared.End.the-variants.{Var};
 ghost use Rattle.query_order.specs.Order.{Copied, exchanged, Arranged, Holds, Apart, PartEnd, FreeVariable};
@@ -125,9 +127,9 @@ pub fn arrange(q: Query, k: usize, bindings: [u32; 8]) -> Query
     r
 }
 
-// Whether two ends are one variable.
-fn same_variable(e: End, f: End) -> bool
-    ensures { λ r. ⌜ ((v : ℕ) → e ≡ Var v → f ≡ Var v → r ≡ true) ⌝ }
+// Whether two ends are one variable that has no node.
+fn same_variable(e: End, f: End, bindings: [u32; 8]) -> bool
+    ensures { λ r. ⌜ ((v : ℕ) → v < 8 → getD bindings v 0 ≡ absent → e ≡ Var v → f ≡ Var v → r ≡ true) ⌝ }
 {
     let End::Var(v) = e else {
         return false;
@@ -135,38 +137,42 @@ fn same_variable(e: End, f: End) -> bool
     let End::Var(w) = f else {
         return false;
     };
-    v == w
+    if v != w {
+        return false;
+    }
+    let node = bindings[(v % 8) as usize];
+    Code(node).is_absent()
 }
 
-// Whether two patterns share a variable.
-fn share(p: Pattern, o: Pattern) -> bool
-    ensures { λ r. ⌜ ((v : ℕ) → Holds v p → Holds v o → r ≡ true) ⌝ }
+// Whether two patterns share a variable that has no node.
+fn share(p: Pattern, o: Pattern, bindings: [u32; 8]) -> bool
+    ensures { λ r. ⌜ ((v : ℕ) → v < 8 → getD bindings v 0 ≡ absent → Holds v p → Holds v o → r ≡ true) ⌝ }
 {
     let a = p.subject;
     let b = p.object;
     let c = o.subject;
     let d = o.object;
-    if same_variable(a, c) {
+    if same_variable(a, c, bindings) {
         return true;
     }
-    if same_variable(a, d) {
+    if same_variable(a, d, bindings) {
         return true;
     }
-    if same_variable(b, c) {
+    if same_variable(b, c, bindings) {
         return true;
     }
-    same_variable(b, d)
+    same_variable(b, d, bindings)
 }
 
-// Whether a pattern before the z-th shares a variable with p.
-fn touched(q: Query, z: usize, p: Pattern) -> bool
+// Whether a pattern from the k-th to before the z-th shares a variable that has no node with p.
+fn touched(q: Query, k: usize, z: usize, p: Pattern, bindings: [u32; 8]) -> bool
     requires { ⌜ z ≤ 8 ⌝ }
-    ensures { λ r. ⌜ ((i v : ℕ) → i < z → Holds v (patternAt q i) → Holds v p → r ≡ true) ⌝ }
+    ensures { λ r. ⌜ ((i v : ℕ) → v < 8 → getD bindings v 0 ≡ absent → k ≤ i → i < z → Holds v (patternAt q i) → Holds v p → r ≡ true) ⌝ }
 {
-    let mut i = 0;
+    let mut i = k;
     while i < z {
         let o = q.patterns[i];
-        if share(o, p) {
+        if share(o, p, bindings) {
             return true;
         }
         i += 1;
@@ -174,16 +180,16 @@ fn touched(q: Query, z: usize, p: Pattern) -> bool
     false
 }
 
-// Whether no variable is in a pattern before the z-th and in one from there on.
-fn apart(q: Query, z: usize) -> bool
+// Whether no variable without a node is in a pattern from the k-th to before the z-th and in one from there on.
+fn apart(q: Query, k: usize, z: usize, bindings: [u32; 8]) -> bool
     requires { ⌜ (z ≤ 8) × (q .count ≤ 8) ⌝ }
-    ensures { λ r. ⌜ (r ≡ true → Apart q z) ⌝ }
+    ensures { λ r. ⌜ (r ≡ true → Apart bindings q k z) ⌝ }
 {
     let count = q.count as usize;
     let mut j = z;
     while j < count {
         let p = q.patterns[j];
-        if touched(q, z, p) {
+        if touched(q, k, z, p, bindings) {
             return false;
         }
         j += 1;
@@ -191,15 +197,15 @@ fn apart(q: Query, z: usize) -> bool
     true
 }
 
-// Where the part that begins at pattern k ends.
-pub fn part_end(q: Query, k: usize) -> usize
-    requires { ⌜ (k < q .count) × (q .count ≤ 8) ⌝ }
-    ensures { λ r. ⌜ PartEnd q k r ⌝ }
+// Where the part that begins at pattern j ends, of the patterns from k on.
+pub fn part_end(q: Query, k: usize, j: usize, bindings: [u32; 8]) -> usize
+    requires { ⌜ (j < q .count) × (q .count ≤ 8) ⌝ }
+    ensures { λ r. ⌜ PartEnd bindings q k j r ⌝ }
 {
     let count = q.count as usize;
-    let mut z = k + 1;
+    let mut z = j + 1;
     while z < count {
-        if apart(q, z) {
+        if apart(q, k, z, bindings) {
             return z;
         }
         z += 1;
@@ -268,13 +274,48 @@ fn joined(labels: [u32; 8], x: u32, y: u32) -> [u32; 8] {
     relabelled(labels, labels[x as usize], labels[y as usize])
 }
 
-// How many patterns from k on close a cycle of variables without a node, one variable left out.
-fn closings(q: Query, k: usize, bindings: [u32; 8], out: u32) -> u32
+// How many patterns close a cycle in each part of the variables, by its label, after one between the variables x and y.
+fn counted(closed: [u32; 8], labels: [u32; 8], x: u32, y: u32) -> [u32; 8] {
+    if 8 <= x {
+        return closed;
+    }
+    if 8 <= y {
+        return closed;
+    }
+    let from = (labels[x as usize] % 8) as usize;
+    let to = (labels[y as usize] % 8) as usize;
+    let mut r = closed;
+    if from == to {
+        r[to] = std::num::wrapping_add_u32(closed[to], closes(labels, x, y));
+        return r;
+    }
+    r[to] = std::num::wrapping_add_u32(closed[to], closed[from]);
+    r
+}
+
+// The largest of eight numbers.
+fn largest(numbers: [u32; 8]) -> u32 {
+    let mut most = 0;
+    let mut v = 0;
+    while v < 8 {
+        let n = numbers[v];
+        if most < n {
+            most = n;
+        }
+        v += 1;
+    }
+    most
+}
+
+// The patterns from k on that close a cycle of variables without a node, one variable left out: 16 times how many do in the worst
+// connected part of the variables, and how many do in all.
+fn cycles(q: Query, k: usize, bindings: [u32; 8], out: u32) -> u32
     requires { ⌜ q .count ≤ 8 ⌝ }
 {
     let count = q.count as usize;
     let mut labels = [0, 1, 2, 3, 4, 5, 6, 7];
-    let mut closed = 0;
+    let mut closed = [0; 8];
+    let mut total = 0;
     let mut j = k;
     while j < count {
         let p = q.patterns[j];
@@ -282,28 +323,31 @@ fn closings(q: Query, k: usize, bindings: [u32; 8], out: u32) -> u32
         let object = p.object;
         let x = free_variable(subject, bindings, out);
         let y = free_variable(object, bindings, out);
-        closed += closes(labels, x, y);
+        total += closes(labels, x, y);
+        let parts = counted(closed, labels, x, y);
+        closed = parts;
         let after = joined(labels, x, y);
         labels = after;
         j += 1;
     }
-    closed
+    (largest(closed) << 4) | total
 }
 
-// The variable to fix: the one without which fewest cycles are left. 8 if there is no cycle.
+// The variable to fix: the one without which the worst part has fewest cycles, and of those the one without which fewest are left in
+// all. 8 if there is no cycle.
 pub fn cut_variable(q: Query, k: usize, bindings: [u32; 8]) -> u32
     requires { ⌜ q .count ≤ 8 ⌝ }
     ensures { λ r. ⌜ FreeVariable bindings r ⌝ }
 {
     let mut best = 8;
-    let mut fewest = closings(q, k, bindings, 8);
+    let mut fewest = cycles(q, k, bindings, 8);
     let mut v = 0;
     while v < 8 {
         let node = bindings[v as usize];
         if Code(node).is_absent() {
-            let closed = closings(q, k, bindings, v);
-            if closed < fewest {
-                fewest = closed;
+            let left = cycles(q, k, bindings, v);
+            if left < fewest {
+                fewest = left;
                 best = v;
             }
         }

@@ -28,7 +28,7 @@ pub record FirstWith (f : ℕ → Triple) (p a b r : ℕ) : Type 0 where
 unfoldable pub front : ℕ → ℕ → Triple → Bool
 front s p t = eqb (t .subject) s && eqb (t .property) p
 
--- r is the first place from a to before b with this subject and property, or b
+-- no place from a to before r has this subject and property; at r stands one with the property, or r is b
 pub record FirstOf (f : ℕ → Triple) (s p a b r : ℕ) : Type 0 where
   pub low : a ≤ r
   pub high : r ≤ b

@@ -24,7 +24,7 @@ pub enum Wanted {
     Node(u32),
 }
 
-// A place of a table, and what it cost to find it: a step for each place passed over and some for the search itself.
+// A place of a table, and the steps that finding it counts for: a scan 4 more than the places it passes over, a bisection 8.
 pub struct Reached {
     pub place: usize,
     pub cost: usize,
@@ -188,8 +188,20 @@ fn first_of(table: &[u32], subject: u32, property: u32, from: usize, to: usize) 
     to
 }
 
+// The first place from..to whose triple has property p, or `to`, with what the scan counts for.
+fn scanned(table: &[u32], p: u32, from: usize, to: usize) -> Reached
+    requires { ⌜ (from ≤ to) × (3 * to ≤ length (now table)) ⌝ }
+    ensures { λ r. ⌜ FirstWith (at (now (table .entry))) p from to (r .place) ⌝ }
+{
+    let i = first_with(table, p, from, to);
+    Reached {
+        place: i,
+        cost: i - from + 4,
+    }
+}
+
 // In rising order: the place from..to of this triple, or `to`.
-fn first_both(table: &[u32], t: Triple, from: usize, to: usize) -> usize
+fn place_of(table: &[u32], t: Triple, from: usize, to: usize) -> usize
     requires { ⌜ (from ≤ to) × (3 * to ≤ length (now table)) × RisingPart (at (now table)) from to ⌝ }
     ensures { λ r. ⌜ FirstSame (at (now (table .entry))) t from to r ⌝ }
 {
@@ -218,11 +230,7 @@ fn first_in_order(
     let property = p.property;
     let subject = p.subject;
     let Wanted::Node(x) = node_wanted(map, subject, bindings) else {
-        let i = first_with(table, property, from, to);
-        return Reached {
-            place: i,
-            cost: i - from + 4,
-        };
+        return scanned(table, property, from, to);
     };
     let object = p.object;
     let Wanted::Node(y) = node_wanted(map, object, bindings) else {
@@ -234,7 +242,7 @@ fn first_in_order(
         property: property,
         object: y,
     };
-    let i = first_both(table, t, from, to);
+    let i = place_of(table, t, from, to);
     Reached { place: i, cost: 8 }
 }
 
@@ -254,9 +262,5 @@ pub fn first_fit(
     if rising {
         return first_in_order(table, map, p, bindings, from, to);
     }
-    let i = first_with(table, p.property, from, to);
-    Reached {
-        place: i,
-        cost: i - from + 4,
-    }
+    scanned(table, p.property, from, to)
 }

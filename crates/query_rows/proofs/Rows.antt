@@ -17,6 +17,10 @@ use Rattle.query_rows.specs.Rows.{width, bit, inRow, allows, Sized, PutI
 use Rattle.query_rows.proofs.Bits.{with-bit, bit-there, bit-kept}
 use Rattle.query_rows.proofs.Places.{word-of, shift-of, bit-below, rows-apart, row-within}
 
+-- ── as many words: `Sized` by the lengths ──
+pub sized-as : (n m : ℕ) → m ≡ n → (13 ≤ n) × (n ≤ 13312) → (13 ≤ m) × (m ≤ 13312)
+sized-as n m e h = (omega (arith, h .0), omega (arith, h .1))
+
 -- ── a node in a row ──
 pub in-row-is : (d : List ℕ) (v x : ℕ) → bit d (v * width d + x % width d) ≡ inRow d v x
 unfolding inRow

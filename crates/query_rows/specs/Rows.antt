@@ -31,7 +31,7 @@ allows d (Code c) x = true
 abbrev pub Within : List ℕ → (ℕ → ℕ) → Type 0
 Within d σ = (v : ℕ) → v < 8 → allows d (Var v) (σ v) ≡ true
 
--- there are rows, and none is wider than there are codes
+-- 13 rows of 1 to 1,024 words, so at most as many bits as there are codes
 abbrev pub Sized : List ℕ → Type 0
 Sized d = (13 ≤ length d) × (length d ≤ 13312)
 
@@ -53,7 +53,7 @@ pub record RowCopied (d d′ : List ℕ) (u v : ℕ) : Type 0 where
   pub row : (x : ℕ) → inRow d′ u x ≡ inRow d v x
   pub others : (w x : ℕ) → (w ≡ u → ⊥) → inRow d′ w x ≡ inRow d w x
 
--- r is a node from a to b, and row v has none from a to before r
+-- r is from a to b, and row v holds no node from a to before r
 pub record NextInRow (d : List ℕ) (v a b r : ℕ) : Type 0 where
   pub low : a ≤ r
   pub high : r ≤ b

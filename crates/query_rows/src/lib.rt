@@ -31,7 +31,7 @@ fn place(width: usize, v: usize, x: usize) -> usize
 }
 
 // Whether node x is in row v.
-pub fn in_row(rows: &[u64], v: usize, x: u32) -> bool
+fn in_row(rows: &[u64], v: usize, x: u32) -> bool
     requires { ⌜ Sized (now rows) × (v < 4294967296) ⌝ }
     ensures { λ r. ⌜ r ≡ inRow (now (rows .entry)) v x ⌝ }
 {
@@ -113,7 +113,7 @@ fn ones(word: u64) -> usize
     64
 }
 
-// How many nodes row v holds.
+// How many bits of row v are set.
 pub fn nodes_in(rows: &[u64], v: usize) -> usize
     requires { ⌜ Sized (now rows) × (v < 13) ⌝ }
     ensures { λ r. ⌜ r ≤ 65536 ⌝ }

@@ -4,14 +4,13 @@ use Prim.Native.Nat.{ℕ, suc, _+_, _-_, _*_, _/_, _<_, _≤_}
 use native.Mathlib.Nat.{eq-or-lt-of-le, suc-mul}
 use native.Mathlib.Omega.{arith}
 use mathlib.Core.Path.{_≡_, refl, sym, ap, subst, _∙_}
-use mathlib.Core.Bool.{Bool, true, false, _&&_, true≢false}
+use mathlib.Core.Bool.{Bool, true, false, cond, _&&_, true≢false}
 use mathlib.Core.List.{List, List·Memᴰ as Mem, Memᴰ·cast}
-use mathlib.Core.Logic.{_⊎_, inl, inr, ⊎-elim}
-use lib.Dec.{eqb}
-use borrow.Author.Tests.{eq-eqb}
+use mathlib.Core.Logic.{⊎-elim}
+use lib.Dec.{eqb, leb}
+use borrow.Author.Tests.{eq-eqb, leb-true, le-leb, lt-leb}
 use lib.ListN.{length, getD}
 use Rattle.model.specs.declared.Triple.{Triple}
-use Rattle.model.specs.Codes.{absent}
 use Rattle.model.specs.Triples.{triples}
 use Rattle.model.specs.Partition.{label}
 use Rattle.lists.specs.Flat.{at}
@@ -26,7 +25,7 @@ use Rattle.query.specs.declared.Query.{Query}
 use Rattle.query.specs.declared.Fit.{Fit}
 use Rattle.query.specs.Ask.{patternAt, fitEnd, fitTriple, wrongQuery}
 use Rattle.query.specs.Match.{standsFor, patternTriple}
-use Rattle.query.specs.Choices.{Puts, Putting, Present}
+use Rattle.query.specs.Choices.{Agrees, Puts, CanPut, Present}
 use Rattle.query.proofs.Steps.{Good, GoodQuery, good-query, Fitting, triple-complete, Tried, triple-sound}
 use Rattle.query_parts.specs.Parts.{FirstFit}
 use Rattle.query_rows.specs.Rows.{allows, Within}
@@ -41,6 +40,33 @@ one-fewer n k m h =
 -- the next pattern has one pattern fewer, and this triple's place was one of its places
 pub falls-next : (n m i : ℕ) {t : ℕ} → n * (m / 3 + 1) + (m / 3 - i) ≡ t → 3 * i + 2 < m → n * (m / 3 + 1) + 0 < t
 falls-next n m i e h = omega arith
+
+-- ── a cost ──
+module _ (limited : Bool) (before cost : ℕ) where
+  pub spent-none : limited ≡ false → Spent limited before cost before false
+  spent-none h = record { left = rw h; up = rw h }
+
+  module _ (h : limited ≡ true) where
+    pub spent-up : before ≤ cost → Spent limited before cost 0 true
+    spent-up l = let e : 0 ≡ before - cost = omega arith in record { left = rw h e; up = rw (h, le-leb _ _ l) }
+
+    pub spent-some : cost < before → Spent limited before cost (before - cost) false
+    spent-some l = record { left = rw h; up = rw (h, lt-leb _ _ l) }
+
+  module _ (steps : ℕ) {r : Bool} (s : Spent limited before cost steps r) where
+    spent-fewer : steps ≤ before
+    spent-fewer = go limited (s .left)
+      where
+        go : (t : Bool) → steps ≡ cond t (before - cost) before → steps ≤ before
+        go true e = omega arith
+        go false e = omega arith
+
+    used-up : r ≡ true → (limited ≡ true) × (steps ≡ 0)
+    used-up e = go limited refl (sym (s .up) ∙ e) (s .left)
+      where
+        go : (t : Bool) → limited ≡ t → (t && leb before cost) ≡ true → steps ≡ cond t (before - cost) before → (limited ≡ true) × (steps ≡ 0)
+        go true h y l = let m : before ≤ cost = leb-true _ _ y in (h, omega arith)
+        go false h y l = absurd (true≢false (sym y))
 
 -- a choice within the domains is allowed at every end
 allowed-end : (map d : List ℕ) (n : ℕ) (σ : ℕ → ℕ) (e : End) → Good n e → Within d σ → allows d e (standsFor (label map) σ e) ≡ true
@@ -146,10 +172,10 @@ module _ (table map d : List ℕ) (q : Query) (right : wrongQuery (length map) q
             next-long = ap (λ (x : List ℕ). length x) (sym after) ∙ tried .long
 
             -- a choice for the patterns after this one is one for this one too
-            put-here : Putting ts map q (k + 1) (g .bindings) → Putting ts map q k b
+            put-here : CanPut ts map q (k + 1) (g .bindings) → CanPut ts map q k b
             put-here w =
                 let σ : ℕ → ℕ = w .0 in
-                let agrees = subst (λ (x : List ℕ). (v : ℕ) → v < 8 → (getD x v 0 ≡ absent → ⊥) → σ v ≡ getD x v 0) (sym after) (w .1 .agrees) in (
+                let agrees = subst (λ (x : List ℕ). Agrees σ x) (sym after) (w .1 .agrees) in (
                   σ,
                   record {
                     agrees = tried .back σ agrees;
@@ -170,7 +196,7 @@ module _ (table map d : List ℕ) (q : Query) (right : wrongQuery (length map) q
 
             ahead : (σ : ℕ → ℕ) → Puts ts map q k b σ → Here σ i → Puts ts map q (k + 1) (g .bindings) σ
             ahead σ a m = record {
-              agrees = subst (λ (x : List ℕ). (v : ℕ) → v < 8 → (getD x v 0 ≡ absent → ⊥) → σ v ≡ getD x v 0) after (fitting σ a i m .extends);
+              agrees = subst (λ (x : List ℕ). Agrees σ x) after (fitting σ a i m .extends);
               puts = λ j l₁ l₂. a .puts j (omega arith) l₂;
             }
 
@@ -208,31 +234,34 @@ module _ (table map d : List ℕ) (q : Query) (right : wrongQuery (length map) q
           go y σ a x j z e (eq o) = true≢false (sym (fitting σ a j e .fits) ∙ w .others j (omega arith) z)
           go y σ a x j z e (gt o) = true≢false (sym (fitting σ a j e .fits) ∙ w .others j (omega arith) z)
 
-      module _ (s₁ : ℕ) {u : Bool} (c : Spent limited s s₁ u) where
+      module _ (cost s₁ : ℕ) {u : Bool} (c : Spent limited s cost s₁ u) where
+        fewer : s₁ ≤ s
+        fewer = spent-fewer limited s cost s₁ c
+
         pub gave-up : u ≡ true → Sought table map d q k b limited s₀ s₁ false
         gave-up e = record {
-          fewer = omega (arith, h .fewer, c .fewer);
+          fewer = omega (arith, h .fewer, fewer);
           sound = λ z. absurd (true≢false (sym z));
-          complete = λ y σ a x. absurd (y (c .up e .0) (c .up e .1));
+          complete = λ y σ a x. absurd (y (used-up limited s cost s₁ c e .0) (used-up limited s cost s₁ c e .1));
         }
 
         pub none-left : i ≡ length table / 3 → Sought table map d q k b limited s₀ s₁ false
-        none-left e = try-end s₁ i (skip s₁ (c .fewer)) (omega arith)
+        none-left e = try-end s₁ i (skip s₁ (fewer)) (omega arith)
 
         module _ (s₂ : ℕ) {r : Bool} (x : SoughtAt table map d q k b i limited s₁ s₂ r) where
           pub found-here : r ≡ true → Sought table map d q k b limited s₀ s₂ true
           found-here e = record {
-            fewer = omega (arith, h .fewer, c .fewer, x .fewer);
+            fewer = omega (arith, h .fewer, fewer, x .fewer);
             sound = λ z. x .sound e;
             complete = λ y σ a z. refl;
           }
 
           pub try-step : i < length table / 3 → r ≡ false → NoneSoFar table map d q k b limited s₀ s₂ (i + 1)
           try-step m e = record {
-            fewer = omega (arith, h .fewer, c .fewer, x .fewer);
+            fewer = omega (arith, h .fewer, fewer, x .fewer);
             high = omega arith;
             none = λ y σ a o j z v. ⊎-elim
                 (λ (n : j ≡ i). true≢false (sym (x .complete y σ a o (subst (λ (j : ℕ). Here σ j) n v)) ∙ e))
-                (λ (n : j < i). skip s₂ (omega (arith, c .fewer, x .fewer)) .none y σ a o j n v)
+                (λ (n : j < i). skip s₂ (omega (arith, fewer, x .fewer)) .none y σ a o j n v)
                 (eq-or-lt-of-le {n = j} {m = i} (omega arith));
           }

@@ -17,7 +17,7 @@ use query_rows::allowed;
 
 // Takes a cost off the steps of a limited search. Whether it must give up.
 fn spend(limited: bool, steps: &mut usize, cost: usize) -> bool
-    ensures { λ r. ⌜ Spent limited (now (steps .entry)) (now (steps .exit)) r ⌝ }
+    ensures { λ r. ⌜ Spent limited (now (steps .entry)) cost (now (steps .exit)) r ⌝ }
 {
     if !limited {
         return false;
@@ -30,7 +30,8 @@ fn spend(limited: bool, steps: &mut usize, cost: usize) -> bool
     false
 }
 
-// Tries pattern k with one triple after the other, and the patterns after it. One call a pattern stands on the stack.
+// Tries pattern k with one triple after the other, and with each the patterns after it: on the stack stand one call of this and one of
+// try_triple for each pattern.
 pub fn try_pattern(
     table: &[u32],
     map: &[u32],

@@ -1,17 +1,14 @@
 // The thorough search: parts of a query that share no variable, each in a good order, within domains, and one variable after the other
-// fixed while a cycle is left.
+// fixed while a cycle is left. The quick run before it.
 
 ghost use mathlib.Core.Path.{_≡_};
-ghost use mathlib.Core.Bool.{true, false};
-ghost use Prim.Native.Nat.{ℕ, _+_, _<_, _≤_};
-ghost use lib.ListN.{length, getD};
+ghost use Prim.Native.Nat.{_+_, _<_, _≤_};
+ghost use lib.ListN.{getD};
 ghost use Rattle.model.specs.Codes.{absent};
 ghost use Rattle.model.specs.Triples.{triples};
-ghost use Rattle.query.specs.Ask.{search, unbound, wrongQuery};
-ghost use Rattle.query.specs.Choices.{Puts, Present};
-ghost use Rattle.query_parts.specs.Parts.{InOrder};
+ghost use Rattle.query.specs.Ask.{search, unbound};
 ghost use Rattle.query_rows.specs.Rows.{Sized};
-ghost use Rattle.query_settling.specs.Settling.{Settled, RowsKept, Fitting, KeptFor, NextCut, Searchable};
+ghost use Rattle.query_settling.specs.Settling.{Searchable, SettleNeeds, Settled, RowsKept, KeptFor, NextFixed};
 use lists::Code;
 use query::Query;
 use query_domains::sweep_all;
@@ -24,20 +21,20 @@ use query_rows::nodes_in;
 use query_search::try_pattern;
 
 // The steps that the search within the domains may take before a variable is fixed; the more nodes that one has, the more.
-fn step_limit(rows: &[u64], cut: u32, patterns: usize, triples: usize) -> usize
+fn step_limit(rows: &[u64], fixed: u32, patterns: usize, triples: usize) -> usize
     requires { ⌜ Sized (now rows) × (patterns ≤ 8) × (triples ≤ 1048576) ⌝ }
 {
-    if 7 < cut {
+    if 7 < fixed {
         return 0;
     }
-    let nodes = nodes_in(rows, cut as usize);
+    let nodes = nodes_in(rows, fixed as usize);
     4096 + patterns * triples * (16 + nodes / 4)
 }
 
-// The variable to fix, or 8: at the third one fixed the search has no limit.
-fn next_cut(q: Query, k: usize, bindings: [u32; 8], depth: usize) -> u32
+// The variable to fix; 8 if there is no cycle or three are fixed already.
+fn next_fixed(q: Query, k: usize, bindings: [u32; 8], depth: usize) -> u32
     requires { ⌜ q .count ≤ 8 ⌝ }
-    ensures { λ r. ⌜ NextCut bindings depth r ⌝ }
+    ensures { λ r. ⌜ NextFixed bindings depth r ⌝ }
 {
     if depth < 3 {
         return cut_variable(q, k, bindings);
@@ -45,8 +42,8 @@ fn next_cut(q: Query, k: usize, bindings: [u32; 8], depth: usize) -> u32
     8
 }
 
-// Whether some choice of nodes at these bindings puts the patterns from k on in the table. A search that gives up leaves a cycle, and a
-// variable of it is fixed.
+// Whether some choice of nodes at these bindings puts the patterns from k on, one part in a good order, in the table. Where there is a
+// cycle the search has a limit; if it gives up, a variable is fixed to each of its nodes.
 fn settle(
     table: &[u32],
     map: &[u32],
@@ -57,27 +54,16 @@ fn settle(
     rising: bool,
     depth: usize,
 ) -> bool
-    requires { ⌜ Fitting (now table) (now map) (now rows) q k bindings rising × (depth ≤ 3) ⌝ }
+    requires { ⌜ SettleNeeds (now table) (now map) (now rows) q k bindings rising × (depth ≤ 3) ⌝ }
     ensures { λ r. ⌜ Settled (now (table .entry)) (now (map .entry)) q k bindings r × RowsKept (now (rows .entry)) (now (rows .exit)) (10 + depth) ⌝ }
 {
-    let ordered = arrange(q, k, bindings);
-    if !sweep_all(table, map, rows, ordered, k, bindings) {
+    if !sweep_all(table, map, rows, q, k, bindings) {
         return false;
     }
-    let cut = next_cut(ordered, k, bindings, depth);
-    let limited = cut < 8;
-    let mut left = step_limit(rows, cut, ordered.count as usize, table.len() / 3);
-    if try_pattern(
-        table,
-        map,
-        rows,
-        ordered,
-        bindings,
-        k,
-        rising,
-        limited,
-        &mut left,
-    ) {
+    let fixed = next_fixed(q, k, bindings, depth);
+    let limited = fixed < 8;
+    let mut left = step_limit(rows, fixed, q.count as usize - k, table.len() / 3);
+    if try_pattern(table, map, rows, q, bindings, k, rising, limited, &mut left) {
         return true;
     }
     if !limited {
@@ -86,11 +72,11 @@ fn settle(
     if 0 < left {
         return false;
     }
-    copy_row(rows, 10 + depth, cut as usize);
-    settle_each(table, map, rows, ordered, k, bindings, rising, depth, cut)
+    copy_row(rows, 10 + depth, fixed as usize);
+    settle_each(table, map, rows, q, k, bindings, rising, depth, fixed)
 }
 
-// The same with the variable `cut` fixed to each node of row 10 + depth in turn.
+// The same with the variable `fixed` given each node of row 10 + depth in turn; then the patterns may fall into parts again.
 fn settle_each(
     table: &[u32],
     map: &[u32],
@@ -100,9 +86,9 @@ fn settle_each(
     bindings: [u32; 8],
     rising: bool,
     depth: usize,
-    cut: u32,
+    fixed: u32,
 ) -> bool
-    requires { ⌜ Fitting (now table) (now map) (now rows) q k bindings rising × (depth < 3) × (cut < 8) × (getD bindings cut 0 ≡ absent) × KeptFor (now table) (now map) (now rows) q k bindings (10 + depth) cut ⌝ }
+    requires { ⌜ SettleNeeds (now table) (now map) (now rows) q k bindings rising × (depth < 3) × (fixed < 8) × (getD bindings fixed 0 ≡ absent) × KeptFor (now table) (now map) (now rows) q k bindings (10 + depth) fixed ⌝ }
     ensures { λ r. ⌜ Settled (now (table .entry)) (now (map .entry)) q k bindings r × RowsKept (now (rows .entry)) (now (rows .exit)) (10 + depth) ⌝ }
 {
     let n = map.len();
@@ -113,8 +99,8 @@ fn settle_each(
             return false;
         }
         let mut more = bindings;
-        more[cut as usize] = node as u32;
-        if settle(table, map, rows, q, k, more, rising, depth + 1) {
+        more[fixed as usize] = node as u32;
+        if settle_parts(table, map, rows, q, k, more, rising, depth + 1) {
             return true;
         }
         x = node + 1;
@@ -122,22 +108,31 @@ fn settle_each(
     false
 }
 
-// Whether some choice of nodes puts all patterns in the table: every part of the query has one.
-pub fn settle_parts(table: &[u32], map: &[u32], rows: &mut [u64], q: Query, rising: bool) -> bool
-    requires { ⌜ Fitting (now table) (now map) (now rows) q 0 unbound rising ⌝ }
-    ensures { λ r. ⌜ Settled (now (table .entry)) (now (map .entry)) q 0 unbound r ⌝ }
+// Whether some choice of nodes at these bindings puts the patterns from k on in the table: every part of them has one.
+fn settle_parts(
+    table: &[u32],
+    map: &[u32],
+    rows: &mut [u64],
+    q: Query,
+    k: usize,
+    bindings: [u32; 8],
+    rising: bool,
+    depth: usize,
+) -> bool
+    requires { ⌜ SettleNeeds (now table) (now map) (now rows) q k bindings rising × (depth ≤ 3) ⌝ }
+    ensures { λ r. ⌜ Settled (now (table .entry)) (now (map .entry)) q k bindings r × RowsKept (now (rows .entry)) (now (rows .exit)) (10 + depth) ⌝ }
 {
-    let ordered = arrange(q, 0, [Code::ABSENT; 8]);
+    let ordered = arrange(q, k, bindings);
     let count = ordered.count as usize;
-    let mut k = 0;
-    while k < count {
-        let z = part_end(ordered, k);
+    let mut j = k;
+    while j < count {
+        let end = part_end(ordered, k, j, bindings);
         let mut part = ordered;
-        part.count = z as u32;
-        if !settle(table, map, rows, part, k, [Code::ABSENT; 8], rising, 0) {
+        part.count = end as u32;
+        if !settle(table, map, rows, part, j, bindings, rising, depth) {
             return false;
         }
-        k = z;
+        j = end;
     }
     true
 }
@@ -151,11 +146,11 @@ pub fn some_choice(table: &[u32], map: &[u32], q: Query, rising: bool) -> bool
     let count = q.count as usize;
     let limited = 1 < count;
     let mut steps = 2048 + 2 * count * (table.len() / 3);
-    let none = [0u64; 1];
+    let no_rows = [0u64; 1];
     if try_pattern(
         table,
         map,
-        &none[0..0],
+        &no_rows[0..0],
         q,
         [Code::ABSENT; 8],
         0,
@@ -171,6 +166,7 @@ pub fn some_choice(table: &[u32], map: &[u32], q: Query, rising: bool) -> bool
     if 0 < steps {
         return false;
     }
+    // 13 rows of 64 words: 4,096 bits a variable
     let mut rows = [0u64; 832];
-    settle_parts(table, map, &mut rows, q, rising)
+    settle_parts(table, map, &mut rows, q, 0, [Code::ABSENT; 8], rising, 0)
 }

@@ -1,6 +1,6 @@
 use Prim.Native.Nat.{_-_}
 use native.Mathlib.Omega.{arith}
-use Rattle.query_domains.proofs.Supports.{sized-same}
+use Rattle.query_rows.proofs.Rows.{sized-as}
 use Rattle.query_domains.proofs.Fills.{FilledBefore, none-filled, one-filled, all-filled}
 use Rattle.query_domains.proofs.fill.Statement.{statement}
 use Rattle.query_domains.proofs.fill.Tie as tie
@@ -24,7 +24,7 @@ fill-row-requires : tie.Need-fill-row-requires Inv-loop μ-loop
 fill-row-requires c κs =
     let start = c .before .before .before .before in
     let size = c .before .before .loop .inv .size in
-    (sized-same _ _ size (start .pre), c .before .loop-test .taken)
+    (sized-as _ _ size (start .pre), c .before .loop-test .taken)
 
 add-v : tie.Need-add-v Inv-loop μ-loop
 add-v c = omega arith

@@ -1,7 +1,7 @@
 use Prim.Native.Nat.{_-_}
 use native.Mathlib.Omega.{arith}
 use Rattle.query_domains.specs.Domains.{AllMarked}
-use Rattle.query_domains.proofs.Supports.{sized-same}
+use Rattle.query_rows.proofs.Rows.{sized-as}
 use Rattle.query_domains.proofs.Marks.{all-start, all-step, all-end}
 use Rattle.query_domains.proofs.mark_all.Statement.{statement}
 use Rattle.query_domains.proofs.mark_all.Tie as tie
@@ -19,7 +19,7 @@ mark-triple-requires : tie.Need-mark-triple-requires Inv-loop μ-loop
 mark-triple-requires c κs =
     let start = c .before .before .before .before .before .before in
     let size = c .before .before .loop .inv .size in
-    (start .pre .0, start .pre .1, sized-same _ _ size (start .pre .2), omega arith)
+    (start .pre .0, start .pre .1, sized-as _ _ size (start .pre .2), omega arith)
 
 add-i : tie.Need-add-i Inv-loop μ-loop
 add-i c = omega arith

@@ -1,7 +1,7 @@
 use native.Mathlib.Omega.{arith}
 use mathlib.Core.Path.{_∙_}
 use borrow.Author.Tests.{not-true}
-use Rattle.query_domains.proofs.Supports.{sized-same}
+use Rattle.query_rows.proofs.Rows.{sized-as}
 use Rattle.query_domains.proofs.Sweeps.{right-below, none-swept, some-swept}
 use borrow.Author.Needs.{needs}
 use Rattle.query_domains.proofs.sweep.Statement.{statement}
@@ -36,7 +36,7 @@ keep-end-requires c κs =
     let first = second .before .before .before .before in
     let start = first .before .before .before .before .before in
     let size = marked .mark-all .ensures .size ∙ second .set-row2 .ensures .size ∙ first .set-row .ensures .size in
-    (sized-same _ _ size (start .pre .2), right-below _ _ (start .pre .0), omega arith, omega arith)
+    (sized-as _ _ size (start .pre .2), right-below _ _ (start .pre .0), omega arith, omega arith)
 
 keep-end-requires-2 : tie.Need-keep-end-requires-2
 keep-end-requires-2 c κs =
@@ -46,7 +46,7 @@ keep-end-requires-2 c κs =
     let start = first .before .before .before .before .before in
     let marked-size = marked .mark-all .ensures .size ∙ second .set-row2 .ensures .size ∙ first .set-row .ensures .size in
     let size = c .before .before .before .keep-end .ensures .size ∙ marked-size in
-    (sized-same _ _ size (start .pre .2), right-below _ _ (start .pre .1), omega arith, omega arith)
+    (sized-as _ _ size (start .pre .2), right-below _ _ (start .pre .1), omega arith, omega arith)
 
 same-length-2 : tie.Need-same-length-2
 same-length-2 c = search needs

@@ -3,7 +3,7 @@ use native.Mathlib.Omega.{arith}
 use mathlib.Core.Path.{_∙_}
 use borrow.Author.Tests.{not-true}
 use Rattle.query.proofs.Steps.{few-patterns, right-subject, right-object}
-use Rattle.query_domains.proofs.Supports.{sized-same}
+use Rattle.query_rows.proofs.Rows.{sized-as}
 use Rattle.query_domains.proofs.Sweeps.{SweptSome, none-yet, one-more, all-none, all-swept}
 use Rattle.query_domains.proofs.sweep_all.Statement.{statement}
 use Rattle.query_domains.proofs.sweep_all.Tie as tie
@@ -44,7 +44,7 @@ sweep-requires c κs =
     let high : loop .loop .j - 1 < start .args .t4 .count = omega (arith, c .before .before .loop-test .taken, loop .loop .inv .1) in (
       right-subject _ (start .args .t4) (start .pre .0) _ high,
       right-object _ (start .args .t4) (start .pre .0) _ high,
-      sized-same _ _ (loop .loop .inv .0 .size ∙ filled .fill .ensures .size) (start .pre .1),
+      sized-as _ _ (loop .loop .inv .0 .size ∙ filled .fill .ensures .size) (start .pre .1),
     )
 
 same-length : tie.Need-same-length Inv-loop μ-loop

@@ -7,16 +7,16 @@ use Rattle.query_order.proofs.apart.Statement.{statement}
 use Rattle.query_order.proofs.apart.Tie as tie
 
 abbrev Inv-loop : tie.InvT-loop
-Inv-loop z q count j₀ j = ApartTo q z j
+Inv-loop k z bindings q count j₀ j = ApartTo bindings q k z j
 
 abbrev μ-loop : tie.MeasureT-loop
-μ-loop z q count j₀ j = count - j
+μ-loop k z bindings q count j₀ j = count - j
 
 cast-count : tie.Need-cast-count Inv-loop μ-loop
 cast-count c = search needs
 
 loop-holds : tie.Need-loop-holds Inv-loop μ-loop
-loop-holds c = apart-start _ _
+loop-holds c = apart-start _ _ _ _
 
 mul-p : tie.Need-mul-p Inv-loop μ-loop
 mul-p c = search needs
@@ -37,10 +37,10 @@ loop-less : tie.Need-loop-less Inv-loop μ-loop
 loop-less c = search needs
 
 loop-again : tie.Need-loop-again Inv-loop μ-loop
-loop-again c = apart-step _ _ _ _ (c .before .before .before .before .loop .inv) (c .before .touched .ensures) (c .if1 .left)
+loop-again c = apart-step _ _ _ _ _ _ (c .before .before .before .before .loop .inv) (c .before .touched .ensures) (c .if1 .left)
 
 returns-2 : tie.Need-returns-2 Inv-loop μ-loop
-returns-2 c = λ e. apart-end _ _ _ (c .before .loop .inv) (c .loop-test .left)
+returns-2 c = λ e. apart-end _ _ _ _ _ (c .before .loop .inv) (c .loop-test .left)
 
 pub apart-spec : {M : Type 1} → statement M
 apart-spec =

@@ -11,8 +11,8 @@ Inv-loop q k bindings best₀ fewest₀ v₀ best fewest v = CutTo bindings v be
 abbrev μ-loop : tie.MeasureT-loop
 μ-loop q k bindings best₀ fewest₀ v₀ best fewest v = 8 - v
 
-closings-requires : tie.Need-closings-requires Inv-loop μ-loop
-closings-requires c κs = search needs
+cycles-requires : tie.Need-cycles-requires Inv-loop μ-loop
+cycles-requires c κs = search needs
 
 loop-holds : tie.Need-loop-holds Inv-loop μ-loop
 loop-holds c = cut-start _
@@ -29,8 +29,8 @@ array-read-node c = search needs
 is-absent-requires : tie.Need-is-absent-requires Inv-loop μ-loop
 is-absent-requires c κs = search needs
 
-closings-requires-2 : tie.Need-closings-requires-2 Inv-loop μ-loop
-closings-requires-2 c κs = search needs
+cycles-requires-2 : tie.Need-cycles-requires-2 Inv-loop μ-loop
+cycles-requires-2 c κs = search needs
 
 add-v : tie.Need-add-v Inv-loop μ-loop
 add-v c = search needs
@@ -56,13 +56,13 @@ cut-variable-spec =
     (tie.spec
     Inv-loop
     μ-loop
-    closings-requires
+    cycles-requires
     loop-holds
     cast-node
     mul-node
     array-read-node
     is-absent-requires
-    closings-requires-2
+    cycles-requires-2
     add-v
     loop-less
     loop-again

@@ -4,10 +4,10 @@ use Rattle.query_order.proofs.part_end.Statement.{statement}
 use Rattle.query_order.proofs.part_end.Tie as tie
 
 abbrev Inv-loop : tie.InvT-loop
-Inv-loop q k count z₀ z = (k < z) × (z ≤ count)
+Inv-loop q k j bindings count z₀ z = (j < z) × (z ≤ count)
 
 abbrev μ-loop : tie.MeasureT-loop
-μ-loop q k count z₀ z = count - z
+μ-loop q k j bindings count z₀ z = count - z
 
 cast-count : tie.Need-cast-count Inv-loop μ-loop
 cast-count c = search needs

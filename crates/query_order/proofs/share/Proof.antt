@@ -29,7 +29,7 @@ returns-4 c =
     let back2 = c .before .before in
     let back4 = back2 .before .before in
     let start = back4 .before .before .before in
-    last-shares (start .args .p) (start .args .o) _ _ _ _
+    last-shares (start .args .bindings) (start .args .p) (start .args .o) _ _ _ _
     (back4 .before .before .same-variable .ensures) (back4 .same-variable2 .ensures) (back2 .same-variable3 .ensures) (c .same-variable4 .ensures)
     (back4 .before .if1 .left) (back2 .before .if2 .left) (c .before .if3 .left)
 

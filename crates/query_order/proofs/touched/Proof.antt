@@ -6,13 +6,13 @@ use Rattle.query_order.proofs.touched.Statement.{statement}
 use Rattle.query_order.proofs.touched.Tie as tie
 
 abbrev Inv-loop : tie.InvT-loop
-Inv-loop z p q i₀ i = NoneTouched q z p i
+Inv-loop k z p bindings q i₀ i = NoneTouched bindings q k p i
 
 abbrev μ-loop : tie.MeasureT-loop
-μ-loop z p q i₀ i = z - i
+μ-loop k z p bindings q i₀ i = z - i
 
 loop-holds : tie.Need-loop-holds Inv-loop μ-loop
-loop-holds c = touch-start _ _ _
+loop-holds c = touch-start _ _ _ _
 
 mul-o : tie.Need-mul-o Inv-loop μ-loop
 mul-o c = search needs
@@ -24,7 +24,7 @@ share-requires : tie.Need-share-requires Inv-loop μ-loop
 share-requires c κs = search needs
 
 returns : tie.Need-returns Inv-loop μ-loop
-returns c = λ i v l x y. refl
+returns c = λ i v l g a b x y. refl
 
 add-i : tie.Need-add-i Inv-loop μ-loop
 add-i c = search needs
@@ -35,10 +35,10 @@ loop-less c = search needs
 loop-again : tie.Need-loop-again Inv-loop μ-loop
 loop-again c =
     let back3 = c .before .before .before in
-    touch-step _ _ _ _ _ (back3 .before .loop .inv) (back3 .loop-test .taken) (c .before .share .ensures) (c .if1 .left)
+    touch-step _ _ _ _ _ _ (back3 .before .loop .inv) (c .before .share .ensures) (c .if1 .left)
 
 returns-2 : tie.Need-returns-2 Inv-loop μ-loop
-returns-2 c = touch-end _ _ _ _ (c .before .loop .inv) (c .loop-test .left)
+returns-2 c = touch-end _ _ _ _ _ _ (c .before .loop .inv) (c .loop-test .left)
 
 pub touched-spec : {M : Type 1} → statement M
 touched-spec =

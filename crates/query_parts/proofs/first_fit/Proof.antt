@@ -13,21 +13,15 @@ first-in-order-requires c κs =
 returns : tie.Need-returns
 returns c = search needs
 
-first-with-requires : tie.Need-first-with-requires
-first-with-requires c κs = search needs
-
-sub-t10 : tie.Need-sub-t10
-sub-t10 c = search needs
-
-add-t11 : tie.Need-add-t11
-add-t11 c = search needs
+scanned-requires : tie.Need-scanned-requires
+scanned-requires c κs = search needs
 
 returns-2 : tie.Need-returns-2
 returns-2 c =
     let start = c .before .before .before .before in
-    fit-with _ (start .args .map .now) (start .args .p) (start .args .bindings) _ _ _ (c .first-with .ensures)
+    fit-with _ (start .args .map .now) (start .args .p) (start .args .bindings) _ _ _ (c .scanned .ensures)
 
 pub first-fit-spec : {M : Type 1} → statement M
 first-fit-spec =
     tie.close
-    (tie.spec first-in-order-requires returns first-with-requires sub-t10 add-t11 returns-2)
+    (tie.spec first-in-order-requires returns scanned-requires returns-2)

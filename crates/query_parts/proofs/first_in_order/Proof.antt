@@ -13,19 +13,13 @@ enum-known-x c = search needs
 enum-told : tie.Need-enum-told
 enum-told c = search needs
 
-first-with-requires : tie.Need-first-with-requires
-first-with-requires c κs = search needs
-
-sub-t17 : tie.Need-sub-t17
-sub-t17 c = search needs
-
-add-t18 : tie.Need-add-t18
-add-t18 c = search needs
+scanned-requires : tie.Need-scanned-requires
+scanned-requires c κs = search needs
 
 returns : tie.Need-returns
 returns c =
     let start = c .before .before .before .before .before .before in
-    fit-with _ (start .args .map .now) (start .args .p) (start .args .bindings) _ _ _ (c .first-with .ensures)
+    fit-with _ (start .args .map .now) (start .args .p) (start .args .bindings) _ _ _ (c .scanned .ensures)
 
 node-wanted-requires-2 : tie.Need-node-wanted-requires-2
 node-wanted-requires-2 c κs = search needs
@@ -47,8 +41,8 @@ returns-2 c =
     fit-of _ (start .args .map .now) (start .args .p) (start .args .bindings) _ _ _ _
     (sym (back5 .x .given .1) ∙ back7 .node-wanted .ensures) (c .first-of .ensures)
 
-first-both-requires : tie.Need-first-both-requires
-first-both-requires c κs = search needs
+place-of-requires : tie.Need-place-of-requires
+place-of-requires c κs = search needs
 
 returns-3 : tie.Need-returns-3
 returns-3 c =
@@ -57,7 +51,7 @@ returns-3 c =
     let start = back5 .before .before .before .before .before .before in
     fit-both _ (start .args .map .now) (start .args .p) (start .args .bindings) _ _ _ _ _
     (sym (back5 .before .x .given .1) ∙ back5 .before .before .before .node-wanted .ensures)
-    (sym (c .before .before .y .given .1) ∙ back4 .node-wanted2 .ensures) (c .first-both .ensures)
+    (sym (c .before .before .y .given .1) ∙ back4 .node-wanted2 .ensures) (c .place-of .ensures)
 
 pub first-in-order-spec : {M : Type 1} → statement M
 first-in-order-spec =
@@ -66,14 +60,12 @@ first-in-order-spec =
     node-wanted-requires
     enum-known-x
     enum-told
-    first-with-requires
-    sub-t17
-    add-t18
+    scanned-requires
     returns
     node-wanted-requires-2
     enum-known-y
     enum-told-2
     first-of-requires
     returns-2
-    first-both-requires
+    place-of-requires
     returns-3)

@@ -132,7 +132,7 @@ try-pattern-returns t c =
     let x = start .args in
     let h = start .pre .1 in
     gave-up (x .table .now) (x .map .now) (x .rows .now) (x .t4) (h .0) (x .k) (h .1) (x .bindings) (h .5) (x .limited) _ _ _
-    (back5 .loop .inv) _ (back3 .first-fit .ensures) _ (c .before .spend .ensures) (c .if1 .taken)
+    (back5 .loop .inv) _ (back3 .first-fit .ensures) _ _ (c .before .spend .ensures) (c .if1 .taken)
 
 try-pattern-returns-2 : (t : ℕ) → try-pattern-lts.Need-returns-2 (
   first-fit-reads.Asked,
@@ -149,7 +149,7 @@ try-pattern-returns-2 t c =
     let x = start .args in
     let h = start .pre .1 in
     none-left (x .table .now) (x .map .now) (x .rows .now) (x .t4) (h .0) (x .k) (h .1) (x .bindings) (h .5) (x .limited) _ _ _
-    (back6 .loop .inv) _ (back4 .first-fit .ensures) _ (c .before .before .spend .ensures) (c .if2 .taken)
+    (back6 .loop .inv) _ (back4 .first-fit .ensures) _ _ (c .before .before .spend .ensures) (c .if2 .taken)
 
 try-pattern-try-triple-requires : (t : ℕ) → try-pattern-lts.Need-try-triple-requires (
   first-fit-reads.Asked,
@@ -186,7 +186,7 @@ try-pattern-returns-3 t c =
     let x = start .args in
     let h = start .pre .1 in
     found-here (x .table .now) (x .map .now) (x .rows .now) (x .t4) (h .0) (x .k) (h .1) (x .bindings) (h .5) (x .limited) _ _ _
-    (back9 .loop .inv) _ (back7 .first-fit .ensures) _ (back5 .spend .ensures) _ (c .before .try-triple .ensures) (c .if3 .taken)
+    (back9 .loop .inv) _ (back7 .first-fit .ensures) _ _ (back5 .spend .ensures) _ (c .before .try-triple .ensures) (c .if3 .taken)
 
 try-pattern-add-from : (t : ℕ) → try-pattern-lts.Need-add-from (
   first-fit-reads.Asked,
@@ -229,7 +229,7 @@ try-pattern-loop-again t c =
     let h = start .pre .1 in
     let w = back7 .first-fit .ensures in
     try-step (x .table .now) (x .map .now) (x .rows .now) (x .t4) (h .0) (x .k) (h .1) (x .bindings) (h .5) (x .limited) _ _ _
-    (back9 .loop .inv) _ w _ (back5 .spend .ensures) _ (c .before .try-triple .ensures) (omega (arith, w .high)) (c .if3 .left)
+    (back9 .loop .inv) _ w _ _ (back5 .spend .ensures) _ (c .before .try-triple .ensures) (omega (arith, w .high)) (c .if3 .left)
 
 try-pattern-returns-4 : (t : ℕ) → try-pattern-lts.Need-returns-4 (
   first-fit-reads.Asked,

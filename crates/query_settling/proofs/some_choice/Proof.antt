@@ -3,7 +3,7 @@ use mathlib.Core.Path.{refl, sym, _∙_}
 use mathlib.Core.Bool.{true≢false}
 use borrow.Author.Tests.{not-true}
 use Rattle.query.proofs.Steps.{some-pattern, few-patterns}
-use Rattle.query_settling.proofs.Settles.{quick-most, nodes-present, quick-found, quick-none, steps-left, fitting-whole, settled-exact}
+use Rattle.query_settling.proofs.Settles.{quick-most, nodes-present, quick-found, quick-none, steps-left, needs-whole, settled-exact}
 use borrow.Author.Needs.{needs}
 use Rattle.query_settling.proofs.some_choice.Statement.{statement}
 use Rattle.query_settling.proofs.some_choice.Tie as tie
@@ -76,13 +76,13 @@ settle-parts-requires : tie.Need-settle-parts-requires
 settle-parts-requires c κs =
     let start = c .before .before .before .before .before .before .before .before .before .before .before in
     let x = start .args in
-    fitting-whole (x .table .now) (x .map .now) (x .q) (x .rising) (start .pre) _ (omega arith, omega arith)
+    (needs-whole (x .table .now) (x .map .now) (x .q) (x .rising) (start .pre) _ (omega arith, omega arith), omega arith)
 
 returns-4 : tie.Need-returns-4
 returns-4 c =
     let start = c .before .before .before .before .before .before .before .before .before .before .before .before .before in
     let x = start .args in
-    settled-exact (x .table .now) (x .map .now) (x .q) (x .rising) (start .pre) (c .before .settle-parts .ensures)
+    settled-exact (x .table .now) (x .map .now) (x .q) (x .rising) (start .pre) (c .before .settle-parts .ensures .0)
 
 pub some-choice-spec : {M : Type 1} → statement M
 some-choice-spec =

@@ -2,8 +2,8 @@ use mathlib.Core.Path.{sym, ap, _∙_}
 use Rattle.model.specs.Triples.{same}
 use Rattle.query_parts.proofs.Fits.{same-here, same-other, same-past}
 use borrow.Author.Needs.{needs}
-use Rattle.query_parts.proofs.first_both.Statement.{statement}
-use Rattle.query_parts.proofs.first_both.Tie as tie
+use Rattle.query_parts.proofs.place_of.Statement.{statement}
+use Rattle.query_parts.proofs.place_of.Tie as tie
 
 lower-bound-requires : tie.Need-lower-bound-requires
 lower-bound-requires c κs = search needs
@@ -33,7 +33,7 @@ returns-3 c =
     let start = c .before .before .before in
     same-past _ _ _ _ _ (start .pre .2) (c .before .lower-bound .ensures .bound (start .pre .2)) (c .if1 .left)
 
-pub first-both-spec : {M : Type 1} → statement M
-first-both-spec =
+pub place-of-spec : {M : Type 1} → statement M
+place-of-spec =
     tie.close
     (tie.spec lower-bound-requires triple-at-requires same-requires returns returns-2 returns-3)

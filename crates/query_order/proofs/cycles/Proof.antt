@@ -1,13 +1,13 @@
 use Prim.Native.Nat.{_-_, _≤_}
 use borrow.Author.Needs.{needs}
-use Rattle.query_order.proofs.closings.Statement.{statement}
-use Rattle.query_order.proofs.closings.Tie as tie
+use Rattle.query_order.proofs.cycles.Statement.{statement}
+use Rattle.query_order.proofs.cycles.Tie as tie
 
 abbrev Inv-loop : tie.InvT-loop
-Inv-loop k bindings out q count labels₀ closed₀ j₀ labels closed j = closed ≤ j
+Inv-loop k bindings out q count labels₀ closed₀ total₀ j₀ labels closed total j = total ≤ j
 
 abbrev μ-loop : tie.MeasureT-loop
-μ-loop k bindings out q count labels₀ closed₀ j₀ labels closed j = count - j
+μ-loop k bindings out q count labels₀ closed₀ total₀ j₀ labels closed total j = count - j
 
 cast-count : tie.Need-cast-count Inv-loop μ-loop
 cast-count c = search needs
@@ -30,8 +30,11 @@ free-variable-requires-2 c κs = search needs
 closes-requires : tie.Need-closes-requires Inv-loop μ-loop
 closes-requires c κs = search needs
 
-add-closed : tie.Need-add-closed Inv-loop μ-loop
-add-closed c = search needs
+add-total : tie.Need-add-total Inv-loop μ-loop
+add-total c = search needs
+
+counted-requires : tie.Need-counted-requires Inv-loop μ-loop
+counted-requires c κs = search needs
 
 joined-requires : tie.Need-joined-requires Inv-loop μ-loop
 joined-requires c κs = search needs
@@ -45,11 +48,14 @@ loop-less c = search needs
 loop-again : tie.Need-loop-again Inv-loop μ-loop
 loop-again c = search needs
 
+largest-requires : tie.Need-largest-requires Inv-loop μ-loop
+largest-requires c κs = search needs
+
 returns : tie.Need-returns Inv-loop μ-loop
 returns c = search needs
 
-pub closings-spec : {M : Type 1} → statement M
-closings-spec =
+pub cycles-spec : {M : Type 1} → statement M
+cycles-spec =
     tie.close
     (tie.spec
     Inv-loop
@@ -61,9 +67,11 @@ closings-spec =
     free-variable-requires
     free-variable-requires-2
     closes-requires
-    add-closed
+    add-total
+    counted-requires
     joined-requires
     add-j
     loop-less
     loop-again
+    largest-requires
     returns)

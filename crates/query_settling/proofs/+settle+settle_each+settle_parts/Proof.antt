@@ -4,31 +4,41 @@ use mathlib.Core.Path.{sym, _∙_}
 use mathlib.Core.Bool.{true≢false}
 use borrow.Author.Tests.{not-false, not-true, ltb-true}
 use Rattle.query.proofs.Steps.{few-patterns}
+use Rattle.query_rows.proofs.Rows.{sized-as}
 use Rattle.query_order.proofs.Arranged.{arranged-right}
-use Rattle.query_settling.proofs.Settles.{sized-as, fitting-arranged, fitting-fixed, rows-fewer, rows-more, swept-rows, unsupported, found-within, none-within, steps-left, cut-kept, copied-rows, settled-arranged, NoneFixed, fix-start, none-left, fix-found, fix-step, fix-end, each-falls, settle-falls}
+use Rattle.query_settling.proofs.Settles.{nodes-present, needs-rows, needs-fixed, needs-part, settle-falls, each-falls, parts-fall, steps-left}
+use Rattle.query_settling.proofs.Settles.{rows-fewer, rows-more, swept-rows, unsupported, found-within, none-within, fixed-kept, copied-rows}
+use Rattle.query_settling.proofs.Settles.{NoneFixed, fix-start, none-left, fix-found, fix-step, fix-end, PartsPut, parts-start, part-missing, part-put, parts-end}
 use borrow.Fn.Kinds.{In}
 use borrow.Fn.PlainCycle.{Measures, is, falls, and}
 use Rattle.query_settling.proofs.settle.Reads as settle
 use Rattle.query_settling.proofs.settle.Kinds as settle-kinds
-use Rattle.query_settling.proofs.+settle+settle_each.Lts-settle as settle-lts
+use Rattle.query_settling.proofs.+settle+settle_each+settle_parts.Lts-settle as settle-lts
 use Rattle.query_settling.proofs.settle_each.Reads as settle-each
 use Rattle.query_settling.proofs.settle_each.Kinds as settle-each-kinds
-use Rattle.query_settling.proofs.+settle+settle_each.Lts-settle_each as settle-each-lts
+use Rattle.query_settling.proofs.+settle+settle_each+settle_parts.Lts-settle_each as settle-each-lts
+use Rattle.query_settling.proofs.settle_parts.Reads as settle-parts
+use Rattle.query_settling.proofs.settle_parts.Kinds as settle-parts-kinds
+use Rattle.query_settling.proofs.+settle+settle_each+settle_parts.Lts-settle_parts as settle-parts-lts
 use Rattle.query_domains.proofs.sweep_all.Reads as sweep-all-reads
 use Rattle.query_order.proofs.arrange.Reads as arrange-reads
+use Rattle.query_order.proofs.part_end.Reads as part-end-reads
 use Rattle.query_rows.proofs.copy_row.Reads as copy-row-reads
 use Rattle.query_rows.proofs.next_in_row.Reads as next-in-row-reads
 use Rattle.query_search.proofs.try_pattern.Reads as try-pattern-reads
-use Rattle.query_settling.proofs.next_cut.Reads as next-cut-reads
+use Rattle.query_settling.proofs.next_fixed.Reads as next-fixed-reads
 use Rattle.query_settling.proofs.step_limit.Reads as step-limit-reads
-use Rattle.query_settling.proofs.+settle+settle_each.{statement}
-use Rattle.query_settling.proofs.+settle+settle_each.Tie.{close}
+use Rattle.query_settling.proofs.+settle+settle_each+settle_parts.{statement}
+use Rattle.query_settling.proofs.+settle+settle_each+settle_parts.Tie.{close}
 
 abbrev μ-settle : Measures 3 settle-kinds.ps ℕ
-μ-settle κs a = 2 * (3 - a .1 .1 .1 .1 .1 .1 .1 .0) + 1
+μ-settle κs a = 3 * (3 - a .1 .1 .1 .1 .1 .1 .1 .0) + 1
 
 abbrev μ-settle-each : Measures 3 settle-each-kinds.ps ℕ
-μ-settle-each κs a = 2 * (3 - a .1 .1 .1 .1 .1 .1 .1 .0)
+μ-settle-each κs a = 3 * (3 - a .1 .1 .1 .1 .1 .1 .1 .0)
+
+abbrev μ-settle-parts : Measures 3 settle-parts-kinds.ps ℕ
+μ-settle-parts κs a = 3 * (3 - a .1 .1 .1 .1 .1 .1 .1 .0) + 2
 
 abbrev settle-at : ℕ → In 3 settle-kinds.ps
 settle-at t = and 3 settle-kinds.ps (is 3 settle-kinds.ps μ-settle t) settle.Pre
@@ -44,35 +54,23 @@ abbrev settle-each-below : ℕ → In 3 settle-each-kinds.ps
 settle-each-below t =
     and 3 settle-each-kinds.ps (falls 3 settle-each-kinds.ps _<_ μ-settle-each t) settle-each.Pre
 
-settle-arrange-requires : (t : ℕ) → settle-lts.Need-arrange-requires (
-  arrange-reads.Asked,
-  arrange-reads.Learnt,
-  sweep-all-reads.Asked,
-  sweep-all-reads.Learnt,
-  next-cut-reads.Asked,
-  next-cut-reads.Learnt,
-  step-limit-reads.Asked,
-  step-limit-reads.Learnt,
-  try-pattern-reads.Asked,
-  try-pattern-reads.Learnt,
-  copy-row-reads.Asked,
-  copy-row-reads.Learnt,
-  settle-each-below t,
-  settle-each.Post,
-) (settle-at t) settle.Post
-settle-arrange-requires t c κs =
-    let start = c .before .before .before in
-    let x = start .args in
-    let f = start .pre .1 .0 in
-    few-patterns _ _ (f .right)
+abbrev settle-parts-at : ℕ → In 3 settle-parts-kinds.ps
+settle-parts-at t =
+    and 3 settle-parts-kinds.ps (is 3 settle-parts-kinds.ps μ-settle-parts t) settle-parts.Pre
+
+abbrev settle-parts-below : ℕ → In 3 settle-parts-kinds.ps
+settle-parts-below t =
+    and
+    3
+    settle-parts-kinds.ps
+    (falls 3 settle-parts-kinds.ps _<_ μ-settle-parts t)
+    settle-parts.Pre
 
 settle-sweep-all-requires : (t : ℕ) → settle-lts.Need-sweep-all-requires (
-  arrange-reads.Asked,
-  arrange-reads.Learnt,
   sweep-all-reads.Asked,
   sweep-all-reads.Learnt,
-  next-cut-reads.Asked,
-  next-cut-reads.Learnt,
+  next-fixed-reads.Asked,
+  next-fixed-reads.Learnt,
   step-limit-reads.Asked,
   step-limit-reads.Learnt,
   try-pattern-reads.Asked,
@@ -83,18 +81,15 @@ settle-sweep-all-requires : (t : ℕ) → settle-lts.Need-sweep-all-requires (
   settle-each.Post,
 ) (settle-at t) settle.Post
 settle-sweep-all-requires t c κs =
-    let start = c .before .before .before .before .before in
-    let x = start .args in
+    let start = c .before .before .before .before in
     let f = start .pre .1 .0 in
-    (arranged-right _ _ _ _ (c .before .arrange .ensures) (f .right), f .sized)
+    (f .whole .right, f .sized)
 
 settle-same-length : (t : ℕ) → settle-lts.Need-same-length (
-  arrange-reads.Asked,
-  arrange-reads.Learnt,
   sweep-all-reads.Asked,
   sweep-all-reads.Learnt,
-  next-cut-reads.Asked,
-  next-cut-reads.Learnt,
+  next-fixed-reads.Asked,
+  next-fixed-reads.Learnt,
   step-limit-reads.Asked,
   step-limit-reads.Learnt,
   try-pattern-reads.Asked,
@@ -108,12 +103,10 @@ settle-same-length t c =
     c .before .before .before .sweep-all .ensures .size
 
 settle-returns : (t : ℕ) → settle-lts.Need-returns (
-  arrange-reads.Asked,
-  arrange-reads.Learnt,
   sweep-all-reads.Asked,
   sweep-all-reads.Learnt,
-  next-cut-reads.Asked,
-  next-cut-reads.Learnt,
+  next-fixed-reads.Asked,
+  next-fixed-reads.Learnt,
   step-limit-reads.Asked,
   step-limit-reads.Learnt,
   try-pattern-reads.Asked,
@@ -125,24 +118,19 @@ settle-returns : (t : ℕ) → settle-lts.Need-returns (
 ) (settle-at t) settle.Post
 settle-returns t c =
     let back3 = c .before .before .before in
-    let back5 = back3 .before .before in
-    let start = c .before .before .before .before .before .before .before .before .before in
+    let start = c .before .before .before .before .before .before .before .before in
     let x = start .args in
-    let f = start .pre .1 .0 in
-    let a = back5 .arrange .ensures in
     let w = back3 .sweep-all .ensures in (
-      unsupported (x .table .now) (x .map .now) _ _ (x .q) _ (x .k) (x .bindings) a w (not-true _ (c .if1 .taken)),
+      unsupported (x .table .now) (x .map .now) _ _ (x .q) (x .k) (x .bindings) w (not-true _ (c .if1 .taken)),
       swept-rows (x .table .now)
-          (x .map .now) _ _ (x .q) _ (x .k) (x .bindings) a w _,
+          (x .map .now) _ _ (x .q) (x .k) (x .bindings) w _,
     )
 
-settle-next-cut-requires : (t : ℕ) → settle-lts.Need-next-cut-requires (
-  arrange-reads.Asked,
-  arrange-reads.Learnt,
+settle-next-fixed-requires : (t : ℕ) → settle-lts.Need-next-fixed-requires (
   sweep-all-reads.Asked,
   sweep-all-reads.Learnt,
-  next-cut-reads.Asked,
-  next-cut-reads.Learnt,
+  next-fixed-reads.Asked,
+  next-fixed-reads.Learnt,
   step-limit-reads.Asked,
   step-limit-reads.Learnt,
   try-pattern-reads.Asked,
@@ -152,20 +140,16 @@ settle-next-cut-requires : (t : ℕ) → settle-lts.Need-next-cut-requires (
   settle-each-below t,
   settle-each.Post,
 ) (settle-at t) settle.Post
-settle-next-cut-requires t c κs =
-    let back5 = c .before .before .before .before .before in
-    let start = c .before .before .before .before .before .before .before .before .before in
-    let x = start .args in
+settle-next-fixed-requires t c κs =
+    let start = c .before .before .before .before .before .before .before .before in
     let f = start .pre .1 .0 in
-    few-patterns _ _ (arranged-right _ _ _ _ (back5 .arrange .ensures) (f .right))
+    few-patterns _ _ (f .whole .right)
 
 settle-cast-step-limit : (t : ℕ) → settle-lts.Need-cast-step-limit (
-  arrange-reads.Asked,
-  arrange-reads.Learnt,
   sweep-all-reads.Asked,
   sweep-all-reads.Learnt,
-  next-cut-reads.Asked,
-  next-cut-reads.Learnt,
+  next-fixed-reads.Asked,
+  next-fixed-reads.Learnt,
   step-limit-reads.Asked,
   step-limit-reads.Learnt,
   try-pattern-reads.Asked,
@@ -176,19 +160,34 @@ settle-cast-step-limit : (t : ℕ) → settle-lts.Need-cast-step-limit (
   settle-each.Post,
 ) (settle-at t) settle.Post
 settle-cast-step-limit t c =
-    let back8 = c .before .before .before .before .before .before .before .before in
-    let start = c .before .before .before .before .before .before .before .before .before .before .before .before in
-    let x = start .args in
+    let start = c .before .before .before .before .before .before .before .before .before .before .before in
     let f = start .pre .1 .0 in
-    record { fits = omega (arith, few-patterns _ _ (arranged-right _ _ _ _ (back8 .arrange .ensures) (f .right))) }
+    record { fits = omega (arith, few-patterns _ _ (f .whole .right)) }
 
-settle-step-limit-requires : (t : ℕ) → settle-lts.Need-step-limit-requires (
-  arrange-reads.Asked,
-  arrange-reads.Learnt,
+settle-sub-step-limit : (t : ℕ) → settle-lts.Need-sub-step-limit (
   sweep-all-reads.Asked,
   sweep-all-reads.Learnt,
-  next-cut-reads.Asked,
-  next-cut-reads.Learnt,
+  next-fixed-reads.Asked,
+  next-fixed-reads.Learnt,
+  step-limit-reads.Asked,
+  step-limit-reads.Learnt,
+  try-pattern-reads.Asked,
+  try-pattern-reads.Learnt,
+  copy-row-reads.Asked,
+  copy-row-reads.Learnt,
+  settle-each-below t,
+  settle-each.Post,
+) (settle-at t) settle.Post
+settle-sub-step-limit t c =
+    let start = c .before .before .before .before .before .before .before .before .before .before .before in
+    let f = start .pre .1 .0 in
+    omega (arith, f .counted)
+
+settle-step-limit-requires : (t : ℕ) → settle-lts.Need-step-limit-requires (
+  sweep-all-reads.Asked,
+  sweep-all-reads.Learnt,
+  next-fixed-reads.Asked,
+  next-fixed-reads.Learnt,
   step-limit-reads.Asked,
   step-limit-reads.Learnt,
   try-pattern-reads.Asked,
@@ -200,23 +199,15 @@ settle-step-limit-requires : (t : ℕ) → settle-lts.Need-step-limit-requires (
 ) (settle-at t) settle.Post
 settle-step-limit-requires t c κs =
     let back6 = c .before .before .before .before .before .before in
-    let back8 = back6 .before .before in
-    let start = c .before .before .before .before .before .before .before .before .before .before .before .before in
-    let x = start .args in
-    let f = start .pre .1 .0 in (
-      sized-as _ _ (back6 .sweep-all .ensures .size) (f .sized),
-      few-patterns _ _ (arranged-right _ _ _ _ (back8 .arrange .ensures) (f .right)),
-      omega
-          (arith, f .short),
-    )
+    let start = c .before .before .before .before .before .before .before .before .before .before .before in
+    let f = start .pre .1 .0 in
+    (sized-as _ _ (back6 .sweep-all .ensures .size) (f .sized), omega (arith, few-patterns _ _ (f .whole .right)), omega (arith, f .whole .short))
 
 settle-try-pattern-requires : (t : ℕ) → settle-lts.Need-try-pattern-requires (
-  arrange-reads.Asked,
-  arrange-reads.Learnt,
   sweep-all-reads.Asked,
   sweep-all-reads.Learnt,
-  next-cut-reads.Asked,
-  next-cut-reads.Learnt,
+  next-fixed-reads.Asked,
+  next-fixed-reads.Learnt,
   step-limit-reads.Asked,
   step-limit-reads.Learnt,
   try-pattern-reads.Asked,
@@ -228,26 +219,22 @@ settle-try-pattern-requires : (t : ℕ) → settle-lts.Need-try-pattern-requires
 ) (settle-at t) settle.Post
 settle-try-pattern-requires t c κs =
     let back9 = c .before .before .before .before .before .before .before .before .before in
-    let back11 = back9 .before .before in
-    let start = c .before .before .before .before .before .before .before .before .before .before .before .before .before .before .before in
+    let start = c .before .before .before .before .before .before .before .before .before .before .before .before .before .before in
     let x = start .args in
-    let f = start .pre .1 .0 in
-    let a = back11 .arrange .ensures in (
-      arranged-right _ _ _ _ a (f .right),
-      omega (arith, f .counted, a .count),
-      f .order,
-      f .present,
+    let f = start .pre .1 .0 in (
+      f .whole .right,
+      f .counted,
+      f .whole .order,
+      nodes-present (x .table .now) (x .map .now) (x .q) (x .rising) (f .whole),
       sized-as _ _ (back9 .sweep-all .ensures .size) (f .sized) .1,
       f .bound,
     )
 
 settle-same-length-2 : (t : ℕ) → settle-lts.Need-same-length-2 (
-  arrange-reads.Asked,
-  arrange-reads.Learnt,
   sweep-all-reads.Asked,
   sweep-all-reads.Learnt,
-  next-cut-reads.Asked,
-  next-cut-reads.Learnt,
+  next-fixed-reads.Asked,
+  next-fixed-reads.Learnt,
   step-limit-reads.Asked,
   step-limit-reads.Learnt,
   try-pattern-reads.Asked,
@@ -261,12 +248,10 @@ settle-same-length-2 t c =
     c .before .before .before .before .before .before .before .before .before .before .before .sweep-all .ensures .size
 
 settle-returns-2 : (t : ℕ) → settle-lts.Need-returns-2 (
-  arrange-reads.Asked,
-  arrange-reads.Learnt,
   sweep-all-reads.Asked,
   sweep-all-reads.Learnt,
-  next-cut-reads.Asked,
-  next-cut-reads.Learnt,
+  next-fixed-reads.Asked,
+  next-fixed-reads.Learnt,
   step-limit-reads.Asked,
   step-limit-reads.Learnt,
   try-pattern-reads.Asked,
@@ -278,23 +263,19 @@ settle-returns-2 : (t : ℕ) → settle-lts.Need-returns-2 (
 ) (settle-at t) settle.Post
 settle-returns-2 t c =
     let back11 = c .before .before .before .before .before .before .before .before .before .before .before in
-    let back13 = back11 .before .before in
-    let start = c .before .before .before .before .before .before .before .before .before .before .before .before .before .before .before .before .before in
+    let start = c .before .before .before .before .before .before .before .before .before .before .before .before .before .before .before .before in
     let x = start .args in
-    let f = start .pre .1 .0 in
-    let a = back13 .arrange .ensures in
     let w = back11 .sweep-all .ensures in (
-      found-within (x .table .now) (x .map .now) _ _ (x .q) _ (x .k) (x .bindings) a w _ _ _ (c .before .try-pattern .ensures) (c .if2 .taken),
-      swept-rows (x .table .now) (x .map .now) _ _ (x .q) _ (x .k) (x .bindings) a w _,
+      found-within (x .table .now) (x .map .now) _ _ (x .q) (x .k) (x .bindings) w _ _ _ (c .before .try-pattern .ensures) (c .if2 .taken),
+      swept-rows
+          (x .table .now) (x .map .now) _ _ (x .q) (x .k) (x .bindings) w _,
     )
 
 settle-same-length-3 : (t : ℕ) → settle-lts.Need-same-length-3 (
-  arrange-reads.Asked,
-  arrange-reads.Learnt,
   sweep-all-reads.Asked,
   sweep-all-reads.Learnt,
-  next-cut-reads.Asked,
-  next-cut-reads.Learnt,
+  next-fixed-reads.Asked,
+  next-fixed-reads.Learnt,
   step-limit-reads.Asked,
   step-limit-reads.Learnt,
   try-pattern-reads.Asked,
@@ -309,12 +290,10 @@ settle-same-length-3 t c =
     back12 .sweep-all .ensures .size
 
 settle-returns-3 : (t : ℕ) → settle-lts.Need-returns-3 (
-  arrange-reads.Asked,
-  arrange-reads.Learnt,
   sweep-all-reads.Asked,
   sweep-all-reads.Learnt,
-  next-cut-reads.Asked,
-  next-cut-reads.Learnt,
+  next-fixed-reads.Asked,
+  next-fixed-reads.Learnt,
   step-limit-reads.Asked,
   step-limit-reads.Learnt,
   try-pattern-reads.Asked,
@@ -326,25 +305,19 @@ settle-returns-3 : (t : ℕ) → settle-lts.Need-returns-3 (
 ) (settle-at t) settle.Post
 settle-returns-3 t c =
     let back12 = c .before .before .before .before .before .before .before .before .before .before .before .before in
-    let back14 = back12 .before .before in
-    let start = c .before .before .before .before .before .before .before .before .before .before .before .before .before .before .before .before .before .before in
+    let start = c .before .before .before .before .before .before .before .before .before .before .before .before .before .before .before .before .before in
     let x = start .args in
-    let f = start .pre .1 .0 in
-    let a = back14 .arrange .ensures in
     let w = back12 .sweep-all .ensures in (
-      none-within (x .table .now) (x .map .now) _ _ (x .q) _ (x .k) (x .bindings) a w _ _ _ (c .before .before .try-pattern .ensures)
+      none-within (x .table .now) (x .map .now) _ _ (x .q) (x .k) (x .bindings) w _ _ _ (c .before .before .try-pattern .ensures)
           (c .before .if2 .left) (λ e z. true≢false (sym e ∙ not-true _ (c .if3 .taken))),
-      swept-rows (x .table .now) (x .map .now) _ _ (x .q) _ (x .k)
-          (x .bindings) a w _,
+      swept-rows (x .table .now) (x .map .now) _ _ (x .q) (x .k) (x .bindings) w _,
     )
 
 settle-same-length-4 : (t : ℕ) → settle-lts.Need-same-length-4 (
-  arrange-reads.Asked,
-  arrange-reads.Learnt,
   sweep-all-reads.Asked,
   sweep-all-reads.Learnt,
-  next-cut-reads.Asked,
-  next-cut-reads.Learnt,
+  next-fixed-reads.Asked,
+  next-fixed-reads.Learnt,
   step-limit-reads.Asked,
   step-limit-reads.Learnt,
   try-pattern-reads.Asked,
@@ -359,12 +332,10 @@ settle-same-length-4 t c =
     back13 .sweep-all .ensures .size
 
 settle-returns-4 : (t : ℕ) → settle-lts.Need-returns-4 (
-  arrange-reads.Asked,
-  arrange-reads.Learnt,
   sweep-all-reads.Asked,
   sweep-all-reads.Learnt,
-  next-cut-reads.Asked,
-  next-cut-reads.Learnt,
+  next-fixed-reads.Asked,
+  next-fixed-reads.Learnt,
   step-limit-reads.Asked,
   step-limit-reads.Learnt,
   try-pattern-reads.Asked,
@@ -377,25 +348,19 @@ settle-returns-4 : (t : ℕ) → settle-lts.Need-returns-4 (
 settle-returns-4 t c =
     let back3 = c .before .before .before in
     let back13 = back3 .before .before .before .before .before .before .before .before .before .before in
-    let back15 = back13 .before .before in
-    let start = c .before .before .before .before .before .before .before .before .before .before .before .before .before .before .before .before .before .before .before in
+    let start = c .before .before .before .before .before .before .before .before .before .before .before .before .before .before .before .before .before .before in
     let x = start .args in
-    let f = start .pre .1 .0 in
-    let a = back15 .arrange .ensures in
     let w = back13 .sweep-all .ensures in (
-      none-within (x .table .now) (x .map .now) _ _ (x .q) _ (x .k) (x .bindings) a w _ _ _ (back3 .try-pattern .ensures)
-          (c .before .before .if2 .left) (λ e z. steps-left _ (c .if4 .taken) z),
-      swept-rows (x .table .now) (x .map .now) _ _ (x .q) _ (x .k)
-          (x .bindings) a w _,
+      none-within (x .table .now) (x .map .now) _ _ (x .q) (x .k) (x .bindings) w _ _ _ (back3 .try-pattern .ensures) (c .before .before .if2 .left)
+          (λ e z. steps-left _ (c .if4 .taken) z),
+      swept-rows (x .table .now) (x .map .now) _ _ (x .q) (x .k) (x .bindings) w _,
     )
 
 settle-add-copy-row : (t : ℕ) → settle-lts.Need-add-copy-row (
-  arrange-reads.Asked,
-  arrange-reads.Learnt,
   sweep-all-reads.Asked,
   sweep-all-reads.Learnt,
-  next-cut-reads.Asked,
-  next-cut-reads.Learnt,
+  next-fixed-reads.Asked,
+  next-fixed-reads.Learnt,
   step-limit-reads.Asked,
   step-limit-reads.Learnt,
   try-pattern-reads.Asked,
@@ -406,16 +371,14 @@ settle-add-copy-row : (t : ℕ) → settle-lts.Need-add-copy-row (
   settle-each.Post,
 ) (settle-at t) settle.Post
 settle-add-copy-row t c =
-    let start = c .before .before .before .before .before .before .before .before .before .before .before .before .before .before .before .before .before .before .before .before in
+    let start = c .before .before .before .before .before .before .before .before .before .before .before .before .before .before .before .before .before .before .before in
     omega (arith, start .pre .1 .1)
 
 settle-cast-copy-row : (t : ℕ) → settle-lts.Need-cast-copy-row (
-  arrange-reads.Asked,
-  arrange-reads.Learnt,
   sweep-all-reads.Asked,
   sweep-all-reads.Learnt,
-  next-cut-reads.Asked,
-  next-cut-reads.Learnt,
+  next-fixed-reads.Asked,
+  next-fixed-reads.Learnt,
   step-limit-reads.Asked,
   step-limit-reads.Learnt,
   try-pattern-reads.Asked,
@@ -427,15 +390,13 @@ settle-cast-copy-row : (t : ℕ) → settle-lts.Need-cast-copy-row (
 ) (settle-at t) settle.Post
 settle-cast-copy-row t c =
     let back10 = c .before .before .before .before .before .before .before .before .before .before in
-    record { fits = omega (arith, back10 .next-cut .ensures .most) }
+    record { fits = omega (arith, back10 .next-fixed .ensures .free .most) }
 
 settle-copy-row-requires : (t : ℕ) → settle-lts.Need-copy-row-requires (
-  arrange-reads.Asked,
-  arrange-reads.Learnt,
   sweep-all-reads.Asked,
   sweep-all-reads.Learnt,
-  next-cut-reads.Asked,
-  next-cut-reads.Learnt,
+  next-fixed-reads.Asked,
+  next-fixed-reads.Learnt,
   step-limit-reads.Asked,
   step-limit-reads.Learnt,
   try-pattern-reads.Asked,
@@ -448,20 +409,17 @@ settle-copy-row-requires : (t : ℕ) → settle-lts.Need-copy-row-requires (
 settle-copy-row-requires t c κs =
     let back10 = c .before .before .before .before .before .before .before .before .before .before in
     let back14 = back10 .before .before .before .before in
-    let start = c .before .before .before .before .before .before .before .before .before .before .before .before .before .before .before .before .before .before .before .before in
-    let x = start .args in
+    let start = c .before .before .before .before .before .before .before .before .before .before .before .before .before .before .before .before .before .before .before in
     let f = start .pre .1 .0 in
-    let cut = ltb-true _ 8 (not-false _ (c .before .before .if3 .left)) in
-    let less = back10 .next-cut .ensures .less cut in
+    let few = ltb-true _ 8 (not-false _ (c .before .before .if3 .left)) in
+    let less = back10 .next-fixed .ensures .less few in
     (sized-as _ _ (back14 .sweep-all .ensures .size) (f .sized), omega arith, omega arith, λ e. let o : ⊥ = omega arith in o)
 
 settle-settle-each-requires : (t : ℕ) → settle-lts.Need-settle-each-requires (
-  arrange-reads.Asked,
-  arrange-reads.Learnt,
   sweep-all-reads.Asked,
   sweep-all-reads.Learnt,
-  next-cut-reads.Asked,
-  next-cut-reads.Learnt,
+  next-fixed-reads.Asked,
+  next-fixed-reads.Learnt,
   step-limit-reads.Asked,
   step-limit-reads.Learnt,
   try-pattern-reads.Asked,
@@ -476,32 +434,29 @@ settle-settle-each-requires t c κs =
     let back6 = back3 .before .before .before in
     let back14 = back6 .before .before .before .before .before .before .before .before in
     let back18 = back14 .before .before .before .before in
-    let back20 = back18 .before .before in
-    let start = c .before .before .before .before .before .before .before .before .before .before .before .before .before .before .before .before .before .before .before .before .before .before .before .before in
+    let start = c .before .before .before .before .before .before .before .before .before .before .before .before .before .before .before .before .before .before .before .before .before .before .before in
     let x = start .args in
     let f = start .pre .1 .0 in
-    let a = back20 .arrange .ensures in
     let w = back18 .sweep-all .ensures in
-    let cut = ltb-true _ 8 (not-false _ (back6 .if3 .left)) in
-    let v = back14 .next-cut .ensures in
+    let few = ltb-true _ 8 (not-false _ (back6 .if3 .left)) in
+    let v = back14 .next-fixed .ensures in
     let copied = back3 .copy-row .ensures in (
       each-falls _ (start .pre .0),
       (
-        fitting-arranged (x .table .now) (x .map .now) (x .rows .now) (x .q) (x .k) (x .bindings) (x .rising) f _ (copied .size ∙ w .size) _ a,
-        v .less cut,
-        cut,
-        v .free cut,
-        cut-kept (x .table .now) (x .map .now) _ _ (x .q) _ (x .k) (x .bindings) a w _ _ _ (omega (arith, f .sized .0, w .size)) cut copied,
+        needs-rows (x .table .now) (x .map .now) (x .rows .now) (x .q) (x .k) (x .bindings) (x .rising) f _
+            (copied .size ∙ w .size),
+        v .less few,
+        few,
+        v .free .free few,
+        fixed-kept (x .table .now) (x .map .now) _ _ (x .q) (x .k) (x .bindings) w _ _ _ (omega (arith, f .sized .0, w .size)) few copied,
       ),
     )
 
 settle-same-length-5 : (t : ℕ) → settle-lts.Need-same-length-5 (
-  arrange-reads.Asked,
-  arrange-reads.Learnt,
   sweep-all-reads.Asked,
   sweep-all-reads.Learnt,
-  next-cut-reads.Asked,
-  next-cut-reads.Learnt,
+  next-fixed-reads.Asked,
+  next-fixed-reads.Learnt,
   step-limit-reads.Asked,
   step-limit-reads.Learnt,
   try-pattern-reads.Asked,
@@ -517,12 +472,10 @@ settle-same-length-5 t c =
     c .before .before .settle-each .ensures .1 .size ∙ back6 .copy-row .ensures .size ∙ back21 .sweep-all .ensures .size
 
 settle-returns-5 : (t : ℕ) → settle-lts.Need-returns-5 (
-  arrange-reads.Asked,
-  arrange-reads.Learnt,
   sweep-all-reads.Asked,
   sweep-all-reads.Learnt,
-  next-cut-reads.Asked,
-  next-cut-reads.Learnt,
+  next-fixed-reads.Asked,
+  next-fixed-reads.Learnt,
   step-limit-reads.Asked,
   step-limit-reads.Learnt,
   try-pattern-reads.Asked,
@@ -536,31 +489,30 @@ settle-returns-5 t c =
     let back6 = c .before .before .before .before .before .before in
     let back9 = back6 .before .before .before in
     let back21 = back9 .before .before .before .before .before .before .before .before .before .before .before .before in
-    let back23 = back21 .before .before in
-    let start = c .before .before .before .before .before .before .before .before .before .before .before .before .before .before .before .before .before .before .before .before .before .before .before .before .before .before .before in
+    let start = c .before .before .before .before .before .before .before .before .before .before .before .before .before .before .before .before .before .before .before .before .before .before .before .before .before .before in
     let x = start .args in
     let f = start .pre .1 .0 in
-    let a = back23 .arrange .ensures in
     let w = back21 .sweep-all .ensures in
-    let cut = ltb-true _ 8 (not-false _ (back9 .if3 .left)) in
+    let few = ltb-true _ 8 (not-false _ (back9 .if3 .left)) in
     let each = c .before .before .settle-each .ensures in (
-      settled-arranged (x .table .now) (x .map .now) (x .q) _ (x .k) (x .bindings) a (each .0),
-      rows-more _ _ _ _ _ (omega arith) (copied-rows (x .table .now) (x .map .now) _ _ (x .q) _ (x .k) (x .bindings) a w _ _ _
-          (omega (arith, f .sized .0, w .size)) cut (back6 .copy-row .ensures)) (each .1),
+      each .0,
+      rows-more _ _ _ _ _ (omega arith)
+          (copied-rows (x .table .now) (x .map .now) _ _ (x .q) (x .k) (x .bindings) w _ _ _ (omega (arith, f .sized .0, w .size)) few
+          (back6 .copy-row .ensures)) (each .1),
     )
 
 abbrev settle-each-Inv-loop : settle-each-lts.InvT-loop
-settle-each-Inv-loop table map rows₀ q k bindings rising depth cut n x₀ rows x =
-    NoneFixed table map rows₀ q k bindings (10 + depth) cut rows x × (x ≤ n)
+settle-each-Inv-loop table map rows₀ q k bindings rising depth fixed n x₀ rows x =
+    NoneFixed table map rows₀ q k bindings (10 + depth) fixed rows x × (x ≤ n)
 
 abbrev settle-each-μ-loop : settle-each-lts.MeasureT-loop
-settle-each-μ-loop table map rows₀ q k bindings rising depth cut n x₀ rows x = n - x
+settle-each-μ-loop table map rows₀ q k bindings rising depth fixed n x₀ rows x = n - x
 
 settle-each-loop-holds : (t : ℕ) → settle-each-lts.Need-loop-holds (
   next-in-row-reads.Asked,
   next-in-row-reads.Learnt,
-  settle-below t,
-  settle.Post,
+  settle-parts-below t,
+  settle-parts.Post,
 ) (settle-each-at t) settle-each.Post settle-each-Inv-loop settle-each-μ-loop
 settle-each-loop-holds t c =
     (fix-start _ _ _ _ _ _ _ _, omega arith)
@@ -568,8 +520,8 @@ settle-each-loop-holds t c =
 settle-each-add-next-in-row : (t : ℕ) → settle-each-lts.Need-add-next-in-row (
   next-in-row-reads.Asked,
   next-in-row-reads.Learnt,
-  settle-below t,
-  settle.Post,
+  settle-parts-below t,
+  settle-parts.Post,
 ) (settle-each-at t) settle-each.Post settle-each-Inv-loop settle-each-μ-loop
 settle-each-add-next-in-row t c =
     omega (arith, c .before .before .before .before .before .before .pre .1 .1)
@@ -577,24 +529,23 @@ settle-each-add-next-in-row t c =
 settle-each-next-in-row-requires : (t : ℕ) → settle-each-lts.Need-next-in-row-requires (
   next-in-row-reads.Asked,
   next-in-row-reads.Learnt,
-  settle-below t,
-  settle.Post,
+  settle-parts-below t,
+  settle-parts.Post,
 ) (settle-each-at t) settle-each.Post settle-each-Inv-loop settle-each-μ-loop
 settle-each-next-in-row-requires t c κs =
     let start = c .before .before .before .before .before .before in
-    let x = start .args in
     let f = start .pre .1 .0 in (
       sized-as _ _ (c .before .before .loop .inv .0 .rows .size) (f .sized),
       omega (arith, start .pre .1 .1),
       c .before .before .loop .inv .1,
-      f .small,
+      f .whole .small,
     )
 
 settle-each-same-length : (t : ℕ) → settle-each-lts.Need-same-length (
   next-in-row-reads.Asked,
   next-in-row-reads.Learnt,
-  settle-below t,
-  settle.Post,
+  settle-parts-below t,
+  settle-parts.Post,
 ) (settle-each-at t) settle-each.Post settle-each-Inv-loop settle-each-μ-loop
 settle-each-same-length t c =
     c .before .before .before .before .loop .inv .0 .rows .size
@@ -602,36 +553,35 @@ settle-each-same-length t c =
 settle-each-returns : (t : ℕ) → settle-each-lts.Need-returns (
   next-in-row-reads.Asked,
   next-in-row-reads.Learnt,
-  settle-below t,
-  settle.Post,
+  settle-parts-below t,
+  settle-parts.Post,
 ) (settle-each-at t) settle-each.Post settle-each-Inv-loop settle-each-μ-loop
 settle-each-returns t c =
     let back4 = c .before .before .before .before in
     let start = c .before .before .before .before .before .before .before .before in
     let x = start .args in
-    let f = start .pre .1 .0 in
     let h = start .pre .1 in
     let i = back4 .loop .inv .0 in (
-      none-left (x .table .now) (x .map .now) (x .rows .now) (x .q) (x .k) (x .bindings) (10 + x .depth) (x .cut) (h .2) _ _ i (omega arith) (h .4) _
-          (c .before .next-in-row .ensures) (c .if1 .taken),
+      none-left (x .table .now) (x .map .now) (x .rows .now) (x .q) (x .k) (x .bindings) (10 + x .depth) (x .fixed) (h .2) _ _ i (omega arith) (h .4)
+          _ (c .before .next-in-row .ensures) (c .if1 .taken),
       rows-fewer _ _ _ _ (omega arith) (i .rows),
     )
 
 settle-each-cast-more : (t : ℕ) → settle-each-lts.Need-cast-more (
   next-in-row-reads.Asked,
   next-in-row-reads.Learnt,
-  settle-below t,
-  settle.Post,
+  settle-parts-below t,
+  settle-parts.Post,
 ) (settle-each-at t) settle-each.Post settle-each-Inv-loop settle-each-μ-loop
 settle-each-cast-more t c =
     let start = c .before .before .before .before .before .before .before .before in
-    record { fits = omega (arith, c .before .next-in-row .ensures .high, start .pre .1 .0 .small) }
+    record { fits = omega (arith, c .before .next-in-row .ensures .high, start .pre .1 .0 .whole .small) }
 
 settle-each-mul-more : (t : ℕ) → settle-each-lts.Need-mul-more (
   next-in-row-reads.Asked,
   next-in-row-reads.Learnt,
-  settle-below t,
-  settle.Post,
+  settle-parts-below t,
+  settle-parts.Post,
 ) (settle-each-at t) settle-each.Post settle-each-Inv-loop settle-each-μ-loop
 settle-each-mul-more t c =
     omega (arith, c .before .before .before .before .before .before .before .before .pre .1 .2)
@@ -639,36 +589,35 @@ settle-each-mul-more t c =
 settle-each-array-write-more : (t : ℕ) → settle-each-lts.Need-array-write-more (
   next-in-row-reads.Asked,
   next-in-row-reads.Learnt,
-  settle-below t,
-  settle.Post,
+  settle-parts-below t,
+  settle-parts.Post,
 ) (settle-each-at t) settle-each.Post settle-each-Inv-loop settle-each-μ-loop
 settle-each-array-write-more t c =
     omega (arith, c .before .before .before .before .before .before .before .before .pre .1 .2)
 
-settle-each-add-settle : (t : ℕ) → settle-each-lts.Need-add-settle (
+settle-each-add-settle-parts : (t : ℕ) → settle-each-lts.Need-add-settle-parts (
   next-in-row-reads.Asked,
   next-in-row-reads.Learnt,
-  settle-below t,
-  settle.Post,
+  settle-parts-below t,
+  settle-parts.Post,
 ) (settle-each-at t) settle-each.Post settle-each-Inv-loop settle-each-μ-loop
-settle-each-add-settle t c =
+settle-each-add-settle-parts t c =
     omega (arith, c .before .before .before .before .before .before .before .before .before .pre .1 .1)
 
-settle-each-settle-requires : (t : ℕ) → settle-each-lts.Need-settle-requires (
+settle-each-settle-parts-requires : (t : ℕ) → settle-each-lts.Need-settle-parts-requires (
   next-in-row-reads.Asked,
   next-in-row-reads.Learnt,
-  settle-below t,
-  settle.Post,
+  settle-parts-below t,
+  settle-parts.Post,
 ) (settle-each-at t) settle-each.Post settle-each-Inv-loop settle-each-μ-loop
-settle-each-settle-requires t c κs =
+settle-each-settle-parts-requires t c κs =
     let back5 = c .before .before .before .before .before in
     let start = c .before .before .before .before .before .before .before .before .before in
     let x = start .args in
     let f = start .pre .1 .0 in (
-      settle-falls _ (start .pre .0) (start .pre .1 .1),
+      parts-fall _ (start .pre .0) (start .pre .1 .1),
       (
-        fitting-fixed (x .table .now) (x .map .now) (x .rows .now) (x .q) (x .k) (x .bindings) (x .rising) f _ (back5 .loop .inv .0 .rows .size) _
-            _,
+        needs-fixed (x .table .now) (x .map .now) (x .rows .now) (x .q) (x .k) (x .bindings) (x .rising) f _ (back5 .loop .inv .0 .rows .size) _ _,
         omega (arith, start .pre .1 .1),
       ),
     )
@@ -676,19 +625,19 @@ settle-each-settle-requires t c κs =
 settle-each-same-length-2 : (t : ℕ) → settle-each-lts.Need-same-length-2 (
   next-in-row-reads.Asked,
   next-in-row-reads.Learnt,
-  settle-below t,
-  settle.Post,
+  settle-parts-below t,
+  settle-parts.Post,
 ) (settle-each-at t) settle-each.Post settle-each-Inv-loop settle-each-μ-loop
 settle-each-same-length-2 t c =
     let back3 = c .before .before .before in
     let back9 = back3 .before .before .before .before .before .before in
-    back3 .settle .ensures .1 .size ∙ back9 .loop .inv .0 .rows .size
+    back3 .settle-parts .ensures .1 .size ∙ back9 .loop .inv .0 .rows .size
 
 settle-each-returns-2 : (t : ℕ) → settle-each-lts.Need-returns-2 (
   next-in-row-reads.Asked,
   next-in-row-reads.Learnt,
-  settle-below t,
-  settle.Post,
+  settle-parts-below t,
+  settle-parts.Post,
 ) (settle-each-at t) settle-each.Post settle-each-Inv-loop settle-each-μ-loop
 settle-each-returns-2 t c =
     let back3 = c .before .before .before in
@@ -699,28 +648,28 @@ settle-each-returns-2 t c =
     let f = start .pre .1 .0 in
     let h = start .pre .1 in
     let i = back9 .loop .inv .0 in
-    let s = back3 .settle .ensures in (
-      fix-found (x .table .now) (x .map .now) (x .rows .now) (x .q) (x .k) (x .bindings) (10 + x .depth) (x .cut) (h .2) _ _ i (omega arith) (h .4) _
-          (back6 .next-in-row .ensures) (f .bound) (h .3) (s .0) (c .if2 .taken),
+    let s = back3 .settle-parts .ensures in (
+      fix-found (x .table .now) (x .map .now) (x .rows .now) (x .q) (x .k) (x .bindings) (10 + x .depth) (x .fixed) (h .2) _ _ i (omega arith) (h .4)
+          _ (back6 .next-in-row .ensures) (f .bound) (h .3) (s .0) (c .if2 .taken),
       rows-fewer _ _ _ _ (omega arith) (rows-more _ _ _ _ _ (omega arith) (i .rows) (s .1)),
     )
 
 settle-each-add-x : (t : ℕ) → settle-each-lts.Need-add-x (
   next-in-row-reads.Asked,
   next-in-row-reads.Learnt,
-  settle-below t,
-  settle.Post,
+  settle-parts-below t,
+  settle-parts.Post,
 ) (settle-each-at t) settle-each.Post settle-each-Inv-loop settle-each-μ-loop
 settle-each-add-x t c =
     let back6 = c .before .before .before .before .before .before in
     let start = back6 .before .before .before .before .before .before .before in
-    omega (arith, back6 .next-in-row .ensures .high, start .pre .1 .0 .small)
+    omega (arith, back6 .next-in-row .ensures .high, start .pre .1 .0 .whole .small)
 
 settle-each-loop-less : (t : ℕ) → settle-each-lts.Need-loop-less (
   next-in-row-reads.Asked,
   next-in-row-reads.Learnt,
-  settle-below t,
-  settle.Post,
+  settle-parts-below t,
+  settle-parts.Post,
 ) (settle-each-at t) settle-each.Post settle-each-Inv-loop settle-each-μ-loop
 settle-each-loop-less t c =
     let back6 = c .before .before .before .before .before .before in
@@ -729,8 +678,8 @@ settle-each-loop-less t c =
 settle-each-loop-again : (t : ℕ) → settle-each-lts.Need-loop-again (
   next-in-row-reads.Asked,
   next-in-row-reads.Learnt,
-  settle-below t,
-  settle.Post,
+  settle-parts-below t,
+  settle-parts.Post,
 ) (settle-each-at t) settle-each.Post settle-each-Inv-loop settle-each-μ-loop
 settle-each-loop-again t c =
     let back3 = c .before .before .before in
@@ -741,18 +690,18 @@ settle-each-loop-again t c =
     let f = start .pre .1 .0 in
     let h = start .pre .1 in
     let i = back9 .loop .inv .0 in
-    let s = back3 .settle .ensures in
+    let s = back3 .settle-parts .ensures in
     let w = back6 .next-in-row .ensures in (
-      fix-step (x .table .now) (x .map .now) (x .rows .now) (x .q) (x .k) (x .bindings) (10 + x .depth) (x .cut) (h .2) _ _ i (omega arith) (h .4) _ w
-          (f .bound) (h .3) (s .0) _ (rows-fewer _ _ _ _ (omega arith) (s .1)) (c .if2 .left),
+      fix-step (x .table .now) (x .map .now) (x .rows .now) (x .q) (x .k) (x .bindings) (10 + x .depth) (x .fixed) (h .2) _ _ i (omega arith) (h .4) _
+          w (f .bound) (h .3) (s .0) _ (rows-fewer _ _ _ _ (omega arith) (s .1)) (c .if2 .left),
       omega (arith, w .high),
     )
 
 settle-each-same-length-3 : (t : ℕ) → settle-each-lts.Need-same-length-3 (
   next-in-row-reads.Asked,
   next-in-row-reads.Learnt,
-  settle-below t,
-  settle.Post,
+  settle-parts-below t,
+  settle-parts.Post,
 ) (settle-each-at t) settle-each.Post settle-each-Inv-loop settle-each-μ-loop
 settle-each-same-length-3 t c =
     c .before .loop .inv .0 .rows .size
@@ -760,44 +709,238 @@ settle-each-same-length-3 t c =
 settle-each-returns-3 : (t : ℕ) → settle-each-lts.Need-returns-3 (
   next-in-row-reads.Asked,
   next-in-row-reads.Learnt,
-  settle-below t,
-  settle.Post,
+  settle-parts-below t,
+  settle-parts.Post,
 ) (settle-each-at t) settle-each.Post settle-each-Inv-loop settle-each-μ-loop
 settle-each-returns-3 t c =
     let start = c .before .before .before .before .before in
     let x = start .args in
-    let f = start .pre .1 .0 in
     let i = c .before .loop .inv .0 in (
-      fix-end (x .table .now) (x .map .now) (x .rows .now) (x .q) (x .k) (x .bindings) (10 + x .depth) (x .cut) (start .pre .1 .2) _ _ i
+      fix-end (x .table .now) (x .map .now) (x .rows .now) (x .q) (x .k) (x .bindings) (10 + x .depth) (x .fixed) (start .pre .1 .2) _ _ i
           (c .loop-test .left),
       rows-fewer _ _ _ _ (omega arith) (i .rows),
     )
 
-pub +settle+settle-each-spec : {M : Type 1} → statement M
-+settle+settle-each-spec = close μ-settle μ-settle-each (λ t. settle-lts.spec (
+abbrev settle-parts-Inv-loop : settle-parts-lts.InvT-loop
+settle-parts-Inv-loop table map rows₀ k bindings rising depth ordered count j₀ rows j =
+    PartsPut table map rows₀ ordered k bindings (10 + depth) rows j
+
+abbrev settle-parts-μ-loop : settle-parts-lts.MeasureT-loop
+settle-parts-μ-loop table map rows₀ k bindings rising depth ordered count j₀ rows j = count - j
+
+settle-parts-arrange-requires : (t : ℕ) → settle-parts-lts.Need-arrange-requires (
   arrange-reads.Asked,
   arrange-reads.Learnt,
-  sweep-all-reads.Asked,
-  sweep-all-reads.Learnt,
-  next-cut-reads.Asked,
-  next-cut-reads.Learnt,
-  step-limit-reads.Asked,
-  step-limit-reads.Learnt,
-  try-pattern-reads.Asked,
-  try-pattern-reads.Learnt,
-  copy-row-reads.Asked,
-  copy-row-reads.Learnt,
-  settle-each-below t,
-  settle-each.Post,
-)
+  part-end-reads.Asked,
+  part-end-reads.Learnt,
+  settle-below t,
+  settle.Post,
+) (settle-parts-at t) settle-parts.Post settle-parts-Inv-loop settle-parts-μ-loop
+settle-parts-arrange-requires t c κs =
+    let start = c .before .before .before in
+    let f = start .pre .1 .0 in
+    few-patterns _ _ (f .whole .right)
+
+settle-parts-cast-count : (t : ℕ) → settle-parts-lts.Need-cast-count (
+  arrange-reads.Asked,
+  arrange-reads.Learnt,
+  part-end-reads.Asked,
+  part-end-reads.Learnt,
+  settle-below t,
+  settle.Post,
+) (settle-parts-at t) settle-parts.Post settle-parts-Inv-loop settle-parts-μ-loop
+settle-parts-cast-count t c =
+    let start = c .before .before .before .before .before in
+    let f = start .pre .1 .0 in
+    record { fits = omega (arith, few-patterns _ _ (arranged-right _ _ _ _ (c .before .arrange .ensures) (f .whole .right))) }
+
+settle-parts-loop-holds : (t : ℕ) → settle-parts-lts.Need-loop-holds (
+  arrange-reads.Asked,
+  arrange-reads.Learnt,
+  part-end-reads.Asked,
+  part-end-reads.Learnt,
+  settle-below t,
+  settle.Post,
+) (settle-parts-at t) settle-parts.Post settle-parts-Inv-loop settle-parts-μ-loop
+settle-parts-loop-holds t c =
+    let start = c .before .before .before .before .before in
+    let x = start .args in
+    let f = start .pre .1 .0 in
+    parts-start (x .table .now) (x .map .now) (x .rows .now) (x .q) _ (x .k) (x .bindings) (c .before .arrange .ensures) _ (f .counted)
+
+settle-parts-part-end-requires : (t : ℕ) → settle-parts-lts.Need-part-end-requires (
+  arrange-reads.Asked,
+  arrange-reads.Learnt,
+  part-end-reads.Asked,
+  part-end-reads.Learnt,
+  settle-below t,
+  settle.Post,
+) (settle-parts-at t) settle-parts.Post settle-parts-Inv-loop settle-parts-μ-loop
+settle-parts-part-end-requires t c κs =
+    let back3 = c .before .before .before in
+    let start = c .before .before .before .before .before .before .before in
+    let f = start .pre .1 .0 in
+    (c .loop-test .taken, few-patterns _ _ (arranged-right _ _ _ _ (back3 .arrange .ensures) (f .whole .right)))
+
+settle-parts-cast-part : (t : ℕ) → settle-parts-lts.Need-cast-part (
+  arrange-reads.Asked,
+  arrange-reads.Learnt,
+  part-end-reads.Asked,
+  part-end-reads.Learnt,
+  settle-below t,
+  settle.Post,
+) (settle-parts-at t) settle-parts.Post settle-parts-Inv-loop settle-parts-μ-loop
+settle-parts-cast-part t c =
+    let back4 = c .before .before .before .before in
+    let start = c .before .before .before .before .before .before .before .before in
+    let f = start .pre .1 .0 in
+    record { fits = omega (arith, c .part-end .ensures .most, few-patterns _ _ (arranged-right _ _ _ _ (back4 .arrange .ensures) (f .whole .right))) }
+
+settle-parts-settle-requires : (t : ℕ) → settle-parts-lts.Need-settle-requires (
+  arrange-reads.Asked,
+  arrange-reads.Learnt,
+  part-end-reads.Asked,
+  part-end-reads.Learnt,
+  settle-below t,
+  settle.Post,
+) (settle-parts-at t) settle-parts.Post settle-parts-Inv-loop settle-parts-μ-loop
+settle-parts-settle-requires t c κs =
+    let back3 = c .before .before .before in
+    let back5 = back3 .before .before in
+    let start = c .before .before .before .before .before .before .before .before .before in
+    let x = start .args in
+    let f = start .pre .1 .0 in (
+      settle-falls _ (start .pre .0),
+      (
+        needs-part (x .table .now) (x .map .now) (x .rows .now) (x .q) (x .k) (x .bindings) (x .rising) f
+            _ (back3 .loop .inv .rows .size) _ (back5 .arrange .ensures) _ _ (c .before .part-end .ensures),
+        start .pre .1 .1,
+      ),
+    )
+
+settle-parts-same-length : (t : ℕ) → settle-parts-lts.Need-same-length (
+  arrange-reads.Asked,
+  arrange-reads.Learnt,
+  part-end-reads.Asked,
+  part-end-reads.Learnt,
+  settle-below t,
+  settle.Post,
+) (settle-parts-at t) settle-parts.Post settle-parts-Inv-loop settle-parts-μ-loop
+settle-parts-same-length t c =
+    let back3 = c .before .before .before in
+    let back7 = back3 .before .before .before .before in
+    back3 .settle .ensures .1 .size ∙ back7 .loop .inv .rows .size
+
+settle-parts-returns : (t : ℕ) → settle-parts-lts.Need-returns (
+  arrange-reads.Asked,
+  arrange-reads.Learnt,
+  part-end-reads.Asked,
+  part-end-reads.Learnt,
+  settle-below t,
+  settle.Post,
+) (settle-parts-at t) settle-parts.Post settle-parts-Inv-loop settle-parts-μ-loop
+settle-parts-returns t c =
+    let back3 = c .before .before .before in
+    let back5 = back3 .before .before in
+    let back6 = back5 .before in
+    let back7 = back6 .before in
+    let back9 = back7 .before .before in
+    let start = c .before .before .before .before .before .before .before .before .before .before .before .before .before in
+    let x = start .args in
+    let f = start .pre .1 .0 in
+    let i = back7 .loop .inv in
+    let s = back3 .settle .ensures in (
+      part-missing (x .table .now) (x .map .now) (x .rows .now) (x .q) _ (x .k) (x .bindings) (back9 .arrange .ensures) _ (f .whole .right) _ _ i
+          (back6 .loop-test .taken) _ (back5 .part-end .ensures)
+          (s .0) (not-true _ (c .if1 .taken)),
+      rows-more _ _ _ _ _ (omega arith) (i .rows) (s .1),
+    )
+
+settle-parts-loop-less : (t : ℕ) → settle-parts-lts.Need-loop-less (
+  arrange-reads.Asked,
+  arrange-reads.Learnt,
+  part-end-reads.Asked,
+  part-end-reads.Learnt,
+  settle-below t,
+  settle.Post,
+) (settle-parts-at t) settle-parts.Post settle-parts-Inv-loop settle-parts-μ-loop
+settle-parts-loop-less t c =
+    omega (arith, c .before .before .before .before .before .part-end .ensures .more)
+
+settle-parts-loop-again : (t : ℕ) → settle-parts-lts.Need-loop-again (
+  arrange-reads.Asked,
+  arrange-reads.Learnt,
+  part-end-reads.Asked,
+  part-end-reads.Learnt,
+  settle-below t,
+  settle.Post,
+) (settle-parts-at t) settle-parts.Post settle-parts-Inv-loop settle-parts-μ-loop
+settle-parts-loop-again t c =
+    let back3 = c .before .before .before in
+    let back5 = back3 .before .before in
+    let back6 = back5 .before in
+    let back7 = back6 .before in
+    let back9 = back7 .before .before in
+    let start = c .before .before .before .before .before .before .before .before .before .before .before .before .before in
+    let x = start .args in
+    let f = start .pre .1 .0 in
+    let s = back3 .settle .ensures in
+    part-put (x .table .now) (x .map .now) (x .rows .now) (x .q) _ (x .k) (x .bindings) (back9 .arrange .ensures) _ (f .whole .right) _ _
+    (back7 .loop .inv) (back6 .loop-test .taken) _ (back5 .part-end .ensures)
+    (s .0) _ (s .1) (not-false _ (c .if1 .left))
+
+settle-parts-same-length-2 : (t : ℕ) → settle-parts-lts.Need-same-length-2 (
+  arrange-reads.Asked,
+  arrange-reads.Learnt,
+  part-end-reads.Asked,
+  part-end-reads.Learnt,
+  settle-below t,
+  settle.Post,
+) (settle-parts-at t) settle-parts.Post settle-parts-Inv-loop settle-parts-μ-loop
+settle-parts-same-length-2 t c =
+    c .before .loop .inv .rows .size
+
+settle-parts-returns-2 : (t : ℕ) → settle-parts-lts.Need-returns-2 (
+  arrange-reads.Asked,
+  arrange-reads.Learnt,
+  part-end-reads.Asked,
+  part-end-reads.Learnt,
+  settle-below t,
+  settle.Post,
+) (settle-parts-at t) settle-parts.Post settle-parts-Inv-loop settle-parts-μ-loop
+settle-parts-returns-2 t c =
+    let back3 = c .before .before .before in
+    let start = c .before .before .before .before .before .before .before in
+    let x = start .args in (
+      parts-end (x .table .now) (x .map .now) (x .rows .now) (x .q) _ (x .k) (x .bindings) (back3 .arrange .ensures) _ _ _ (c .before .loop .inv)
+          (c .loop-test .left),
+      c .before .loop .inv .rows,
+    )
+
+pub +settle+settle-each+settle-parts-spec : {M : Type 1} → statement M
++settle+settle-each+settle-parts-spec =
+    close μ-settle μ-settle-each μ-settle-parts (λ t. settle-lts.spec (
+      sweep-all-reads.Asked,
+      sweep-all-reads.Learnt,
+      next-fixed-reads.Asked,
+      next-fixed-reads.Learnt,
+      step-limit-reads.Asked,
+      step-limit-reads.Learnt,
+      try-pattern-reads.Asked,
+      try-pattern-reads.Learnt,
+      copy-row-reads.Asked,
+      copy-row-reads.Learnt,
+      settle-each-below t,
+      settle-each.Post,
+    )
     (settle-at t)
     settle.Post
-    (settle-arrange-requires t)
     (settle-sweep-all-requires t)
     (settle-same-length t)
     (settle-returns t)
-    (settle-next-cut-requires t)
+    (settle-next-fixed-requires t)
     (settle-cast-step-limit t)
+    (settle-sub-step-limit t)
     (settle-step-limit-requires t)
     (settle-try-pattern-requires t)
     (settle-same-length-2 t)
@@ -812,8 +955,12 @@ pub +settle+settle-each-spec : {M : Type 1} → statement M
     (settle-settle-each-requires t)
     (settle-same-length-5 t)
     (settle-returns-5 t))
-    λ t. settle-each-lts.spec
-    (next-in-row-reads.Asked, next-in-row-reads.Learnt, settle-below t, settle.Post)
+    (λ t. settle-each-lts.spec (
+      next-in-row-reads.Asked,
+      next-in-row-reads.Learnt,
+      settle-parts-below t,
+      settle-parts.Post,
+    )
     (settle-each-at t)
     settle-each.Post
     settle-each-Inv-loop
@@ -826,12 +973,36 @@ pub +settle+settle-each-spec : {M : Type 1} → statement M
     (settle-each-cast-more t)
     (settle-each-mul-more t)
     (settle-each-array-write-more t)
-    (settle-each-add-settle t)
-    (settle-each-settle-requires t)
+    (settle-each-add-settle-parts t)
+    (settle-each-settle-parts-requires t)
     (settle-each-same-length-2 t)
     (settle-each-returns-2 t)
     (settle-each-add-x t)
     (settle-each-loop-less t)
     (settle-each-loop-again t)
     (settle-each-same-length-3 t)
-    (settle-each-returns-3 t)
+    (settle-each-returns-3 t))
+    λ t. settle-parts-lts.spec (
+      arrange-reads.Asked,
+      arrange-reads.Learnt,
+      part-end-reads.Asked,
+      part-end-reads.Learnt,
+      settle-below t,
+      settle.Post,
+    )
+    (settle-parts-at t)
+    settle-parts.Post
+    settle-parts-Inv-loop
+    settle-parts-μ-loop
+    (settle-parts-arrange-requires t)
+    (settle-parts-cast-count t)
+    (settle-parts-loop-holds t)
+    (settle-parts-part-end-requires t)
+    (settle-parts-cast-part t)
+    (settle-parts-settle-requires t)
+    (settle-parts-same-length t)
+    (settle-parts-returns t)
+    (settle-parts-loop-less t)
+    (settle-parts-loop-again t)
+    (settle-parts-same-length-2 t)
+    (settle-parts-returns-2 t)
