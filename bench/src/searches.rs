@@ -71,6 +71,8 @@ fn pairs(ends: &[[u32; 2]]) -> Vec<[u32; 5]> {
     ends.iter().map(|&[s, o]| open(s, LINK, o)).collect()
 }
 
+const CLIQUE: &str = "clique of four";
+const TREE: &str = "tree of eight";
 const CYCLE: &str = "cycle of eight";
 
 /// The tables have too few layers, or three that go round.
@@ -82,14 +84,14 @@ const SHAPES: [Shape; 6] = [
     },
     Shape { name: "path of eight", patterns: path, make: |dense, size| layers(8, false, dense, size) },
     Shape { name: "star of eight", patterns: star, make: stars },
-    Shape { name: "tree of eight", patterns: tree, make: |dense, size| layers(4, false, dense, size) },
+    Shape { name: TREE, patterns: tree, make: |dense, size| layers(4, false, dense, size) },
     Shape {
         name: CYCLE,
         patterns: |_| (0..8).map(|k| open(k, LINK, (k + 1) % 8)).collect(),
         make: |dense, size| layers(3, true, dense, size),
     },
     Shape {
-        name: "clique of four",
+        name: CLIQUE,
         patterns: |_| pairs(&[[0, 1], [0, 2], [0, 3], [1, 2], [1, 3], [2, 3]]),
         make: |dense, size| layers(3, true, dense, size),
     },
@@ -114,24 +116,25 @@ fn asked(shape: &Shape, dense: bool, matches: bool, size: usize) -> (Asked, Vec<
     (Asked { table: inputs::sorted(&table), map: (0..n).collect() }, query(&patterns))
 }
 
-/// The sizes; the largest takes a dense cycle over a second.
+/// The sizes at which the proved engine takes less than a second, and with which there are not too many nodes.
 fn sizes(shape: &Shape, dense: bool) -> &'static [usize] {
-    const ALL: [usize; 5] = [256, 1_024, 4_096, 16_384, 65_536];
-    match dense && shape.name == CYCLE {
-        true => &ALL[..4],
-        false => &ALL,
+    const ALL: [usize; 6] = [256, 1_024, 4_096, 16_384, 65_536, 100_000];
+    match (shape.name, dense) {
+        (CYCLE, true) => &ALL[..4],
+        (CYCLE | TREE, false) | (CLIQUE, true) => &ALL[..5],
+        _ => &ALL,
     }
 }
 
 pub fn all(settings: &Settings) {
     let note = "Queries for which trying the patterns as they are written takes too long. Size: about the triples of the table, \
-                which has one property (for a star eight) and no more codes than it takes; sizes rise fourfold. Sparse: two links \
+                which has one property (for a star eight) and no more codes than it takes; sizes rise fourfold, the last less. Sparse: two links \
                 from each node, or two triples of each property of a star's centre. Dense: links from each node to all of the next \
                 layer, or sixteen triples. The path's table has eight layers where nine are needed, the tree's four where five are \
                 needed, the cycle's and the clique's three that go round; each centre of a star lacks a property, and no triple has \
                 that of the fourth pattern apart. One match: the same table with one match behind all else. The clique has six \
-                patterns, all pairs of four variables. Left out, because the proved engine takes over a second: the dense cycle \
-                at 65,536. Sparse tables from 16,384 on have more than 4,096 nodes, where the proved engine's sets of nodes filter \
+                patterns, all pairs of four variables. Left out, because the proved engine takes over a second: cycles and the dense \
+                clique at 100,000, the dense cycle at 65,536; and the sparse tree at 100,000, which has over 65,536 nodes. Sparse tables from 16,384 on have more than 4,096 nodes, where the proved engine's sets of nodes filter \
                 less. The plain engine searches with a limit of tries and then joins relations, one variable after the other.";
     heading("Ask, hard queries", note);
     for shape in &SHAPES {

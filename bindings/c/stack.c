@@ -1,8 +1,8 @@
 /* Measures the stack that each call uses. The call runs on a painted stack of its own, and what counts is how far down the
    paint is gone, with the call's arguments. The lists are the largest: 65,536 codes and 1,048,576 triples. Their numbers send
    the sort down as far as it goes, 16 halvings for each of three places. The queries have eight patterns and send ask through
-   each stage of its search, at last with three variables fixed; tables of several sizes show that they make no difference. A
-   number over the header's is a failure. */
+   each stage of its search, at last with two variables fixed, one within the other, the most that a query was seen to need;
+   tables of several sizes show that they make no difference. A number over the header's is a failure. */
 #define _XOPEN_SOURCE 700
 #include <stdio.h>
 #include <string.h>
@@ -306,7 +306,7 @@ static void fill_core(size_t triples) {
 }
 
 /* Three pairs of variables that lead to each other, joined. 400 and 401 are the only nodes for the third, and are found late,
-   so a variable of each pair is fixed; without the first three patterns two are. Apart: the fourth pattern fits nothing. */
+   so variables of two pairs are fixed, one within the other. Apart: the fourth pattern fits nothing. */
 static const uint32_t PAIRS[8][3] = {{0, 7, 1}, {1, 7, 0}, {1, 7, 2}, {2, 7, 3}, {3, 7, 2}, {4, 9, 3}, {5, 8, 4}, {4, 8, 5}};
 static const uint32_t APART[4][3] = {{0, 7, 1}, {2, 7, 3}, {4, 7, 5}, {6, 11, 7}};
 

@@ -68,6 +68,7 @@ pub struct Report {
     /// The answers maybe and none to the accepted queries that went as far as each stage, and to those with a second part.
     stages: BTreeMap<Stage, [usize; 2]>,
     second_parts: [usize; 2],
+    fixed_parts: [usize; 2],
     pub cases: usize,
     pub differences: usize,
     shown: usize,
@@ -96,6 +97,7 @@ impl Report {
             different: BTreeSet::new(),
             stages: BTreeMap::new(),
             second_parts: [0; 2],
+            fixed_parts: [0; 2],
             cases: 0,
             differences: 0,
             shown,
@@ -132,13 +134,16 @@ impl Report {
         let answer = !reach.maybe as usize;
         self.stages.entry(reach.furthest).or_default()[answer] += 1;
         self.second_parts[answer] += reach.parts as usize;
+        self.fixed_parts[answer] += reach.fixed_parts as usize;
     }
 
     /// How many queries went as far as each stage, and how many had a second part tried, by answer.
     fn lines(&self) -> Vec<(&'static str, [usize; 2])> {
         let count = |stage: Stage| self.stages.get(&stage).copied().unwrap_or_default();
-        let mut lines = Stage::ALL.map(|stage| (stage.name(), count(stage))).to_vec();
+        let mut lines = Stage::KNOWN.map(|stage| (stage.name(), count(stage))).to_vec();
+        lines.extend(self.stages.get(&Stage::FixedThree).map(|&by| (Stage::FixedThree.name(), by)));
         lines.push(("a second part", self.second_parts));
+        lines.push(("a second part, a variable fixed", self.fixed_parts));
         lines
     }
 

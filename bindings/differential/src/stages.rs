@@ -15,12 +15,13 @@ pub enum Stage {
     /// One variable is fixed.
     FixedOne,
     FixedTwo,
+    /// Of queries of eight patterns none was found that fixes three: a query falls into parts where a variable is fixed.
     FixedThree,
 }
 
 impl Stage {
-    pub const ALL: [Stage; 6] =
-        [Stage::Quick, Stage::Swept, Stage::Within, Stage::FixedOne, Stage::FixedTwo, Stage::FixedThree];
+    /// The stages that queries are known to reach.
+    pub const KNOWN: [Stage; 5] = [Stage::Quick, Stage::Swept, Stage::Within, Stage::FixedOne, Stage::FixedTwo];
 
     pub fn name(self) -> &'static str {
         match self {
@@ -40,6 +41,8 @@ pub struct Reach {
     pub furthest: Stage,
     /// Whether a second part was tried.
     pub parts: bool,
+    /// Whether a second part was tried where a variable is fixed.
+    pub fixed_parts: bool,
     pub maybe: bool,
 }
 
@@ -126,34 +129,36 @@ fn arrange(patterns: &mut [Pattern], bindings: &Bindings) {
     }
 }
 
-fn share(p: &Pattern, o: &Pattern) -> bool {
-    let is_variable = |end: &End| matches!(end, End::Variable(_));
-    [p.subject, p.object].iter().filter(|end| is_variable(end)).any(|end| [o.subject, o.object].contains(end))
+/// Whether two patterns share a variable that has no node.
+fn share(p: &Pattern, o: &Pattern, bindings: &Bindings) -> bool {
+    let ends = [p.subject, p.object].into_iter().filter(|&end| free(end, bindings).is_some());
+    ends.into_iter().any(|end| [o.subject, o.object].contains(&end))
 }
 
 /// How many patterns the first part has.
-fn part_length(patterns: &[Pattern]) -> usize {
-    let apart = |z: usize| !patterns[..z].iter().any(|p| patterns[z..].iter().any(|o| share(p, o)));
+fn part_length(patterns: &[Pattern], bindings: &Bindings) -> usize {
+    let apart = |z: usize| !patterns[..z].iter().any(|p| patterns[z..].iter().any(|o| share(p, o, bindings)));
     (1..=patterns.len()).find(|&z| apart(z)).unwrap()
 }
 
-/// How many patterns close a cycle of variables without a node, one variable left out.
-fn closings(patterns: &[Pattern], bindings: &Bindings, out: usize) -> usize {
+/// How many patterns close a cycle of variables without a node, one variable left out: in the part with most, and in all.
+fn closings(patterns: &[Pattern], bindings: &Bindings, out: usize) -> (usize, usize) {
     let mut labels = [0, 1, 2, 3, 4, 5, 6, 7];
-    let mut closed = 0;
+    let mut closed = [0; 8];
     for p in patterns {
         let [x, y] = [p.subject, p.object].map(|end| free(end, bindings).filter(|&v| v != out));
         let (Some(x), Some(y)) = (x, y) else {
             continue;
         };
-        closed += (x != y && labels[x] == labels[y]) as usize;
         let [from, to] = [labels[x], labels[y]];
+        closed[from] += (x != y && from == to) as usize;
         labels.iter_mut().filter(|label| **label == from).for_each(|label| *label = to);
     }
-    closed
+    let part = |to: usize| (0..8).filter(|&v| labels[v] == to).map(|v| closed[v]).sum::<usize>();
+    ((0..8).map(part).max().unwrap(), closed.iter().sum())
 }
 
-/// The variable without which fewest cycles are left, if there is a cycle.
+/// The variable without which the part with most cycles has fewest, if there is a cycle.
 fn cut_variable(patterns: &[Pattern], bindings: &Bindings) -> Option<usize> {
     let left = |v: usize| closings(patterns, bindings, v);
     let best = (0..8).filter(|&v| bindings[v] == ABSENT).min_by_key(|&v| left(v))?;
@@ -168,6 +173,8 @@ struct Model<'a> {
     /// The domains; none in the quick run.
     rows: Option<Box<[Row; 8]>>,
     furthest: Stage,
+    parts: bool,
+    fixed_parts: bool,
 }
 
 impl Model<'_> {
@@ -258,50 +265,56 @@ impl Model<'_> {
         patterns.iter().rev().all(|p| self.sweep(&mut rows, p)).then_some(rows)
     }
 
-    /// Searches a part, which ends at this place of the query, at these bindings.
-    fn settle(&mut self, patterns: &[Pattern], end: usize, bindings: Bindings, depth: usize) -> bool {
-        let mut patterns = patterns.to_vec();
-        arrange(&mut patterns, &bindings);
+    /// Searches a part, in a good order, at these bindings.
+    fn settle(&mut self, patterns: &[Pattern], bindings: Bindings, depth: usize) -> bool {
         self.reach([Stage::Swept, Stage::FixedOne, Stage::FixedTwo, Stage::FixedThree][depth]);
-        let Some(rows) = self.domains(&patterns, &bindings) else {
+        let Some(rows) = self.domains(patterns, &bindings) else {
             return false;
         };
         self.reach(Stage::Within);
-        let cut = cut_variable(&patterns, &bindings).filter(|_| depth < 3);
+        let fixed = cut_variable(patterns, &bindings).filter(|_| depth < 3);
         let nodes = |v: usize| rows[v].iter().map(|word| word.count_ones() as usize).sum::<usize>();
-        let mut steps = cut.map(|v| 4_096 + end * self.triples.len() * (16 + nodes(v) / 4));
-        let kept = cut.map(|v| rows[v]);
+        let mut steps = fixed.map(|v| 4_096 + patterns.len() * self.triples.len() * (16 + nodes(v) / 4));
+        let kept = fixed.map(|v| rows[v]);
         self.rows = Some(rows);
-        if self.search(&patterns, bindings, &mut steps) {
+        if self.search(patterns, bindings, &mut steps) {
             return true;
         }
-        let (Some(v), Some(kept), Some(0)) = (cut, kept, steps) else {
+        let (Some(v), Some(kept), Some(0)) = (fixed, kept, steps) else {
             return false;
         };
         (0..self.n as u32).filter(|&x| is_in(&kept, x)).any(|x| {
             let mut more = bindings;
             more[v] = x;
-            self.settle(&patterns, end, more, depth + 1)
+            self.settle_parts(patterns, more, depth + 1)
         })
     }
 
+    /// Searches one part after the other.
+    fn settle_parts(&mut self, patterns: &[Pattern], bindings: Bindings, depth: usize) -> bool {
+        let mut patterns = patterns.to_vec();
+        arrange(&mut patterns, &bindings);
+        let mut start = 0;
+        while start < patterns.len() {
+            self.parts |= start > 0;
+            self.fixed_parts |= start > 0 && depth > 0;
+            let end = start + part_length(&patterns[start..], &bindings);
+            if !self.settle(&patterns[start..end], bindings, depth) {
+                return false;
+            }
+            start = end;
+        }
+        true
+    }
+
     /// The quick run, and where its steps are used up the parts.
-    fn run(&mut self, mut patterns: Vec<Pattern>) -> Reach {
+    fn run(&mut self, patterns: Vec<Pattern>) -> Reach {
         let mut steps = (patterns.len() > 1).then_some(2_048 + 2 * patterns.len() * self.triples.len());
         let mut maybe = self.search(&patterns, [ABSENT; 8], &mut steps);
-        let mut parts = false;
         if steps == Some(0) {
-            arrange(&mut patterns, &[ABSENT; 8]);
-            let mut start = 0;
-            maybe = true;
-            while maybe && start < patterns.len() {
-                parts |= start > 0;
-                let end = start + part_length(&patterns[start..]);
-                maybe = self.settle(&patterns[start..end], end, [ABSENT; 8], 0);
-                start = end;
-            }
+            maybe = self.settle_parts(&patterns, [ABSENT; 8], 0);
         }
-        Reach { furthest: self.furthest, parts, maybe }
+        Reach { furthest: self.furthest, parts: self.parts, fixed_parts: self.fixed_parts, maybe }
     }
 }
 
@@ -313,7 +326,8 @@ pub fn reach(table: &[u32], map: &[u32], query: &[u32]) -> Reach {
     let patterns = counted
         .map(|p| Pattern { subject: end_of(p[0], p[1], map), property: p[2], object: end_of(p[3], p[4], map) })
         .collect();
-    Model { triples: &triples, rising, n: map.len(), rows: None, furthest: Stage::Quick }.run(patterns)
+    let n = map.len();
+    Model { triples: &triples, rising, n, rows: None, furthest: Stage::Quick, parts: false, fixed_parts: false }.run(patterns)
 }
 
 #[cfg(test)]

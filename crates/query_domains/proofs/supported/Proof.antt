@@ -20,16 +20,20 @@ returns-2 : tie.Need-returns-2
 returns-2 c =
     let read = c .before .before .before .before .before in
     let start = read .before .before .before .before in
-    not-subject (start .args .map .now) (start .args .rows .now) (start .args .p) _ _ (read .triple-at .ensures) (c .before .before .if1 .left) (c .before .may-stand .ensures) (not-true _ (c .if2 .taken))
+    not-subject (start .args .map .now) (start .args .rows .now) (start .args .p) _ _ (read .triple-at .ensures) (c .before .before .if1 .left)
+    (c .before .may-stand .ensures) (not-true _ (c .if2 .taken))
 
 may-stand-requires-2 : tie.Need-may-stand-requires-2
 may-stand-requires-2 c κs = search needs
 
 returns-3 : tie.Need-returns-3
 returns-3 c =
+    let back3 = c .before .before .before in
+    let back4 = back3 .before in
     let read = c .before .before .before .before .before .before .before in
     let start = read .before .before .before .before in
-    not-object (start .args .map .now) (start .args .rows .now) (start .args .p) _ _ (read .triple-at .ensures) (c .before .before .before .before .if1 .left) (c .before .before .before .may-stand .ensures) (not-false _ (c .before .before .if2 .left))
+    not-object (start .args .map .now) (start .args .rows .now) (start .args .p) _ _ (read .triple-at .ensures) (back4 .if1 .left)
+    (back3 .may-stand .ensures) (not-false _ (c .before .before .if2 .left))
     (c .before .may-stand2 .ensures) (not-true _ (c .if3 .taken))
 
 ends-agree-requires : tie.Need-ends-agree-requires
@@ -37,9 +41,13 @@ ends-agree-requires c κs = search needs
 
 returns-4 : tie.Need-returns-4
 returns-4 c =
+    let back3 = c .before .before .before in
+    let back4 = back3 .before in
+    let back5 = back4 .before in
     let read = c .before .before .before .before .before .before .before .before in
     let start = read .before .before .before .before in
-    by-both (start .args .map .now) (start .args .rows .now) (start .args .p) _ _ (read .triple-at .ensures) (c .before .before .before .before .before .if1 .left) (c .before .before .before .before .may-stand .ensures) (not-false _ (c .before .before .before .if2 .left))
+    by-both (start .args .map .now) (start .args .rows .now) (start .args .p) _ _ (read .triple-at .ensures) (back5 .if1 .left)
+    (back4 .may-stand .ensures) (not-false _ (back3 .if2 .left))
     (c .before .before .may-stand2 .ensures) (not-false _ (c .before .if3 .left)) (c .ends-agree .ensures)
 
 pub supported-spec : {M : Type 1} → statement M
