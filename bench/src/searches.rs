@@ -120,21 +120,22 @@ fn asked(shape: &Shape, dense: bool, matches: bool, size: usize) -> (Asked, Vec<
 fn sizes(shape: &Shape, dense: bool) -> &'static [usize] {
     const ALL: [usize; 6] = [256, 1_024, 4_096, 16_384, 65_536, 100_000];
     match (shape.name, dense) {
-        (CYCLE, true) => &ALL[..4],
-        (CYCLE | TREE, false) | (CLIQUE, true) => &ALL[..5],
+        (CYCLE | CLIQUE, true) => &ALL[..4],
+        (CYCLE | TREE, false) => &ALL[..5],
         _ => &ALL,
     }
 }
 
 pub fn all(settings: &Settings) {
     let note = "Queries for which trying the patterns as they are written takes too long. Size: about the triples of the table, \
-                which has one property (for a star eight) and no more codes than it takes; sizes rise fourfold, the last less. Sparse: two links \
-                from each node, or two triples of each property of a star's centre. Dense: links from each node to all of the next \
-                layer, or sixteen triples. The path's table has eight layers where nine are needed, the tree's four where five are \
+                which has one property (for a star eight) and no more codes than it takes; sizes rise fourfold, the last less. \
+                Sparse: two links from each node, or two triples of each property of a star's centre. Dense: links from each node to \
+                all of the next layer, or sixteen triples. The path's table has eight layers where nine are needed, the tree's four where five are \
                 needed, the cycle's and the clique's three that go round; each centre of a star lacks a property, and no triple has \
                 that of the fourth pattern apart. One match: the same table with one match behind all else. The clique has six \
-                patterns, all pairs of four variables. Left out, because the proved engine takes over a second: cycles and the dense \
-                clique at 100,000, the dense cycle at 65,536; and the sparse tree at 100,000, which has over 65,536 nodes. Sparse tables from 16,384 on have more than 4,096 nodes, where the proved engine's sets of nodes filter \
+                patterns, all pairs of four variables. Left out, because the proved engine takes over a second: the dense cycle and \
+                the dense clique from 65,536 on, the sparse cycle at 100,000; and the sparse tree at 100,000, which has over 65,536 \
+                nodes. Sparse tables from 16,384 on have more than 4,096 nodes, where the proved engine's sets of nodes filter \
                 less. The plain engine searches with a limit of tries and then joins relations, one variable after the other.";
     heading("Ask, hard queries", note);
     for shape in &SHAPES {

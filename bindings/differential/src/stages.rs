@@ -267,7 +267,6 @@ impl Model<'_> {
 
     /// Searches a part, in a good order, at these bindings.
     fn settle(&mut self, patterns: &[Pattern], bindings: Bindings, depth: usize) -> bool {
-        self.reach([Stage::Swept, Stage::FixedOne, Stage::FixedTwo, Stage::FixedThree][depth]);
         let Some(rows) = self.domains(patterns, &bindings) else {
             return false;
         };
@@ -290,8 +289,12 @@ impl Model<'_> {
         })
     }
 
-    /// Searches one part after the other.
+    /// Searches one part after the other; where a variable is fixed all patterns are swept before.
     fn settle_parts(&mut self, patterns: &[Pattern], bindings: Bindings, depth: usize) -> bool {
+        self.reach([Stage::Swept, Stage::FixedOne, Stage::FixedTwo, Stage::FixedThree][depth]);
+        if depth > 0 && self.domains(patterns, &bindings).is_none() {
+            return false;
+        }
         let mut patterns = patterns.to_vec();
         arrange(&mut patterns, &bindings);
         let mut start = 0;
@@ -327,7 +330,8 @@ pub fn reach(table: &[u32], map: &[u32], query: &[u32]) -> Reach {
         .map(|p| Pattern { subject: end_of(p[0], p[1], map), property: p[2], object: end_of(p[3], p[4], map) })
         .collect();
     let n = map.len();
-    Model { triples: &triples, rising, n, rows: None, furthest: Stage::Quick, parts: false, fixed_parts: false }.run(patterns)
+    Model { triples: &triples, rising, n, rows: None, furthest: Stage::Quick, parts: false, fixed_parts: false }
+        .run(patterns)
 }
 
 #[cfg(test)]

@@ -24,7 +24,7 @@ use Rattle.query_order.specs.Order.{firstPatterns, Arranged, Apart, PartEnd}
 use Rattle.query_order.proofs.Arranged.{to-arranged, from-arranged, arranged-right, first-right}
 use Rattle.query_order.proofs.TwoParts.{parts-joined}
 use Rattle.query_search.specs.Search.{Sure, Sought}
-use Rattle.query_settling.specs.Settling.{Searchable, SettleNeeds, Settled, RowsKept, KeptFor}
+use Rattle.query_settling.specs.Settling.{Searchable, SettleNeeds, Settled, RowsKept, KeptFor, MaySettle}
 
 -- ── what the search needs ──
 pub nodes-present : (table map : List ℕ) (q : Query) (rising : Bool) → Searchable table map q rising → Present (triples table)
@@ -176,6 +176,14 @@ module _ (table map d₀ : List ℕ) (q : Query) (k : ℕ) (b : List ℕ) (u fix
         fix-found e =
             let f = s .sound e in
             settled-some table map q k b (f .0, record { agrees = unset-agrees (f .0) b fixed y free (f .1 .agrees); puts = f .1 .puts })
+
+-- ── all patterns first ──
+module _ (table map d d′ : List ℕ) (q : Query) (k : ℕ) (b : List ℕ) {x : Bool} (w : MaySettle table map d d′ q k b x) where
+  pub may-rows : (z : ℕ) → RowsKept d d′ z
+  may-rows z = record { size = w .size; kept = λ v y l m h. w .later v y l h }
+
+  pub cannot-settle : x ≡ false → Settled table map q k b false
+  cannot-settle n = settled-none table map q k b (λ σ p l. true≢false (sym (w .some σ p) ∙ n))
 
 -- ── one part after the other ──
 -- the patterns from the k-th to before the j-th are put, and share no variable without a node with the others

@@ -10,6 +10,7 @@ use Rattle.query.specs.declared.Query.{Query}
 use Rattle.query.specs.Ask.{wrongQuery}
 use Rattle.query.specs.Match.{NodeOf}
 use Rattle.query.specs.Choices.{Puts, CanPut, CodesBelow}
+use Rattle.query_domains.specs.Domains.{LaterKept}
 use Rattle.query_order.specs.Order.{FreeVariable}
 use Rattle.query_parts.specs.Parts.{InOrder}
 use Rattle.query_rows.specs.Rows.{inRow, Sized}
@@ -38,6 +39,12 @@ pub record Settled (table map : List ℕ) (q : Query) (k : ℕ) (b : List ℕ) (
 pub record RowsKept (d d′ : List ℕ) (z : ℕ) : Type 0 where
   pub size : length d′ ≡ length d
   pub kept : (v x : ℕ) → 10 ≤ v → v < z → inRow d v x ≡ true → inRow d′ v x ≡ true
+
+-- rows 10 and on lose no node, and where there is a choice the answer is true
+pub record MaySettle (table map d d′ : List ℕ) (q : Query) (k : ℕ) (b : List ℕ) (r : Bool) : Type 0 where
+  pub size : length d′ ≡ length d
+  pub later : LaterKept d d′
+  pub some : (σ : ℕ → ℕ) → Puts (triples table) map q k b σ → r ≡ true
 
 -- row v holds, for every choice, the node that it gives the variable `fixed`
 abbrev pub KeptFor : List ℕ → List ℕ → List ℕ → Query → ℕ → List ℕ → ℕ → ℕ → Type 0

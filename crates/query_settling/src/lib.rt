@@ -2,13 +2,14 @@
 // fixed while a cycle is left. The quick run before it.
 
 ghost use mathlib.Core.Path.{_≡_};
+ghost use mathlib.Core.Bool.{false};
 ghost use Prim.Native.Nat.{_+_, _<_, _≤_};
-ghost use lib.ListN.{getD};
+ghost use lib.ListN.{length, getD};
 ghost use Rattle.model.specs.Codes.{absent};
 ghost use Rattle.model.specs.Triples.{triples};
-ghost use Rattle.query.specs.Ask.{search, unbound};
+ghost use Rattle.query.specs.Ask.{search, unbound, wrongQuery};
 ghost use Rattle.query_rows.specs.Rows.{Sized};
-ghost use Rattle.query_settling.specs.Settling.{Searchable, SettleNeeds, Settled, RowsKept, KeptFor, NextFixed};
+ghost use Rattle.query_settling.specs.Settling.{Searchable, SettleNeeds, Settled, RowsKept, KeptFor, NextFixed, MaySettle};
 use lists::Code;
 use query::Query;
 use query_domains::sweep_all;
@@ -108,6 +109,26 @@ fn settle_each(
     false
 }
 
+// False: no choice of nodes at these bindings puts the patterns from k on in the table. Where a variable is fixed all patterns are swept
+// before their parts are searched, because a node that fails mostly fails here.
+fn may_settle(
+    table: &[u32],
+    map: &[u32],
+    rows: &mut [u64],
+    q: Query,
+    k: usize,
+    bindings: [u32; 8],
+    depth: usize,
+) -> bool
+    requires { ⌜ (wrongQuery (length (now map)) q ≡ false) × Sized (now rows) ⌝ }
+    ensures { λ r. ⌜ MaySettle (now (table .entry)) (now (map .entry)) (now (rows .entry)) (now (rows .exit)) q k bindings r ⌝ }
+{
+    if depth == 0 {
+        return true;
+    }
+    sweep_all(table, map, rows, q, k, bindings)
+}
+
 // Whether some choice of nodes at these bindings puts the patterns from k on in the table: every part of them has one.
 fn settle_parts(
     table: &[u32],
@@ -122,6 +143,9 @@ fn settle_parts(
     requires { ⌜ SettleNeeds (now table) (now map) (now rows) q k bindings rising × (depth ≤ 3) ⌝ }
     ensures { λ r. ⌜ Settled (now (table .entry)) (now (map .entry)) q k bindings r × RowsKept (now (rows .entry)) (now (rows .exit)) (10 + depth) ⌝ }
 {
+    if !may_settle(table, map, rows, q, k, bindings, depth) {
+        return false;
+    }
     let ordered = arrange(q, k, bindings);
     let count = ordered.count as usize;
     let mut j = k;

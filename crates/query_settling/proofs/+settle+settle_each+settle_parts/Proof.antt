@@ -7,7 +7,7 @@ use Rattle.query.proofs.Steps.{few-patterns}
 use Rattle.query_rows.proofs.Rows.{sized-as}
 use Rattle.query_order.proofs.Arranged.{arranged-right}
 use Rattle.query_settling.proofs.Settles.{nodes-present, needs-rows, needs-fixed, needs-part, settle-falls, each-falls, parts-fall, steps-left}
-use Rattle.query_settling.proofs.Settles.{rows-fewer, rows-more, swept-rows, unsupported, found-within, none-within, fixed-kept, copied-rows}
+use Rattle.query_settling.proofs.Settles.{rows-fewer, rows-more, may-rows, cannot-settle, swept-rows, unsupported, found-within, none-within, fixed-kept, copied-rows}
 use Rattle.query_settling.proofs.Settles.{NoneFixed, fix-start, none-left, fix-found, fix-step, fix-end, PartsPut, parts-start, part-missing, part-put, parts-end}
 use borrow.Fn.Kinds.{In}
 use borrow.Fn.PlainCycle.{Measures, is, falls, and}
@@ -26,6 +26,7 @@ use Rattle.query_order.proofs.part_end.Reads as part-end-reads
 use Rattle.query_rows.proofs.copy_row.Reads as copy-row-reads
 use Rattle.query_rows.proofs.next_in_row.Reads as next-in-row-reads
 use Rattle.query_search.proofs.try_pattern.Reads as try-pattern-reads
+use Rattle.query_settling.proofs.may_settle.Reads as may-settle-reads
 use Rattle.query_settling.proofs.next_fixed.Reads as next-fixed-reads
 use Rattle.query_settling.proofs.step_limit.Reads as step-limit-reads
 use Rattle.query_settling.proofs.+settle+settle_each+settle_parts.{statement}
@@ -728,7 +729,57 @@ settle-parts-Inv-loop table map rows₀ k bindings rising depth ordered count j�
 abbrev settle-parts-μ-loop : settle-parts-lts.MeasureT-loop
 settle-parts-μ-loop table map rows₀ k bindings rising depth ordered count j₀ rows j = count - j
 
+settle-parts-may-settle-requires : (t : ℕ) → settle-parts-lts.Need-may-settle-requires (
+  may-settle-reads.Asked,
+  may-settle-reads.Learnt,
+  arrange-reads.Asked,
+  arrange-reads.Learnt,
+  part-end-reads.Asked,
+  part-end-reads.Learnt,
+  settle-below t,
+  settle.Post,
+) (settle-parts-at t) settle-parts.Post settle-parts-Inv-loop settle-parts-μ-loop
+settle-parts-may-settle-requires t c κs =
+    let start = c .before .before .before .before in
+    let f = start .pre .1 .0 in
+    (f .whole .right, f .sized)
+
+settle-parts-same-length : (t : ℕ) → settle-parts-lts.Need-same-length (
+  may-settle-reads.Asked,
+  may-settle-reads.Learnt,
+  arrange-reads.Asked,
+  arrange-reads.Learnt,
+  part-end-reads.Asked,
+  part-end-reads.Learnt,
+  settle-below t,
+  settle.Post,
+) (settle-parts-at t) settle-parts.Post settle-parts-Inv-loop settle-parts-μ-loop
+settle-parts-same-length t c =
+    c .before .before .before .may-settle .ensures .size
+
+settle-parts-returns : (t : ℕ) → settle-parts-lts.Need-returns (
+  may-settle-reads.Asked,
+  may-settle-reads.Learnt,
+  arrange-reads.Asked,
+  arrange-reads.Learnt,
+  part-end-reads.Asked,
+  part-end-reads.Learnt,
+  settle-below t,
+  settle.Post,
+) (settle-parts-at t) settle-parts.Post settle-parts-Inv-loop settle-parts-μ-loop
+settle-parts-returns t c =
+    let back3 = c .before .before .before in
+    let start = c .before .before .before .before .before .before .before .before in
+    let x = start .args in
+    let w = back3 .may-settle .ensures in (
+      cannot-settle (x .table .now) (x .map .now) _ _ (x .q) (x .k) (x .bindings) w (not-true _ (c .if1 .taken)),
+      may-rows (x .table .now)
+          (x .map .now) _ _ (x .q) (x .k) (x .bindings) w _,
+    )
+
 settle-parts-arrange-requires : (t : ℕ) → settle-parts-lts.Need-arrange-requires (
+  may-settle-reads.Asked,
+  may-settle-reads.Learnt,
   arrange-reads.Asked,
   arrange-reads.Learnt,
   part-end-reads.Asked,
@@ -737,11 +788,13 @@ settle-parts-arrange-requires : (t : ℕ) → settle-parts-lts.Need-arrange-requ
   settle.Post,
 ) (settle-parts-at t) settle-parts.Post settle-parts-Inv-loop settle-parts-μ-loop
 settle-parts-arrange-requires t c κs =
-    let start = c .before .before .before in
+    let start = c .before .before .before .before .before .before .before .before in
     let f = start .pre .1 .0 in
     few-patterns _ _ (f .whole .right)
 
 settle-parts-cast-count : (t : ℕ) → settle-parts-lts.Need-cast-count (
+  may-settle-reads.Asked,
+  may-settle-reads.Learnt,
   arrange-reads.Asked,
   arrange-reads.Learnt,
   part-end-reads.Asked,
@@ -750,11 +803,13 @@ settle-parts-cast-count : (t : ℕ) → settle-parts-lts.Need-cast-count (
   settle.Post,
 ) (settle-parts-at t) settle-parts.Post settle-parts-Inv-loop settle-parts-μ-loop
 settle-parts-cast-count t c =
-    let start = c .before .before .before .before .before in
+    let start = c .before .before .before .before .before .before .before .before .before .before in
     let f = start .pre .1 .0 in
     record { fits = omega (arith, few-patterns _ _ (arranged-right _ _ _ _ (c .before .arrange .ensures) (f .whole .right))) }
 
 settle-parts-loop-holds : (t : ℕ) → settle-parts-lts.Need-loop-holds (
+  may-settle-reads.Asked,
+  may-settle-reads.Learnt,
   arrange-reads.Asked,
   arrange-reads.Learnt,
   part-end-reads.Asked,
@@ -763,12 +818,14 @@ settle-parts-loop-holds : (t : ℕ) → settle-parts-lts.Need-loop-holds (
   settle.Post,
 ) (settle-parts-at t) settle-parts.Post settle-parts-Inv-loop settle-parts-μ-loop
 settle-parts-loop-holds t c =
-    let start = c .before .before .before .before .before in
+    let start = c .before .before .before .before .before .before .before .before .before .before in
     let x = start .args in
     let f = start .pre .1 .0 in
-    parts-start (x .table .now) (x .map .now) (x .rows .now) (x .q) _ (x .k) (x .bindings) (c .before .arrange .ensures) _ (f .counted)
+    parts-start (x .table .now) (x .map .now) _ (x .q) _ (x .k) (x .bindings) (c .before .arrange .ensures) _ (f .counted)
 
 settle-parts-part-end-requires : (t : ℕ) → settle-parts-lts.Need-part-end-requires (
+  may-settle-reads.Asked,
+  may-settle-reads.Learnt,
   arrange-reads.Asked,
   arrange-reads.Learnt,
   part-end-reads.Asked,
@@ -778,11 +835,13 @@ settle-parts-part-end-requires : (t : ℕ) → settle-parts-lts.Need-part-end-re
 ) (settle-parts-at t) settle-parts.Post settle-parts-Inv-loop settle-parts-μ-loop
 settle-parts-part-end-requires t c κs =
     let back3 = c .before .before .before in
-    let start = c .before .before .before .before .before .before .before in
+    let start = c .before .before .before .before .before .before .before .before .before .before .before .before in
     let f = start .pre .1 .0 in
     (c .loop-test .taken, few-patterns _ _ (arranged-right _ _ _ _ (back3 .arrange .ensures) (f .whole .right)))
 
 settle-parts-cast-part : (t : ℕ) → settle-parts-lts.Need-cast-part (
+  may-settle-reads.Asked,
+  may-settle-reads.Learnt,
   arrange-reads.Asked,
   arrange-reads.Learnt,
   part-end-reads.Asked,
@@ -792,11 +851,13 @@ settle-parts-cast-part : (t : ℕ) → settle-parts-lts.Need-cast-part (
 ) (settle-parts-at t) settle-parts.Post settle-parts-Inv-loop settle-parts-μ-loop
 settle-parts-cast-part t c =
     let back4 = c .before .before .before .before in
-    let start = c .before .before .before .before .before .before .before .before in
+    let start = c .before .before .before .before .before .before .before .before .before .before .before .before .before in
     let f = start .pre .1 .0 in
     record { fits = omega (arith, c .part-end .ensures .most, few-patterns _ _ (arranged-right _ _ _ _ (back4 .arrange .ensures) (f .whole .right))) }
 
 settle-parts-settle-requires : (t : ℕ) → settle-parts-lts.Need-settle-requires (
+  may-settle-reads.Asked,
+  may-settle-reads.Learnt,
   arrange-reads.Asked,
   arrange-reads.Learnt,
   part-end-reads.Asked,
@@ -807,18 +868,21 @@ settle-parts-settle-requires : (t : ℕ) → settle-parts-lts.Need-settle-requir
 settle-parts-settle-requires t c κs =
     let back3 = c .before .before .before in
     let back5 = back3 .before .before in
-    let start = c .before .before .before .before .before .before .before .before .before in
+    let back9 = back5 .before .before .before .before in
+    let start = c .before .before .before .before .before .before .before .before .before .before .before .before .before .before in
     let x = start .args in
     let f = start .pre .1 .0 in (
       settle-falls _ (start .pre .0),
       (
         needs-part (x .table .now) (x .map .now) (x .rows .now) (x .q) (x .k) (x .bindings) (x .rising) f
-            _ (back3 .loop .inv .rows .size) _ (back5 .arrange .ensures) _ _ (c .before .part-end .ensures),
+            _ (back3 .loop .inv .rows .size ∙ back9 .may-settle .ensures .size) _ (back5 .arrange .ensures) _ _ (c .before .part-end .ensures),
         start .pre .1 .1,
       ),
     )
 
-settle-parts-same-length : (t : ℕ) → settle-parts-lts.Need-same-length (
+settle-parts-same-length-2 : (t : ℕ) → settle-parts-lts.Need-same-length-2 (
+  may-settle-reads.Asked,
+  may-settle-reads.Learnt,
   arrange-reads.Asked,
   arrange-reads.Learnt,
   part-end-reads.Asked,
@@ -826,12 +890,15 @@ settle-parts-same-length : (t : ℕ) → settle-parts-lts.Need-same-length (
   settle-below t,
   settle.Post,
 ) (settle-parts-at t) settle-parts.Post settle-parts-Inv-loop settle-parts-μ-loop
-settle-parts-same-length t c =
+settle-parts-same-length-2 t c =
     let back3 = c .before .before .before in
     let back7 = back3 .before .before .before .before in
-    back3 .settle .ensures .1 .size ∙ back7 .loop .inv .rows .size
+    let back13 = back7 .before .before .before .before .before .before in
+    back3 .settle .ensures .1 .size ∙ back7 .loop .inv .rows .size ∙ back13 .may-settle .ensures .size
 
-settle-parts-returns : (t : ℕ) → settle-parts-lts.Need-returns (
+settle-parts-returns-2 : (t : ℕ) → settle-parts-lts.Need-returns-2 (
+  may-settle-reads.Asked,
+  may-settle-reads.Learnt,
   arrange-reads.Asked,
   arrange-reads.Learnt,
   part-end-reads.Asked,
@@ -839,24 +906,28 @@ settle-parts-returns : (t : ℕ) → settle-parts-lts.Need-returns (
   settle-below t,
   settle.Post,
 ) (settle-parts-at t) settle-parts.Post settle-parts-Inv-loop settle-parts-μ-loop
-settle-parts-returns t c =
+settle-parts-returns-2 t c =
     let back3 = c .before .before .before in
     let back5 = back3 .before .before in
     let back6 = back5 .before in
     let back7 = back6 .before in
     let back9 = back7 .before .before in
-    let start = c .before .before .before .before .before .before .before .before .before .before .before .before .before in
+    let back13 = back9 .before .before .before .before in
+    let start = c .before .before .before .before .before .before .before .before .before .before .before .before .before .before .before .before .before .before in
     let x = start .args in
     let f = start .pre .1 .0 in
     let i = back7 .loop .inv in
     let s = back3 .settle .ensures in (
-      part-missing (x .table .now) (x .map .now) (x .rows .now) (x .q) _ (x .k) (x .bindings) (back9 .arrange .ensures) _ (f .whole .right) _ _ i
+      part-missing (x .table .now) (x .map .now) _ (x .q) _ (x .k) (x .bindings) (back9 .arrange .ensures) _ (f .whole .right) _ _ i
           (back6 .loop-test .taken) _ (back5 .part-end .ensures)
-          (s .0) (not-true _ (c .if1 .taken)),
-      rows-more _ _ _ _ _ (omega arith) (i .rows) (s .1),
+          (s .0) (not-true _ (c .if2 .taken)),
+      rows-more _ _ _ _ _ (omega arith) (may-rows (x .table .now) (x .map .now) _ _ (x .q) (x .k) (x .bindings) (back13 .may-settle .ensures) _)
+          (rows-more _ _ _ _ _ (omega arith) (i .rows) (s .1)),
     )
 
 settle-parts-loop-less : (t : ℕ) → settle-parts-lts.Need-loop-less (
+  may-settle-reads.Asked,
+  may-settle-reads.Learnt,
   arrange-reads.Asked,
   arrange-reads.Learnt,
   part-end-reads.Asked,
@@ -868,6 +939,8 @@ settle-parts-loop-less t c =
     omega (arith, c .before .before .before .before .before .part-end .ensures .more)
 
 settle-parts-loop-again : (t : ℕ) → settle-parts-lts.Need-loop-again (
+  may-settle-reads.Asked,
+  may-settle-reads.Learnt,
   arrange-reads.Asked,
   arrange-reads.Learnt,
   part-end-reads.Asked,
@@ -881,15 +954,17 @@ settle-parts-loop-again t c =
     let back6 = back5 .before in
     let back7 = back6 .before in
     let back9 = back7 .before .before in
-    let start = c .before .before .before .before .before .before .before .before .before .before .before .before .before in
+    let start = c .before .before .before .before .before .before .before .before .before .before .before .before .before .before .before .before .before .before in
     let x = start .args in
     let f = start .pre .1 .0 in
     let s = back3 .settle .ensures in
-    part-put (x .table .now) (x .map .now) (x .rows .now) (x .q) _ (x .k) (x .bindings) (back9 .arrange .ensures) _ (f .whole .right) _ _
-    (back7 .loop .inv) (back6 .loop-test .taken) _ (back5 .part-end .ensures)
-    (s .0) _ (s .1) (not-false _ (c .if1 .left))
+    part-put (x .table .now) (x .map .now) _ (x .q) _ (x .k) (x .bindings) (back9 .arrange .ensures) _ (f .whole .right) _ _ (back7 .loop .inv)
+    (back6 .loop-test .taken) _ (back5 .part-end .ensures)
+    (s .0) _ (s .1) (not-false _ (c .if2 .left))
 
-settle-parts-same-length-2 : (t : ℕ) → settle-parts-lts.Need-same-length-2 (
+settle-parts-same-length-3 : (t : ℕ) → settle-parts-lts.Need-same-length-3 (
+  may-settle-reads.Asked,
+  may-settle-reads.Learnt,
   arrange-reads.Asked,
   arrange-reads.Learnt,
   part-end-reads.Asked,
@@ -897,10 +972,12 @@ settle-parts-same-length-2 : (t : ℕ) → settle-parts-lts.Need-same-length-2 (
   settle-below t,
   settle.Post,
 ) (settle-parts-at t) settle-parts.Post settle-parts-Inv-loop settle-parts-μ-loop
-settle-parts-same-length-2 t c =
-    c .before .loop .inv .rows .size
+settle-parts-same-length-3 t c =
+    c .before .loop .inv .rows .size ∙ c .before .before .before .before .before .before .before .may-settle .ensures .size
 
-settle-parts-returns-2 : (t : ℕ) → settle-parts-lts.Need-returns-2 (
+settle-parts-returns-3 : (t : ℕ) → settle-parts-lts.Need-returns-3 (
+  may-settle-reads.Asked,
+  may-settle-reads.Learnt,
   arrange-reads.Asked,
   arrange-reads.Learnt,
   part-end-reads.Asked,
@@ -908,13 +985,15 @@ settle-parts-returns-2 : (t : ℕ) → settle-parts-lts.Need-returns-2 (
   settle-below t,
   settle.Post,
 ) (settle-parts-at t) settle-parts.Post settle-parts-Inv-loop settle-parts-μ-loop
-settle-parts-returns-2 t c =
+settle-parts-returns-3 t c =
     let back3 = c .before .before .before in
-    let start = c .before .before .before .before .before .before .before in
+    let back7 = back3 .before .before .before .before in
+    let start = c .before .before .before .before .before .before .before .before .before .before .before .before in
     let x = start .args in (
-      parts-end (x .table .now) (x .map .now) (x .rows .now) (x .q) _ (x .k) (x .bindings) (back3 .arrange .ensures) _ _ _ (c .before .loop .inv)
+      parts-end (x .table .now) (x .map .now) _ (x .q) _ (x .k) (x .bindings) (back3 .arrange .ensures) _ _ _ (c .before .loop .inv)
           (c .loop-test .left),
-      c .before .loop .inv .rows,
+      rows-more _ _ _ _ _ (omega arith) (may-rows (x .table .now) (x .map .now) _ _ (x .q) (x .k) (x .bindings) (back7 .may-settle .ensures) _)
+          (c .before .loop .inv .rows),
     )
 
 pub +settle+settle-each+settle-parts-spec : {M : Type 1} → statement M
@@ -983,6 +1062,8 @@ pub +settle+settle-each+settle-parts-spec : {M : Type 1} → statement M
     (settle-each-same-length-3 t)
     (settle-each-returns-3 t))
     λ t. settle-parts-lts.spec (
+      may-settle-reads.Asked,
+      may-settle-reads.Learnt,
       arrange-reads.Asked,
       arrange-reads.Learnt,
       part-end-reads.Asked,
@@ -994,15 +1075,18 @@ pub +settle+settle-each+settle-parts-spec : {M : Type 1} → statement M
     settle-parts.Post
     settle-parts-Inv-loop
     settle-parts-μ-loop
+    (settle-parts-may-settle-requires t)
+    (settle-parts-same-length t)
+    (settle-parts-returns t)
     (settle-parts-arrange-requires t)
     (settle-parts-cast-count t)
     (settle-parts-loop-holds t)
     (settle-parts-part-end-requires t)
     (settle-parts-cast-part t)
     (settle-parts-settle-requires t)
-    (settle-parts-same-length t)
-    (settle-parts-returns t)
-    (settle-parts-loop-less t)
-    (settle-parts-loop-again t)
     (settle-parts-same-length-2 t)
     (settle-parts-returns-2 t)
+    (settle-parts-loop-less t)
+    (settle-parts-loop-again t)
+    (settle-parts-same-length-3 t)
+    (settle-parts-returns-3 t)
