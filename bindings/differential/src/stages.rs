@@ -159,7 +159,7 @@ fn closings(patterns: &[Pattern], bindings: &Bindings, out: usize) -> (usize, us
 }
 
 /// The variable without which the part with most cycles has fewest, if there is a cycle.
-fn cut_variable(patterns: &[Pattern], bindings: &Bindings) -> Option<usize> {
+fn variable_to_fix(patterns: &[Pattern], bindings: &Bindings) -> Option<usize> {
     let left = |v: usize| closings(patterns, bindings, v);
     let best = (0..8).filter(|&v| bindings[v] == ABSENT).min_by_key(|&v| left(v))?;
     Some(best).filter(|&v| left(v) < left(8))
@@ -271,7 +271,7 @@ impl Model<'_> {
             return false;
         };
         self.reach(Stage::Within);
-        let fixed = cut_variable(patterns, &bindings).filter(|_| depth < 3);
+        let fixed = variable_to_fix(patterns, &bindings).filter(|_| depth < 3);
         let nodes = |v: usize| rows[v].iter().map(|word| word.count_ones() as usize).sum::<usize>();
         let mut steps = fixed.map(|v| 4_096 + patterns.len() * self.triples.len() * (16 + nodes(v) / 4));
         let kept = fixed.map(|v| rows[v]);

@@ -1,6 +1,7 @@
 -- Lists: tests over all elements, all results of a function, the values of a function at 0, 1, ..
 -- Assumes nothing.
-use Prim.Native.Nat.{ℕ, zero, suc, _-_}
+use Prim.Native.Nat.{ℕ, zero, suc, _-_, _<_, _≤_}
+use mathlib.Core.Path.{_≡_}
 use mathlib.Core.Bool.{Bool, true, false, cond, _&&_, _||_}
 use mathlib.Core.List.{List, [], _∷_, _++_}
 use lib.Dec.{eqb}
@@ -39,3 +40,10 @@ zeros n = replicate n 0
 -- a lent list of that length that begins with xs: 01, "the rest of a result list is zero"
 unfoldable pub padded : ℕ → List ℕ → List ℕ
 padded n xs = xs ++ zeros (n - length xs)
+
+-- r is the first number from a to before b at which the test holds, or b
+pub record First (test : ℕ → Bool) (a b r : ℕ) : Type 0 where
+  pub low : a ≤ r
+  pub high : r ≤ b
+  pub others : (i : ℕ) → a ≤ i → i < r → test i ≡ false
+  pub holds : r < b → test r ≡ true

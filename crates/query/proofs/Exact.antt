@@ -151,7 +151,14 @@ below : (v : Vocabulary) (n c : ℕ) → wrongEnd v n c ≡ false → c < n
 unfolding wrongEnd
 below v n c e = leb-false n c (neither-left (leb n c) _ e)
 
--- what check 3 gives: every node is below N, and none is the absent mark
+-- where every node is below N, none is the absent mark
+pub nodes-present : (ts : List Triple) (n : ℕ) → ((x : ℕ) → NodeOf ts x → x < n) → n ≤ 65536 → Present ts
+nodes-present ts n nodes small t m = (
+  λ z. omega (arith, nodes (t .subject) (record { by = t; held = m; side = source; is-end = refl })),
+  λ z. omega (arith, nodes (t .object) (record { by = t; held = m; side = target; is-end = refl })),
+)
+
+-- what check 3 gives: every node is below N
 module _ (v : Vocabulary) (n : ℕ) (ts : List Triple) (right : wrongCodes v n ts ≡ false) where
   ends-below : (t : Triple) → Mem t ts → (t .subject < n) × (t .object < n)
   unfolding wrongCodes wrongTriple
@@ -168,9 +175,6 @@ module _ (v : Vocabulary) (n : ℕ) (ts : List Triple) (right : wrongCodes v n t
       go source e = subst (λ (y : ℕ). y < n) e (ends-below (h .by) (h .held) .0)
       go target e = subst (λ (y : ℕ). y < n) e (ends-below (h .by) (h .held) .1)
 
-  pub ends-present : n ≤ 65536 → Present ts
-  ends-present small t m = let w = ends-below t m in (λ z. omega (arith, w .0), λ z. omega (arith, w .1))
-
 module _ (v : Vocabulary) (table map : List ℕ) (q : Query) (a : Passed v table map q) where
   ts : List Triple
   ts = triples table
@@ -185,7 +189,7 @@ module _ (v : Vocabulary) (table map : List ℕ) (q : Query) (a : Passed v table
 
   maybe-choice : answer ts map q (a .query) ≡ true → Choice ts map q
   unfolding ts
-  maybe-choice y = found ts map q (a .query) (ends-present v (length map) ts (a .codes) small) y
+  maybe-choice y = found ts map q (a .query) (nodes-present ts (length map) (node-below v (length map) ts (a .codes)) small) y
 
   choice-maybe : Choice ts map q → answer ts map q (a .query) ≡ true
   choice-maybe c = finds ts map q (a .query) (c .chosen, record { agrees = agrees-unbound (c .chosen); puts = λ j l m. c .puts j m })

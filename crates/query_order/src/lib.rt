@@ -335,7 +335,7 @@ fn cycles(q: Query, k: usize, bindings: [u32; 8], out: u32) -> u32
 
 // The variable to fix: the one without which the worst part has fewest cycles, and of those the one without which fewest are left in
 // all. 8 if there is no cycle.
-pub fn cut_variable(q: Query, k: usize, bindings: [u32; 8]) -> u32
+pub fn variable_to_fix(q: Query, k: usize, bindings: [u32; 8]) -> u32
     requires { ⌜ q .count ≤ 8 ⌝ }
     ensures { λ r. ⌜ FreeVariable bindings r ⌝ }
 {

@@ -8,9 +8,10 @@ use mathlib.Core.Logic.{_⊎_, inl, inr, ⊎-elim}
 use mathlib.Core.List.{List}
 use lib.Dec.{eqb}
 use lib.ListN.{getD, set}
-use borrow.Author.Tests.{eqb-true, eq-eqb, ne-eqb}
+use borrow.Author.Tests.{eqb-true, eqb-false, eq-eqb, ne-eqb}
 use Rattle.model.specs.declared.Triple.{Triple}
 use Rattle.model.specs.Codes.{absent}
+use Rattle.model.specs.Lists.{First}
 use Rattle.model.specs.Partition.{label}
 use Rattle.model.specs.Triples.{triple, same}
 use Rattle.theory.proofs.Tests.{and-left, and-right, and-true, and-both, bool-cases, not-true-false}
@@ -25,7 +26,7 @@ use Rattle.query.specs.declared.Pattern.{Pattern}
 use Rattle.query_parts.specs.declared.Wanted.{Wanted}
 use Rattle.query_parts.specs.declared.Wanted.the-variants.{Any, Node}
 use Rattle.query.specs.Ask.{fit, fitEnd, fitTriple}
-use Rattle.query_parts.specs.Parts.{FirstWith, FirstOf, FirstSame, FirstFit, front, wantedOf}
+use Rattle.query_parts.specs.Parts.{withProperty, FirstOf, FirstSame, FirstFit, front, wantedOf}
 
 -- ── the node that an end must have ──
 module _ (map : List ℕ) (e : End) (b : List ℕ) where
@@ -153,8 +154,14 @@ module _ (f : ℕ → Triple) (map : List ℕ) (p : Pattern) (bindings : List �
       go (inl e) = rw (e, wanted-only map (p .subject) bindings x (t .subject) h (λ q. n q (eqb-true _ _ e)))
       go (inr e) = rw e
 
-  pub fit-with : FirstWith f (p .property) a b r → FirstFit f map p bindings a b r
-  fit-with w = record { low = w .low; high = w .high; others = λ i x y. other-property (f i) (w .others i x y); has = w .has }
+  pub fit-with : First (withProperty f (p .property)) a b r → FirstFit f map p bindings a b r
+  unfolding withProperty
+  fit-with w = record {
+    low = w .low;
+    high = w .high;
+    others = λ i x y. other-property (f i) (eqb-false _ _ (w .others i x y));
+    has = λ l. eqb-true _ _ (w .holds l);
+  }
 
   pub fit-of : (x : ℕ) → Node x ≡ wantedOf map (p .subject) bindings → FirstOf f x (p .property) a b r → FirstFit f map p bindings a b r
   fit-of x h w = record { low = w .low; high = w .high; others = λ i y z. other-node x h (f i) (w .others i y z); has = w .has }

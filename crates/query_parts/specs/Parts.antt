@@ -17,12 +17,9 @@ use Rattle.query_parts.specs.declared.Wanted.{Wanted}
 use Rattle.query_parts.specs.declared.Wanted.the-variants.{Any, Node}
 use Rattle.query.specs.Ask.{fitTriple}
 
--- r is the first place from a to before b whose triple has the property p, or b
-pub record FirstWith (f : ℕ → Triple) (p a b r : ℕ) : Type 0 where
-  pub low : a ≤ r
-  pub high : r ≤ b
-  pub others : (i : ℕ) → a ≤ i → i < r → f i .property ≡ p → ⊥
-  pub has : r < b → f r .property ≡ p
+-- the triple at place i has the property p
+unfoldable pub withProperty : (ℕ → Triple) → ℕ → ℕ → Bool
+withProperty f p i = eqb (f i .property) p
 
 -- t has this subject and property
 unfoldable pub front : ℕ → ℕ → Triple → Bool

@@ -4,9 +4,10 @@ ghost use mathlib.Core.Path.{_≡_};
 ghost use mathlib.Core.Bool.{false};
 ghost use Prim.Native.Nat.{_+_, _*_, _<_, _≤_};
 ghost use lib.ListN.{length};
+ghost use Rattle.model.specs.Lists.{First};
 ghost use Rattle.lists.specs.Flat.{at, RisingPart};
 ghost use Rattle.query.specs.Ask.{fitEnd, wrongPatternEnd, wrongPattern, wrongQuery, retired};
-ghost use Rattle.query_parts.specs.Parts.{FirstWith, FirstOf, FirstSame, FirstFit, front, wantedOf, InOrder};
+ghost use Rattle.query_parts.specs.Parts.{withProperty, FirstOf, FirstSame, FirstFit, front, wantedOf, InOrder};
 use lists::Code;
 use lists::lower_bound;
 use lists::same;
@@ -126,7 +127,7 @@ pub fn fit_end(map: &[u32], e: End, x: u32, bindings: [u32; 8]) -> Fit
 // The first place from..to whose triple has property p, or `to`.
 fn first_with(table: &[u32], p: u32, from: usize, to: usize) -> usize
     requires { ⌜ (from ≤ to) × (3 * to ≤ length (now table)) ⌝ }
-    ensures { λ r. ⌜ FirstWith (at (now (table .entry))) p from to r ⌝ }
+    ensures { λ r. ⌜ First (withProperty (at (now (table .entry))) p) from to r ⌝ }
 {
     let mut i = from;
     while i < to {
@@ -191,7 +192,7 @@ fn first_of(table: &[u32], subject: u32, property: u32, from: usize, to: usize) 
 // The first place from..to whose triple has property p, or `to`, with what the scan counts for.
 fn scanned(table: &[u32], p: u32, from: usize, to: usize) -> Reached
     requires { ⌜ (from ≤ to) × (3 * to ≤ length (now table)) ⌝ }
-    ensures { λ r. ⌜ FirstWith (at (now (table .entry))) p from to (r .place) ⌝ }
+    ensures { λ r. ⌜ First (withProperty (at (now (table .entry))) p) from to (r .place) ⌝ }
 {
     let i = first_with(table, p, from, to);
     Reached {

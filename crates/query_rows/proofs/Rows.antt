@@ -1,10 +1,10 @@
--- Nodes put in a row, a row of equal words, a row copied, the next node of a row.
+-- Nodes put in a row, a row of equal words, a row copied.
 -- Assumes nothing.
 use Prim.Native.Nat.{ℕ, _+_, _*_, _/_, _%_, _^_, _<_, _≤_}
 use native.Mathlib.Nat.{eq-or-lt-of-le}
 use native.Mathlib.Omega.{arith}
 use mathlib.Core.Path.{_≡_, refl, sym, ap, _∙_}
-use mathlib.Core.Bool.{Bool, true, false}
+use mathlib.Core.Bool.{true}
 use mathlib.Core.List.{List}
 use mathlib.Core.Logic.{⊎-elim}
 use lib.Dec.{eqb}
@@ -13,7 +13,7 @@ use lib.Seq.{getD-set-same, getD-set-other}
 use borrow.Author.Tests.{lt-ltb, le-ltb}
 use Rattle.query.specs.declared.End.{End}
 use Rattle.query.specs.declared.End.the-variants.{Var, Code}
-use Rattle.query_rows.specs.Rows.{width, bit, inRow, allows, Sized, PutIn, RowSet, RowCopied, NextInRow}
+use Rattle.query_rows.specs.Rows.{width, bit, inRow, allows, Sized, PutIn, RowSet, RowCopied}
 use Rattle.query_rows.proofs.Bits.{with-bit, bit-there, bit-kept}
 use Rattle.query_rows.proofs.Places.{word-of, shift-of, bit-below, rows-apart, row-within}
 
@@ -147,25 +147,3 @@ pub word-copied : (d d′ : List ℕ) (u v n : ℕ) → (u ≡ v → ⊥) → n 
     → getD d′ (v * (length d / 13) + n) 0 ≡ rowWords d v n
 word-copied d d′ u v n o l h = h .rest _ (λ k.
     let r : u * (length d / 13) + length d / 13 ≤ v * (length d / 13) + n = rows-apart v u _ _ (λ q. o (sym q)) l k in omega arith)
-
--- ── the next node of a row ──
-module _ (d : List ℕ) (v a b : ℕ) where
-  pub next-start : a ≤ b → NextInRow d v a b a
-  next-start l = record { low = omega arith; high = l; others = λ x m n. let o : ⊥ = omega arith in absurd o }
-
-  pub next-step : (x : ℕ) → NextInRow d v a b x → x < b → {r : Bool} → r ≡ inRow d v x → r ≡ false → NextInRow d v a b (x + 1)
-  next-step x h l e n = record {
-    low = omega (arith, h .low);
-    high = omega arith;
-    others = λ y m o. ⊎-elim {C = inRow d v y ≡ false}
-        (λ (z : y ≡ x). ap (inRow d v) z ∙ sym e ∙ n)
-        (λ (z : y < x). h .others y m z)
-        (eq-or-lt-of-le {n = y} {m = x} (omega arith));
-  }
-
-  pub next-end : (x : ℕ) → NextInRow d v a b x → b ≤ x → NextInRow d v a b b
-  next-end x h l = record {
-    low = omega (arith, h .low, h .high);
-    high = omega arith;
-    others = λ y m o. h .others y m (omega arith);
-  }

@@ -2,7 +2,7 @@
 -- Assumes nothing.
 use Prim.Native.Nat.{ℕ, _+_, _*_, _/_, _%_, _^_, _<_, _≤_}
 use mathlib.Core.Path.{_≡_}
-use mathlib.Core.Bool.{Bool, true, false, cond}
+use mathlib.Core.Bool.{Bool, true, cond}
 use mathlib.Core.List.{List}
 use lib.Dec.{eqb, ltb}
 use lib.ListN.{length, getD}
@@ -52,9 +52,3 @@ pub record RowCopied (d d′ : List ℕ) (u v : ℕ) : Type 0 where
   pub size : length d′ ≡ length d
   pub row : (x : ℕ) → inRow d′ u x ≡ inRow d v x
   pub others : (w x : ℕ) → (w ≡ u → ⊥) → inRow d′ w x ≡ inRow d w x
-
--- r is from a to b, and row v holds no node from a to before r
-pub record NextInRow (d : List ℕ) (v a b r : ℕ) : Type 0 where
-  pub low : a ≤ r
-  pub high : r ≤ b
-  pub others : (x : ℕ) → a ≤ x → x < r → inRow d v x ≡ false

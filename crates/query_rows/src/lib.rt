@@ -3,7 +3,8 @@
 ghost use mathlib.Core.Path.{_≡_};
 ghost use Prim.Native.Nat.{_+_, _*_, _%_, _<_, _≤_};
 ghost use lib.ListN.{length};
-ghost use Rattle.query_rows.specs.Rows.{bit, inRow, allows, Sized, PutIn, RowSet, RowCopied, NextInRow};
+ghost use Rattle.model.specs.Lists.{First};
+ghost use Rattle.query_rows.specs.Rows.{bit, inRow, allows, Sized, PutIn, RowSet, RowCopied};
 use query::End;
 
 // Bit i; false past the words.
@@ -132,7 +133,7 @@ pub fn nodes_in(rows: &[u64], v: usize) -> usize
 // The first node from..to in row v, or `to`.
 pub fn next_in_row(rows: &[u64], v: usize, from: usize, to: usize) -> usize
     requires { ⌜ Sized (now rows) × (v < 13) × (from ≤ to) × (to ≤ 65536) ⌝ }
-    ensures { λ r. ⌜ NextInRow (now (rows .entry)) v from to r ⌝ }
+    ensures { λ r. ⌜ First (inRow (now (rows .entry)) v) from to r ⌝ }
 {
     let mut x = from;
     while x < to {

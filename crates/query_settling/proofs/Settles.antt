@@ -9,15 +9,15 @@ use mathlib.Core.List.{List}
 use mathlib.Core.Logic.{⊎-elim}
 use lib.ListN.{length, getD, set, length-set, length-replicate}
 use Rattle.model.specs.Codes.{absent}
+use Rattle.model.specs.Lists.{First}
 use Rattle.model.specs.Triples.{triples}
-use Rattle.model.specs.Cliques.{source, target}
 use Rattle.lists.proofs.Compare.{Cmp, lt, eq, gt, cmp}
 use Rattle.query.specs.declared.Query.{Query}
 use Rattle.query.specs.Ask.{unbound, search, wrongQuery}
 use Rattle.query.specs.Choices.{Puts, CanPut, CodesBelow, Present}
 use Rattle.query.proofs.Steps.{some-pattern, set-agrees, unset-agrees}
-use Rattle.query.proofs.Exact.{search-exact}
-use Rattle.query_rows.specs.Rows.{Within, RowCopied, NextInRow}
+use Rattle.query.proofs.Exact.{search-exact, nodes-present}
+use Rattle.query_rows.specs.Rows.{inRow, Within, RowCopied}
 use Rattle.query_rows.proofs.Rows.{sized-as, allows-row, allows-short}
 use Rattle.query_domains.specs.Domains.{SweptAll}
 use Rattle.query_order.specs.Order.{firstPatterns, Arranged, Apart, PartEnd}
@@ -27,11 +27,8 @@ use Rattle.query_search.specs.Search.{Sure, Sought}
 use Rattle.query_settling.specs.Settling.{Searchable, SettleNeeds, Settled, RowsKept, KeptFor, MaySettle}
 
 -- ── what the search needs ──
-pub nodes-present : (table map : List ℕ) (q : Query) (rising : Bool) → Searchable table map q rising → Present (triples table)
-nodes-present table map q rising f t m = (
-  λ e. omega (arith, f .nodes (t .subject) (record { by = t; held = m; side = source; is-end = refl }), f .small),
-  λ e. omega (arith, f .nodes (t .object) (record { by = t; held = m; side = target; is-end = refl }), f .small),
-)
+pub ends-present : (table map : List ℕ) (q : Query) (rising : Bool) → Searchable table map q rising → Present (triples table)
+ends-present table map q rising f = nodes-present (triples table) (length map) (f .nodes) (f .small)
 
 module _ (table map d : List ℕ) (q : Query) (k : ℕ) (b : List ℕ) (rising : Bool) (f : SettleNeeds table map d q k b rising) where
   pub needs-rows : (d′ : List ℕ) → length d′ ≡ length d → SettleNeeds table map d′ q k b rising
@@ -144,7 +141,7 @@ module _ (table map d₀ : List ℕ) (q : Query) (k : ℕ) (b : List ℕ) (u fix
     pub fix-end : length map ≤ x → Settled table map q k b false
     fix-end l = settled-none table map q k b (λ σ p m. h .none σ p m (omega (arith, m fixed few)))
 
-    module _ (l : 10 ≤ u) (kept : KeptFor table map d₀ q k b u fixed) (y : ℕ) (w : NextInRow d u x (length map) y) where
+    module _ (l : 10 ≤ u) (kept : KeptFor table map d₀ q k b u fixed) (y : ℕ) (w : First (inRow d u) x (length map) y) where
       -- no choice has a node before y
       skip : (σ : ℕ → ℕ) → Puts (triples table) map q k b σ → CodesBelow (length map) σ → σ fixed < y → ⊥
       skip σ p m o = go (cmp (σ fixed) x)
@@ -243,12 +240,12 @@ module _ (table map : List ℕ) (q : Query) (rising : Bool) (f : Searchable tabl
 
   module _ (d : List ℕ) (short : length d < 13) (limited : Bool) (s₀ s : ℕ) {r : Bool} (t : Sought table map d q 0 unbound limited s₀ s r) where
     pub quick-found : r ≡ true → Exactly true
-    quick-found e = search-exact (triples table) map q (f .right) (nodes-present table map q rising f) (λ z. t .sound e) (λ σ p n. refl)
+    quick-found e = search-exact (triples table) map q (f .right) (ends-present table map q rising f) (λ z. t .sound e) (λ σ p n. refl)
 
     pub quick-none : r ≡ false → Sure limited s → Exactly false
-    quick-none e sure = search-exact (triples table) map q (f .right) (nodes-present table map q rising f) (λ z. absurd (true≢false (sym z)))
+    quick-none e sure = search-exact (triples table) map q (f .right) (ends-present table map q rising f) (λ z. absurd (true≢false (sym z)))
         (λ σ p n. absurd (true≢false (sym (t .complete sure σ p (within-short d short σ)) ∙ e)))
 
   pub settled-exact : {r : Bool} → Settled table map q 0 unbound r → Exactly r
-  settled-exact s = search-exact (triples table) map q (f .right) (nodes-present table map q rising f) (s .sound)
+  settled-exact s = search-exact (triples table) map q (f .right) (ends-present table map q rising f) (s .sound)
       (λ σ p n. s .complete σ p (λ v l. f .nodes (σ v) (n v l)))

@@ -14,8 +14,8 @@ use lists::Code;
 use query::Query;
 use query_domains::sweep_all;
 use query_order::arrange;
-use query_order::cut_variable;
 use query_order::part_end;
+use query_order::variable_to_fix;
 use query_rows::copy_row;
 use query_rows::next_in_row;
 use query_rows::nodes_in;
@@ -38,7 +38,7 @@ fn next_fixed(q: Query, k: usize, bindings: [u32; 8], depth: usize) -> u32
     ensures { λ r. ⌜ NextFixed bindings depth r ⌝ }
 {
     if depth < 3 {
-        return cut_variable(q, k, bindings);
+        return variable_to_fix(q, k, bindings);
     }
     8
 }

@@ -1,11 +1,12 @@
--- A test over the values of a function at a run of numbers, and the loop that makes it.
+-- A test over the values of a function at a run of numbers, and the loop that makes it; the loop that looks for the first.
 -- Assumes nothing.
 use Prim.Native.Nat.{ℕ, zero, suc, _+_, _<_, _≤_}
 use native.Mathlib.Omega.{arith}
-use native.Mathlib.Nat.{zero-add, add-zero, suc-add, add-suc}
+use native.Mathlib.Nat.{zero-add, add-zero, suc-add, add-suc, eq-or-lt-of-le}
 use mathlib.Core.Path.{_≡_, refl, sym, ap, _∙_}
 use mathlib.Core.Bool.{Bool, true, false, _||_, or-assoc, or-false}
-use Rattle.model.specs.Lists.{any, tabulate}
+use mathlib.Core.Logic.{⊎-elim}
+use Rattle.model.specs.Lists.{any, tabulate, First}
 use Rattle.theory.proofs.Lists.{any-found, any-holds, any-none, none-any, mem-tabulate, tabulate-mem}
 
 module _ {A : Type 0} (f : A → Bool) (g : ℕ → A) where
@@ -64,3 +65,33 @@ module _ {A : Type 0} (f : A → Bool) (g : ℕ → A) where
 
   pub none-found : (n i : ℕ) → NoneYet n i → n ≤ i → false ≡ any f (tabulate g 0 n)
   none-found n i h l = let e : n ≡ i = omega (arith, h .within) in sym (ap (λ (m : ℕ). any f (tabulate g 0 m)) e ∙ h .none)
+
+-- ── a loop that looks for the first number where a test holds ──
+module _ (test : ℕ → Bool) (a b : ℕ) where
+  -- none from a to before i is one
+  pub record NoneFrom (i : ℕ) : Type 0 where
+    pub low : a ≤ i
+    pub high : i ≤ b
+    pub others : (j : ℕ) → a ≤ j → j < i → test j ≡ false
+
+  pub first-start : a ≤ b → NoneFrom a
+  first-start l = record { low = omega arith; high = l; others = λ j x y. let o : ⊥ = omega arith in absurd o }
+
+  module _ (i : ℕ) (h : NoneFrom i) where
+    pub first-step : i < b → test i ≡ false → NoneFrom (i + 1)
+    first-step l e = record {
+      low = omega (arith, h .low);
+      high = omega arith;
+      others = λ j x y. ⊎-elim {C = test j ≡ false} (λ (z : j ≡ i). ap test z ∙ e) (λ z. h .others j x z) (eq-or-lt-of-le {n = j} {m = i} (omega arith));
+    }
+
+    pub first-found : test i ≡ true → First test a b i
+    first-found e = record { low = h .low; high = h .high; others = h .others; holds = λ z. e }
+
+    pub first-end : b ≤ i → First test a b b
+    first-end l = record {
+      low = omega (arith, h .low, h .high);
+      high = omega arith;
+      others = λ j x y. h .others j x (omega arith);
+      holds = λ z. absurd (omega arith);
+    }

@@ -6,7 +6,7 @@ use borrow.Author.Tests.{not-false, not-true, ltb-true}
 use Rattle.query.proofs.Steps.{few-patterns}
 use Rattle.query_rows.proofs.Rows.{sized-as}
 use Rattle.query_order.proofs.Arranged.{arranged-right}
-use Rattle.query_settling.proofs.Settles.{nodes-present, needs-rows, needs-fixed, needs-part, settle-falls, each-falls, parts-fall, steps-left}
+use Rattle.query_settling.proofs.Settles.{ends-present, needs-rows, needs-fixed, needs-part, settle-falls, each-falls, parts-fall, steps-left}
 use Rattle.query_settling.proofs.Settles.{rows-fewer, rows-more, may-rows, cannot-settle, swept-rows, unsupported, found-within, none-within, fixed-kept, copied-rows}
 use Rattle.query_settling.proofs.Settles.{NoneFixed, fix-start, none-left, fix-found, fix-step, fix-end, PartsPut, parts-start, part-missing, part-put, parts-end}
 use borrow.Fn.Kinds.{In}
@@ -226,7 +226,7 @@ settle-try-pattern-requires t c κs =
       f .whole .right,
       f .counted,
       f .whole .order,
-      nodes-present (x .table .now) (x .map .now) (x .q) (x .rising) (f .whole),
+      ends-present (x .table .now) (x .map .now) (x .q) (x .rising) (f .whole),
       sized-as _ _ (back9 .sweep-all .ensures .size) (f .sized) .1,
       f .bound,
     )

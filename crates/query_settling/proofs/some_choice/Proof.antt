@@ -3,7 +3,7 @@ use mathlib.Core.Path.{refl, sym, _∙_}
 use mathlib.Core.Bool.{true≢false}
 use borrow.Author.Tests.{not-true}
 use Rattle.query.proofs.Steps.{some-pattern, few-patterns}
-use Rattle.query_settling.proofs.Settles.{quick-most, nodes-present, quick-found, quick-none, steps-left, needs-whole, settled-exact}
+use Rattle.query_settling.proofs.Settles.{quick-most, ends-present, quick-found, quick-none, steps-left, needs-whole, settled-exact}
 use borrow.Author.Needs.{needs}
 use Rattle.query_settling.proofs.some_choice.Statement.{statement}
 use Rattle.query_settling.proofs.some_choice.Tie as tie
@@ -40,7 +40,7 @@ try-pattern-requires c κs =
       start .pre .right,
       some-pattern _ (x .q) (start .pre .right),
       start .pre .order,
-      nodes-present (x .table .now) (x .map .now) (x .q) (x .rising)
+      ends-present (x .table .now) (x .map .now) (x .q) (x .rising)
           (start .pre),
       omega arith,
       refl,

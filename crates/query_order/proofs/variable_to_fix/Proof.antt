@@ -2,8 +2,8 @@ use Prim.Native.Nat.{_-_}
 use mathlib.Core.Logic.{⊎-elim}
 use Rattle.query_order.proofs.Best.{CutTo, cut-start, cut-same, cut-here}
 use borrow.Author.Needs.{needs}
-use Rattle.query_order.proofs.cut_variable.Statement.{statement}
-use Rattle.query_order.proofs.cut_variable.Tie as tie
+use Rattle.query_order.proofs.variable_to_fix.Statement.{statement}
+use Rattle.query_order.proofs.variable_to_fix.Tie as tie
 
 abbrev Inv-loop : tie.InvT-loop
 Inv-loop q k bindings best₀ fewest₀ v₀ best fewest v = CutTo bindings v best
@@ -50,8 +50,8 @@ loop-again c =
 returns : tie.Need-returns Inv-loop μ-loop
 returns c = c .before .loop .inv .free
 
-pub cut-variable-spec : {M : Type 1} → statement M
-cut-variable-spec =
+pub variable-to-fix-spec : {M : Type 1} → statement M
+variable-to-fix-spec =
     tie.close
     (tie.spec
     Inv-loop
