@@ -45,12 +45,13 @@
  * Answers
  *   Each call returns WS_OK or the number of a refusal. The checks run in the order that stands at the call, each over all
  *   its input before the next.
- *   After 1, 10, 2, 3, 4, 6, 12 and 7 nothing that was lent is altered.
+ *   After 1, 10, 2, 3, 4, 6, 12 and 7 nothing that was lent is altered, but for *place.
  *   Each call that takes words refuses a list of other than WS_WORDS_NUMBERS numbers with 1, before all else, and then wrong
  *   words with 10, straight after 1.
  *   After 5 and 8 the lists are zero, as said at each call; the words of ws_read are 0 to 4.
  *   A number that is lent to take an answer (count, found, maybe, is_new) is altered by accepted calls only; ws_read says
- *   what it does with its numbers.
+ *   what it does with its numbers. Only the place of ws_look_up and ws_feed is written by every call: it is 0 after each
+ *   refusal, also after 1 for words that are not five.
  *   Result triples are in rising order of subject, property, object, without repeats; the rest of the list is zero.
  */
 #ifndef WEAK_SUMMARY_H
@@ -195,14 +196,17 @@ uint32_t ws_summarise_strong(const uint32_t *words, size_t words_length, const u
                              uint32_t *map, size_t map_length, uint32_t *work, size_t work_length, size_t *count);
 
 /*
- * Look up: whether a triple is in a list, in any order.
+ * Look up: whether a triple is in a list, in any order, and where it belongs.
  *   *found  1 if it is, else 0.
+ *   *place  how many triples of the list come before it; 0 after a refusal. The order is that of subject, property, object.
+ *           Each repeat of a triple before it counts, the triple itself and its repeats do not. It is given whether the
+ *           triple is in the list or not; in a rising list without repeats it is where the triple stands or would stand.
  * Refusals
  *   1  the list not a multiple of 3, or over WS_MAX_TRIPLES triples
- * It alters nothing.
+ * After it nothing is altered but *place.
  */
 uint32_t ws_look_up(const uint32_t *list, size_t list_length, uint32_t subject, uint32_t property, uint32_t object,
-                    uint32_t *found);
+                    uint32_t *found, size_t *place);
 
 /*
  * Ask: whether some choice of nodes for the variables puts every pattern of the query in the table.
@@ -259,25 +263,29 @@ uint32_t ws_open(const uint32_t *words, size_t words_length, const uint8_t *rost
  *   work         2 * N numbers with any content; zero after an accepted feed, new or not.
  *   *held        the number of triples held.
  *   *summarised  the number of triples of their summary.
- *   *is_new      1 if the triple was new, 0 if it was held already; then the work list is zero and all else stays as it is.
+ *   *is_new      1 if the triple was new, 0 if it was held already; then the work list is zero, and the other lists and both
+ *                counts stay as they are.
+ *   *place       how many of the triples held before the call come before it; 0 after a refusal. After
+ *                an accepted feed, new or not, the triple stands there in triples.
  * Refusals, in order
  *   1  the words not five; N out of range; map, work, triples or summary of a wrong length
  *   10, 2
  *   3  of the fed triple
  *   4  of the fed triple
  *   7  the triple is new and every slot holds one; a triple that is held passes
- * They alter nothing, not even the work list.
+ * They alter nothing but *place, not even the work list.
  * If lists or counts were altered between calls, or the words or the roster are others than at opening, the call still ends
- * safely, and this holds: refusals 1, 10, 2, 3 and 4 are as above; after 7 nothing is altered; after "not new" the work list
- * is zero and all else stays as it is; after "new" the work list is zero, *held is one more, and *held and *summarised are at
- * most the slots. Open are which of "new", "not new" and 7 is answered and, after "new", what triples, summary and map hold
- * and what *summarised is. Counts that were altered stay so after 7 and "not new": compare them with the slots before they
- * are used as lengths.
+ * safely, and this holds: refusals 1, 10, 2, 3 and 4 are as above; after 7 nothing is altered but *place, which is 0; after
+ * "not new" the work list is zero, and the other lists and both counts stay as they are; after "new" the work list is zero,
+ * *held is one more, and *held and *summarised are at most the slots; *place is at most what *held was before the call.
+ * Open are which of "new", "not new" and 7 is answered, what *place is after "new" and "not new" and, after "new", what
+ * triples, summary and map hold and what *summarised is. Counts that were altered stay so after 7 and "not new": compare
+ * them with the slots before they are used as lengths.
  */
 uint32_t ws_feed(const uint32_t *words, size_t words_length, const uint8_t *roster, size_t roster_length,
                  uint32_t *triples, size_t triples_length, uint32_t *summary, size_t summary_length, uint32_t *map,
                  size_t map_length, uint32_t *work, size_t work_length, uint32_t subject, uint32_t property,
-                 uint32_t object, size_t *held, size_t *summarised, uint32_t *is_new);
+                 uint32_t object, size_t *held, size_t *summarised, uint32_t *is_new, size_t *place);
 
 /*
  * Write the site form: the line (site N), then, unless the words are 0, 1, 2, 3, 4 in this sequence, the line

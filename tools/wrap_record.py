@@ -175,6 +175,6 @@ if __name__ == '__main__':
     write('open',generate('open','open_counts','Counts',rec,'OpenedCounts','Done',lists,
       said='Opens v1 y2 (stateWith y3 y4 y5 (h .held) (h .summarised)) (outcome (r .answer)) (stateWith z3 z4 z5 (r .counts .held) (r .counts .summarised))',
       specuses=['use Rattle.model.specs.Outcomes.{done as outcome}','use Rattle.intake_opening.specs.Opening.{stateWith, Opens}']))
-    write('feed',generate('feed','feed_lists','Counts',rec,'FedCounts','Found',lists+[('mut','u32'),('num','u32'),('num','u32'),('num','u32')],
-      said='Fed v1 y2 (stateWith y3 y4 y5 (h .held) (h .summarised)) y6 (triple v7 v8 v9) (found (r .answer)) (stateWith z3 z4 z5 (r .counts .held) (r .counts .summarised)) z6',
-      specuses=['use Rattle.model.specs.Triples.{triple}','use Rattle.model.specs.Outcomes.{found}','use Rattle.model.specs.Intake.{Fed}','use Rattle.intake_opening.specs.Opening.{stateWith}']))
+    write('feed',generate('feed','feed_lists','Counts',rec,'FedCounts','Reply',lists+[('mut','u32'),('num','u32'),('num','u32'),('num','u32')],
+      said='Fed v1 y2 (stateWith y3 y4 y5 (h .held) (h .summarised)) y6 (triple v7 v8 v9) (replied (r .answer)) (stateWith z3 z4 z5 (r .counts .held) (r .counts .summarised)) z6',
+      specuses=['use Rattle.model.specs.Triples.{triple}','use Rattle.model.specs.Outcomes.{replied}','use Rattle.model.specs.Intake.{Fed}','use Rattle.intake_opening.specs.Opening.{stateWith}']))

@@ -17,18 +17,18 @@ struct Intake {
     work: Vec<u32>,
     held: usize,
     summarised: usize,
-    answers: Vec<bool>,
+    answers: Vec<Fed>,
 }
 
 /// The plain engine's intake.
 #[derive(Clone)]
 struct Plain {
     intake: FastIntake,
-    answers: Vec<bool>,
+    answers: Vec<Fed>,
 }
 
 fn feed(l: &mut Intake, roster: &[u8], t: [u32; 3]) {
-    let mut is_new = 9;
+    let (mut is_new, mut place) = (9, usize::MAX);
     let lent = Lent {
         words: &WORDS,
         roster,
@@ -39,16 +39,16 @@ fn feed(l: &mut Intake, roster: &[u8], t: [u32; 3]) {
         held: &mut l.held,
         summarised: &mut l.summarised,
     };
-    let status = proved::feed(lent, t, &mut is_new);
+    let status = proved::feed(lent, t, &mut is_new, &mut place);
     assert_eq!(status, 0);
-    l.answers.push(is_new == 1);
+    l.answers.push(Ok((is_new == 1, place)));
 }
 
 fn agree(a: &Intake, b: &Plain) -> Result<String, String> {
     let lists = a.triples == b.intake.triples && a.summary == b.intake.summary && a.map == b.intake.map;
     let counts = (a.held, a.summarised) == (b.intake.held, b.intake.summarised);
     if lists && counts && a.answers == b.answers {
-        let new = a.answers.iter().filter(|&&is_new| is_new).count();
+        let new = a.answers.iter().filter(|answer| matches!(answer, Ok((true, _)))).count();
         return Ok(format!("{new} of {FEEDS} new, summary {}", a.summarised));
     }
     Err("feeds".to_string())
@@ -89,8 +89,7 @@ fn feeds(settings: &Settings, amount: usize, choose: Choice, plain_feed: PlainFe
         |l| fed.iter().for_each(|&t| feed(l, roster, t)),
         |l| {
             for &t in &fed {
-                let answer = plain_feed(&mut l.intake, t);
-                l.answers.push(answer == Ok(true));
+                l.answers.push(plain_feed(&mut l.intake, t));
             }
         },
         agree,

@@ -107,16 +107,20 @@ fn summarise(settings: &Settings, summary: Summary, input: &Input, slots: usize)
     time(settings, &before, proved, plain)
 }
 
+/// Status, found and place.
+type Looked = (u32, u32, usize);
+
 fn look_up(settings: &Settings, list: &[u32], t: [u32; 3]) -> Timing {
+    let before: Looked = (9, 9, usize::MAX);
     measure(
         settings,
-        (&[9, 9], &[9, 9]),
-        |l| l[0] = proved::look_up(list, t[0], t[1], t[2], &mut l[1]),
-        |l| l[0] = plain::look_up(list, t[0], t[1], t[2], &mut l[1]),
+        (&before, &before),
+        |l| l.0 = proved::look_up(list, t[0], t[1], t[2], &mut l.1, &mut l.2),
+        |l| l.0 = plain::look_up(list, t[0], t[1], t[2], &mut l.1, &mut l.2),
         |a, b| {
-            let result = if a[1] == 1 { "found" } else { "not found" };
-            if a == b && a[0] == 0 {
-                Ok(result.to_string())
+            let result = if a.1 == 1 { "found" } else { "not found" };
+            if a == b && a.0 == 0 {
+                Ok(format!("{result}, place {}", a.2))
             } else {
                 Err(format!("look up {a:?} and {b:?}"))
             }
@@ -140,7 +144,9 @@ pub fn clique_lists(settings: &Settings) {
 }
 
 pub fn look_ups(settings: &Settings) {
-    heading("Look up", "Size: triples of the list, sorted. The triple is the last, or is not there.");
+    let note = "Size: triples of the list, sorted. The triple is the last, or is not there; its place is counted. In the lines \
+                \"not sorted\" the list is the data-heavy table as it comes, and about half of its triples come before.";
+    heading("Look up", note);
     for (name, last) in [("the last", true), ("not there", false)] {
         series(settings, name, &sizes(settings), |t| {
             let list = inputs::sorted(&inputs::all_marked(t).table);
@@ -148,6 +154,9 @@ pub fn look_ups(settings: &Settings) {
             look_up(settings, &list, if last { [list[end], list[end + 1], list[end + 2]] } else { [9, 9, 9] })
         });
     }
+    series(settings, "not there, not sorted", &sizes(settings), |t| {
+        look_up(settings, &inputs::data_heavy(t).table, [inputs::FRESH / 2, 0, 0])
+    });
 }
 
 pub fn saturations(settings: &Settings) {

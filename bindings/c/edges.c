@@ -1,5 +1,5 @@
-/* The edges of the C interface: the most bytes that are written, a summary as long as its table, lists of length 0, retired
-   queries, and intakes that were altered between calls. The last line says how many checks failed. */
+/* The edges of the C interface: the most bytes that are written, a summary as long as its table, lists of length 0, places,
+   retired queries, and intakes that were altered between calls. The last line says how many checks failed. */
 #include <stdio.h>
 #include <string.h>
 
@@ -20,7 +20,7 @@ static const uint8_t ROSTER[N] = {0, 0, 0, 0, 0, WS_PROPERTY};
 static const uint32_t QUERY[WS_QUERY_NUMBERS] = {1, WS_VARIABLE, 0, 5, WS_VARIABLE, 1};
 
 static uint32_t queries[WS_QUERIES_NUMBERS], words[WS_WORDS_NUMBERS], map[N], work[2 * N], number;
-static size_t count, held, summarised, asks;
+static size_t count, held, summarised, asks, place;
 static int checks, failures;
 
 static void check(int holds, const char *what) {
@@ -45,7 +45,14 @@ static void spoil(void) {
     for (size_t i = 0; i < 2 * N; i++) {
         map[i / 2] = work[i] = 9;
     }
-    count = held = summarised = asks = number = 9;
+    count = held = summarised = asks = place = number = 9;
+}
+
+/* Whether a look up or a feed was refused so and reported the place 0; spoils the place again. */
+static int refused(uint32_t status, uint32_t expected) {
+    int right = status == expected && place == 0;
+    place = 9;
+    return right;
 }
 
 /* Writes 1,000 triples of five digits each into just this many bytes, then into one less. */
@@ -102,7 +109,7 @@ static void no_table(void) {
     spoil();
     check(ws_summarise_strong(FIVE, NONE, roster, N, NONE, map, N, work, 2 * N, &count) == WS_OK && count == 0, "nor strongly");
     check(all(map, N, WS_ABSENT) && all(work, 2 * N, 0), "no node, strongly");
-    check(ws_look_up(NONE, 1, 2, 3, &number) == WS_OK && number == 0, "nothing is found in nothing");
+    check(ws_look_up(NONE, 1, 2, 3, &number, &place) == WS_OK && number == 0 && place == 0, "nothing is found in nothing");
     number = 9;
     check(ws_ask(FIVE, NONE, map, N, QUERY, WS_QUERY_NUMBERS, &number) == WS_OK && number == 0, "nothing is known of nothing");
 }
@@ -120,8 +127,8 @@ static void no_slots(void) {
     check(ws_open(FIVE, ROSTER, N, NONE, NONE, map, N, &held, &summarised) == WS_OK, "an intake without slots is opened");
     check(held == 0 && summarised == 0 && all(map, N, WS_ABSENT), "and holds nothing");
     uint32_t status =
-        ws_feed(FIVE, ROSTER, N, NONE, NONE, map, N, work, 2 * N, 10, 5, 11, &held, &summarised, &number);
-    check(status == WS_REFUSED_FULL && held == 0 && number == 9 && all(work, 2 * N, 9), "and is full");
+        ws_feed(FIVE, ROSTER, N, NONE, NONE, map, N, work, 2 * N, 10, 5, 11, &held, &summarised, &number, &place);
+    check(refused(status, WS_REFUSED_FULL) && held == 0 && number == 9 && all(work, 2 * N, 9), "and is full");
 }
 
 /* A roster that is missing, the other lists being right. */
@@ -132,24 +139,24 @@ static void no_rosters(void) {
     check(ws_summarise(FIVE, ONE, 3, NONE, NONE, map, N, work, 2 * N, &count) == WS_REFUSED_LENGTH, "roster of summarise");
     check(ws_summarise_strong(FIVE, ONE, 3, NONE, NONE, map, N, work, 2 * N, &count) == WS_REFUSED_LENGTH, "roster, strongly");
     check(ws_open(FIVE, NONE, NONE, NONE, map, N, &held, &summarised) == WS_REFUSED_LENGTH, "roster of opening");
-    uint32_t status = ws_feed(FIVE, NONE, NONE, NONE, map, N, work, 2 * N, 10, 5, 11, &held, &summarised, &number);
-    check(status == WS_REFUSED_LENGTH, "roster of feeding");
+    uint32_t status = ws_feed(FIVE, NONE, NONE, NONE, map, N, work, 2 * N, 10, 5, 11, &held, &summarised, &number, &place);
+    check(refused(status, WS_REFUSED_LENGTH), "roster of feeding");
 }
 
 /* Another list that is missing, the others being right. */
 static void one_list_missing(void) {
     check(ws_open(FIVE, ROSTER, N, NONE, NONE, NONE, &held, &summarised) == WS_REFUSED_LENGTH, "map of opening");
-    uint32_t status = ws_feed(FIVE, ROSTER, N, NONE, NONE, NONE, work, 2 * N, 10, 5, 11, &held, &summarised, &number);
-    check(status == WS_REFUSED_LENGTH, "map of feeding");
-    status = ws_feed(FIVE, ROSTER, N, NONE, NONE, map, N, NONE, 10, 5, 11, &held, &summarised, &number);
-    check(status == WS_REFUSED_LENGTH, "work list of feeding");
+    uint32_t status = ws_feed(FIVE, ROSTER, N, NONE, NONE, NONE, work, 2 * N, 10, 5, 11, &held, &summarised, &number, &place);
+    check(refused(status, WS_REFUSED_LENGTH), "map of feeding");
+    status = ws_feed(FIVE, ROSTER, N, NONE, NONE, map, N, NONE, 10, 5, 11, &held, &summarised, &number, &place);
+    check(refused(status, WS_REFUSED_LENGTH), "work list of feeding");
     status = ws_read(NONE, NONE, NONE, words, WS_WORDS_NUMBERS, &number, &count, &asks);
     check(status == WS_REFUSED_LENGTH, "queries of reading");
     status = ws_read(NONE, NONE, queries, WS_QUERIES_NUMBERS, NONE, &number, &count, &asks);
     check(status == WS_REFUSED_LENGTH, "words of reading");
 }
 
-/* Every list that must have a length is refused without one, and nothing is altered. */
+/* Every list that must have a length is refused without one, and nothing is altered but the place of a feed. */
 static void no_lists(void) {
     spoil();
     no_rosters();
@@ -166,7 +173,8 @@ static void no_lists(void) {
     check(ws_ask(FIVE, ONE, 3, NONE, QUERY, WS_QUERY_NUMBERS, &number) == WS_REFUSED_LENGTH, "map of ask");
     check(ws_ask(FIVE, ONE, 3, map, N, NONE, &number) == WS_REFUSED_LENGTH, "query");
     check(ws_open(NONE, NONE, NONE, NONE, NONE, &held, &summarised) == WS_REFUSED_LENGTH, "opening");
-    check(ws_feed(NONE, NONE, NONE, NONE, NONE, NONE, 10, 5, 11, &held, &summarised, &number) == WS_REFUSED_LENGTH, "feeding");
+    uint32_t status = ws_feed(NONE, NONE, NONE, NONE, NONE, NONE, 10, 5, 11, &held, &summarised, &number, &place);
+    check(refused(status, WS_REFUSED_LENGTH), "feeding");
     check(ws_write(NONE, N, NONE, NONE, &count) == WS_REFUSED_LENGTH, "writing");
     check(ws_read(NONE, NONE, NONE, NONE, &number, &count, &asks) == WS_REFUSED_LENGTH, "reading");
     check(count == 9 && held == 9 && summarised == 9 && asks == 9 && number == 9, "no number is altered");
@@ -189,6 +197,34 @@ static void no_text(void) {
     check(ws_write(FIVE, 5, NONE, out, 9, &count) == WS_OK && count == 9 && memcmp(out, "(site 5)\n", 9) == 0, "a text of none");
     count = 7;
     check(ws_write(FIVE, 5, NONE, NONE, &count) == WS_REFUSED_SLOTS && count == 7, "no bytes to write into");
+}
+
+/* Looks a triple up in a list without order: five triples before 7 3 8, that one three times, and three behind it. */
+static int looked_up(uint32_t subject, uint32_t property, uint32_t object, uint32_t found, size_t at) {
+    static const uint32_t list[33] = {7, 3, 8, 9, 1, 5, 5, 2, 7, 7, 3, 8, 6, 2, 7, 9, 9,
+                                      9, 5, 2, 7, 7, 3, 8, 6, 2, 7, 5, 2, 7, 9, 1, 5};
+    spoil();
+    return ws_look_up(list, 33, subject, property, object, &number, &place) == WS_OK && number == found && place == at;
+}
+
+/* Looks 1 1 1 up in a list of zeros with a wrong length. */
+static int refuses(size_t length) {
+    static const uint32_t zeros[3 * WS_MAX_TRIPLES + 3];
+    spoil();
+    return refused(ws_look_up(zeros, length, 1, 1, 1, &number, &place), WS_REFUSED_LENGTH) && number == 9;
+}
+
+static void places(void) {
+    static const uint32_t most[3 * WS_MAX_TRIPLES];
+    check(looked_up(7, 3, 8, 1, 5), "neither the triple nor its repeats count for its place");
+    check(looked_up(5, 2, 7, 1, 0) && looked_up(9, 9, 9, 1, 10), "the smallest and the largest of a list");
+    check(looked_up(7, 3, 7, 0, 5) && looked_up(7, 3, 9, 0, 8), "the object decides");
+    check(looked_up(7, 2, WS_ABSENT, 0, 5) && looked_up(7, 4, 0, 0, 8), "the property comes before the object");
+    check(looked_up(0, 0, 0, 0, 0) && looked_up(WS_ABSENT, 0, 0, 0, 11), "smaller and larger than all");
+    check(refuses(1) && refuses(2) && refuses(4) && refuses(5) && refuses(11), "after a wrong length the place is 0");
+    check(refuses(3 * WS_MAX_TRIPLES + 3), "after too many triples the place is 0");
+    check(ws_look_up(most, 3 * WS_MAX_TRIPLES, 0, 0, 1, &number, &place) == WS_OK && number == 0 && place == WS_MAX_TRIPLES,
+          "the largest place");
 }
 
 /* Asks one triple by the map and a query. */
@@ -219,7 +255,7 @@ static void retired_queries(void) {
 /* What is lent to a feed and may be altered by it. */
 struct intake {
     uint32_t triples[3 * SLOTS], summary[3 * SLOTS], map[N], work[2 * N], is_new;
-    size_t held, summarised;
+    size_t held, summarised, place;
 };
 
 static uint32_t random_below(uint32_t bound) {
@@ -240,6 +276,7 @@ static struct intake altered(void) {
         x.work[i] = x.work[N + i] = 1 + random_below(9);
     }
     x.is_new = 9;
+    x.place = 9;
     x.held = random_below(SLOTS + 2);
     x.summarised = random_below(SLOTS + 2);
     return x;
@@ -254,13 +291,14 @@ static int same_but_work(const struct intake *x, const struct intake *y) {
 static uint32_t feed_altered(void) {
     struct intake x = altered(), before = x;
     uint32_t status = ws_feed(FIVE, ROSTER, N, x.triples, 3 * SLOTS, x.summary, 3 * SLOTS, x.map, N, x.work, 2 * N, 10, 5, 11,
-                              &x.held, &x.summarised, &x.is_new);
+                              &x.held, &x.summarised, &x.is_new, &x.place);
     if (status == WS_REFUSED_FULL) {
-        check(same_but_work(&x, &before) && memcmp(x.work, before.work, sizeof x.work) == 0 && x.is_new == 9,
-              "after 7 nothing is altered, the work list included");
+        check(same_but_work(&x, &before) && memcmp(x.work, before.work, sizeof x.work) == 0 && x.is_new == 9 && x.place == 0,
+              "after 7 nothing is altered, the work list included, and the place is 0");
         return status;
     }
     check(status == WS_OK && all(x.work, 2 * N, 0), "after another answer the work list is zero");
+    check(x.place <= before.held, "and the place is at most the number held before");
     check(x.is_new == 1 || (x.is_new == 0 && same_but_work(&x, &before)), "after \"not new\" all else is as it was");
     check(x.is_new != 1 || (x.held == before.held + 1 && x.held <= SLOTS && x.summarised <= SLOTS),
           "after \"new\" one more is held, and the counts fit");
@@ -282,6 +320,7 @@ int main(void) {
     no_slots();
     no_lists();
     no_text();
+    places();
     retired_queries();
     altered_intakes();
     printf("C edges: %d checks, %d failed\n", checks, failures);

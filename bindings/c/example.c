@@ -1,6 +1,6 @@
 /* The papers' example through the C interface, in the header's sequence: read, own roster, saturate, summarise, ask; also the
    same on the summary, queries that are retired, what ask says where the sequence is not kept, and an intake. Then all of it
-   with other words than 0 to 4, and the two summaries of a chain. Each result is checked against the papers'. */
+   with other words than 0 to 4, the two summaries of a chain, and places. Each result is checked against the papers'. */
 #include <stdio.h>
 #include <string.h>
 
@@ -132,9 +132,11 @@ static uint32_t ask_one(const uint32_t *list, size_t count, const uint32_t *by, 
     return maybe;
 }
 
-static int saturation_has(size_t all, uint32_t subject, uint32_t property, uint32_t object) {
+/* Whether the saturation has a triple at a place, counted from 0. */
+static int saturation_has(size_t all, uint32_t subject, uint32_t property, uint32_t object, size_t at) {
     uint32_t found = 2;
-    return ws_look_up(saturated, 3 * all, subject, property, object, &found) == WS_OK && found == 1;
+    size_t place = 99;
+    return ws_look_up(saturated, 3 * all, subject, property, object, &found, &place) == WS_OK && found == 1 && place == at;
 }
 
 /* "none" is safe only of the summary of the saturated table, asked by that summary's own map. Property 7 has triples in the
@@ -147,28 +149,30 @@ static void wrong_none(size_t count) {
         ws_summarise(words, WS_WORDS_NUMBERS, table, 18, roster, N, plain, 18, plain_map, N, work, 2 * N, &plain_count);
     check(status == WS_OK && plain_count == 6, "plain summary has 6 triples");
     check(saturate(N, saturated, 3 * SLOTS, &all) == WS_OK, "saturation accepted");
-    check(saturation_has(all, 10, 7, 12), "10 7 12 is in the saturation");
+    check(saturation_has(all, 10, 7, 12, 12), "10 7 12 is in the saturation, behind 12 triples");
     check(ask_one(plain, plain_count, plain_map, WS_VARIABLE, 0, 7) == 0, "plain summary: none has 7, which is wrong");
     check(ask_one(summary, count, map, WS_VARIABLE, 0, 7) == 1, "summary of the saturation: maybe");
-    check(saturation_has(all, 11, 6, 13), "11 6 13 is in the saturation");
+    check(saturation_has(all, 11, 6, 13, 15), "11 6 13 is in the saturation, behind 15 triples");
     check(ask_one(summary, count, plain_map, WS_CODE, 11, 6) == 0, "by another map: none, which is wrong");
     check(ask_one(summary, count, map, WS_CODE, 11, 6) == 1, "by its own map: maybe");
 }
 
-/* Feeds the six triples, last first, each twice, to an intake of six slots. */
+/* Feeds the six triples, last first, each twice, to an intake of six slots: each comes before all that are held. Then first to
+   last once more: each has its place. */
 static void feed_all(uint32_t n) {
     static uint32_t held_triples[18], held_summary[18], held_map[OTHER_N];
     size_t held = 0, summarised = 0;
     int right = ws_open(words, WS_WORDS_NUMBERS, roster, n, held_triples, 18, held_summary, 18, held_map, n, &held,
                         &summarised) == WS_OK;
-    for (size_t i = 0; i < 12; i++) {
-        const uint32_t *t = table + 3 * (5 - i / 2);
+    for (size_t i = 0; i < 18; i++) {
+        const uint32_t *t = table + 3 * (i < 12 ? 5 - i / 2 : i - 12);
         uint32_t is_new = 2;
+        size_t place = 99;
         uint32_t status = ws_feed(words, WS_WORDS_NUMBERS, roster, n, held_triples, 18, held_summary, 18, held_map, n, work,
-                                  2 * n, t[0], t[1], t[2], &held, &summarised, &is_new);
-        right = right && status == WS_OK && is_new == (i % 2 == 0);
+                                  2 * n, t[0], t[1], t[2], &held, &summarised, &is_new, &place);
+        right = right && status == WS_OK && is_new == (i < 12 && i % 2 == 0) && place == (i < 12 ? 0 : i - 12);
     }
-    check(right, "each triple is new once; a repeat fed to a full intake passes");
+    check(right, "each triple is new once, at its place; a repeat fed to a full intake passes");
     check(held == 6 && memcmp(held_triples, table, sizeof held_triples) == 0, "the intake holds the six, in rising order");
     check(summarised == 6, "plain summary has 6 triples");
     print_triples(held_summary, summarised);
@@ -244,11 +248,31 @@ static void both_summaries(void) {
     check(status == WS_REFUSED_SLOTS && map[10] == 0, "strongly, 5 numbers are refused with 5");
 }
 
+/* Where triples belong in a list without order, in which 5 2 7 stands twice. */
+static void places(void) {
+    static const uint32_t list[12] = {11, 6, 13, 5, 2, 7, 10, 5, 12, 5, 2, 7};
+    static const uint32_t asked[5][3] = {{5, 2, 7}, {10, 5, 12}, {11, 6, 13}, {10, 5, 11}, {11, 6, 14}};
+    static const size_t expected[5] = {0, 2, 3, 2, 4};
+    uint32_t found;
+    size_t place;
+    for (size_t k = 0; k < 5; k++) {
+        found = 2;
+        place = 99;
+        uint32_t status = ws_look_up(list, 12, asked[k][0], asked[k][1], asked[k][2], &found, &place);
+        check(status == WS_OK && found == (k < 3) && place == expected[k], "a triple's place, in the list or not");
+    }
+    found = 2;
+    place = 99;
+    check(ws_look_up(list, 11, 11, 6, 13, &found, &place) == WS_REFUSED_LENGTH && found == 2 && place == 0,
+          "a refused call reports place 0");
+}
+
 int main(void) {
     the_papers_words();
     other_words();
     both_summaries();
     refused_words();
+    places();
     printf("C example: %d results differ from the papers'\n", failures);
     return failures != 0;
 }

@@ -48,7 +48,7 @@ static ucontext_t outside, inside;
 static uint32_t table[3 * MOST], result[3 * MOST], summary[3 * MOST], map[N], work[2 * N];
 static uint32_t query[WS_QUERY_NUMBERS], queries[WS_QUERIES_NUMBERS], words[WS_WORDS_NUMBERS];
 static uint8_t roster[N], own[N], text[65536];
-static size_t given, slots, count, held, summarised, text_length;
+static size_t given, slots, count, held, summarised, place, text_length;
 static uint32_t status, answer, fed_object;
 static uint64_t seed = 1;
 static int failures;
@@ -109,7 +109,7 @@ static void run_summarise_strong(void) {
 }
 
 static void run_look_up(void) {
-    status = ws_look_up(table, 3 * given, 1, 2, 3, &answer);
+    status = ws_look_up(table, 3 * given, 1, 2, 3, &answer, &place);
 }
 
 static void run_ask(void) {
@@ -122,7 +122,7 @@ static void run_open(void) {
 
 static void run_feed(void) {
     status = ws_feed(FIVE, roster, N, table, 3 * MOST, summary, 3 * MOST, map, N, work, 2 * N, 30, 14, fed_object, &held,
-                     &summarised, &answer);
+                     &summarised, &answer, &place);
 }
 
 static void run_write(void) {

@@ -8,7 +8,7 @@ use crate::words::{self, free_code, Words};
 use weak_summary::calls as proved;
 use weak_summary_reference::{self as plain, Mistake, PlainIntake};
 
-/// Everything lent to opening or to a feed.
+/// Everything lent to opening or to a feed; `place` is written also by a feed that is refused.
 #[derive(Clone, PartialEq, Eq, Debug)]
 pub struct Lent {
     pub words: Vec<u32>,
@@ -20,6 +20,7 @@ pub struct Lent {
     pub held: usize,
     pub summarised: usize,
     pub is_new: u32,
+    pub place: usize,
     pub fed: [u32; 3],
 }
 
@@ -37,6 +38,7 @@ fn junk_lists(random: &mut Random, words: &[u32], roster: &[u8], slots: usize) -
         held: random.below(1 << 40),
         summarised: random.below(1 << 40),
         is_new: random.next() as u32,
+        place: random.junk_count(),
         fed: [0; 3],
     }
 }
@@ -74,8 +76,19 @@ pub fn open_with(random: &mut Random, report: &mut Report, words: &Words, roster
     compare_open(report, &lent);
 }
 
-/// What a feed must answer and leave: refusals 1, 10 and 2 of lists, words and a roster that were damaged, then the plain intake.
-fn expected(intake: &mut PlainIntake, lent: &Lent, mistake: Mistake) -> Outcome<Lent> {
+/// What a feed must answer and leave.
+fn expected(intake: &mut PlainIntake, before: &Lent, mistake: Mistake) -> Outcome<Lent> {
+    let counted = intake.place(mistake, before.fed);
+    let mut outcome = judged(intake, before, mistake);
+    if outcome.status != plain::OK {
+        outcome.lent.place = mistake.refused_place(outcome.status, before.place, counted);
+    }
+    outcome
+}
+
+/// The same but for the place after a refusal: refusals 1, 10 and 2 of lists, words and a roster that were damaged, then the plain
+/// intake.
+fn judged(intake: &mut PlainIntake, lent: &Lent, mistake: Mistake) -> Outcome<Lent> {
     let mut lent = lent.clone();
     let n = intake.roster.len();
     let lists_wrong = lent.triples.len() / 3 != lent.summary.len() / 3 || lent.map.len() != n;
@@ -87,13 +100,14 @@ fn expected(intake: &mut PlainIntake, lent: &Lent, mistake: Mistake) -> Outcome<
         let status = plain::feed_refusal(&lent.words, &lent.roster, lent.fed);
         return Outcome { status, lent };
     }
-    let status = match intake.feed(lent.fed, lent.work.len()) {
+    let status = match intake.feed(mistake, lent.fed, lent.work.len()) {
         Err(refusal) => refusal,
-        Ok(is_new) => {
+        Ok((is_new, place)) => {
             let lists = [&mut lent.triples[..], &mut lent.summary[..], &mut lent.map[..]];
             (lent.held, lent.summarised) = intake.state(mistake, lists);
             lent.work.fill(0);
             lent.is_new = is_new as u32;
+            lent.place = place;
             plain::OK
         }
     };
@@ -112,7 +126,7 @@ fn feed(l: &mut Lent) -> u32 {
         held: &mut l.held,
         summarised: &mut l.summarised,
     };
-    proved::feed(lent, l.fed, &mut l.is_new)
+    proved::feed(lent, l.fed, &mut l.is_new, &mut l.place)
 }
 
 fn compare_feed(report: &mut Report, intake: &mut PlainIntake, before: &Lent, mistake: Mistake) -> Lent {
@@ -179,6 +193,7 @@ pub fn chain(random: &mut Random, report: &mut Report, mistake: Mistake, [n, amo
         let mut before = state.clone();
         before.work = random.junk(2 * n);
         before.is_new = random.next() as u32;
+        before.place = random.junk_count();
         before.fed = fed(random, words, &table, n);
         match random.below(100) {
             0..=7 => {
@@ -197,8 +212,10 @@ pub fn chain(random: &mut Random, report: &mut Report, mistake: Mistake, [n, amo
 /// What must hold after a feed to an altered state. Refusals 1, 10, 2, 3 and 4 are as ever, and any other answer is "new", "not new"
 /// or 7. After 7 nothing is altered, after "not new" only the work list, which is zero. After "new" the work list is zero, one more
 /// is held and both counts are at most the slots; what the lists and the map then hold, and what the count of the summary is, is open.
+/// The place is 0 after a refusal, and else at most the number held before.
 fn expect_altered(before: &Lent, ours: &Outcome<Lent>) -> Outcome<Lent> {
     let mut expected = run(before, |l| plain::feed_refusal(&l.words, &l.roster, l.fed));
+    expected.lent.place = 0;
     if expected.status != plain::OK {
         return expected;
     }
@@ -209,6 +226,7 @@ fn expect_altered(before: &Lent, ours: &Outcome<Lent>) -> Outcome<Lent> {
     let lent = &mut expected.lent;
     lent.work.fill(0);
     lent.is_new = ours.lent.is_new.min(1);
+    lent.place = ours.lent.place.min(before.held);
     if lent.is_new == 1 {
         let slots = before.triples.len() / 3;
         lent.triples.clone_from(&ours.lent.triples);

@@ -1,5 +1,5 @@
 //! Compares the proved engine with the unverified one, call by call over the C interface: the answer, the numbers and every lent
-//! list after each call, on valid and damaged input, with junk in the lists before; and summaries worked again, with what they
+//! list after each call, on valid and damaged input, with junk in lists and numbers before; and summaries worked again, with what they
 //! must leave.
 
 mod asks;
@@ -46,7 +46,7 @@ fn turn(random: &mut Random, report: &mut Report, mistake: Mistake) {
         tables::cliques(random, report, mistake);
         tables::summarise(random, report, mistake, &tables::WEAK);
         tables::summarise(random, report, mistake, &tables::STRONG);
-        tables::look_up(random, report);
+        tables::look_up(random, report, mistake);
         asks::ask(random, report, mistake);
         asks::hard(random, report, mistake);
         texts::read(random, report);

@@ -75,8 +75,9 @@ fn on_table(random: &mut Random, report: &mut Report, mistake: Mistake, words: &
     cliques.result = random.junk(n);
     tables::compare_cliques(report, mistake, cliques);
     let t = [table[table.len() - 3], table[table.len() - 2], table[table.len() - 1]];
-    tables::compare_look_up(report, table.to_vec(), t, 9);
-    tables::compare_look_up(report, table.to_vec(), [t[2], t[1], 3], 9);
+    for t in [t, [t[2], t[1], 3]] {
+        tables::compare_look_up(random, report, mistake, table.to_vec(), t);
+    }
     ask_all(report, mistake, words, table, n);
 }
 
@@ -117,11 +118,13 @@ fn reworks(random: &mut Random, report: &mut Report, mistake: Mistake) {
     }
 }
 
-/// Lengths at the limits and just over them.
-fn limits(random: &mut Random, report: &mut Report) {
+/// Lengths at the limits and just over them; places from 0 to the largest.
+fn limits(random: &mut Random, report: &mut Report, mistake: Mistake) {
     for amount in [MAX_TRIPLES, MAX_TRIPLES + 1] {
         let list = vec![5; 3 * amount];
-        tables::compare_look_up(report, list.clone(), [5, 5, 5], 9);
+        for object in [4, 5, 6] {
+            tables::compare_look_up(random, report, mistake, list.clone(), [5, 5, object]);
+        }
         tables::compare_own_roster(report, (RDFS.to_vec(), list, random.junk_bytes(6)));
         feeds::open_with(random, report, &RDFS, &[0; 6], amount);
     }
@@ -139,7 +142,7 @@ fn limits(random: &mut Random, report: &mut Report) {
 }
 
 pub fn all(random: &mut Random, report: &mut Report, mistake: Mistake) {
-    limits(random, report);
+    limits(random, report, mistake);
     for sizes in [[60, 600, 3_000, 250], [2_000, 1_500, 2_000, 1_500], [65_536, 200, 200, 200]] {
         feeds::chain(random, report, mistake, sizes);
     }

@@ -39,6 +39,11 @@ impl Random {
         list
     }
 
+    /// A count that no call reports.
+    pub fn junk_count(&mut self) -> usize {
+        (1 << 40) + self.below(1 << 40)
+    }
+
     pub fn junk_bytes(&mut self, length: usize) -> Vec<u8> {
         self.junk(length).into_iter().map(|x| (x >> 8) as u8).collect()
     }

@@ -166,8 +166,25 @@ pub fn compare_summarise(report: &mut Report, mistake: Mistake, summary: &Summar
     report.compare(summary.call, &before, ours, theirs, true);
 }
 
-pub fn look_up(random: &mut Random, report: &mut Report) {
+/// Everything lent to look up; `place` is written also where it refuses.
+#[derive(Clone, PartialEq, Eq, Debug)]
+struct Looked {
+    list: Vec<u32>,
+    t: [u32; 3],
+    found: u32,
+    place: usize,
+}
+
+/// A list of triples in rising order, the rest behind them as it was.
+fn sort(list: &mut [u32]) {
+    list.as_chunks_mut::<3>().0.sort_unstable();
+}
+
+pub fn look_up(random: &mut Random, report: &mut Report, mistake: Mistake) {
     let mut list = site(random).table;
+    if random.chance(20) {
+        sort(&mut list);
+    }
     if random.chance(20) {
         list.iter_mut().for_each(|x| *x = x.wrapping_mul(0x0100_0001));
     }
@@ -177,13 +194,13 @@ pub fn look_up(random: &mut Random, report: &mut Report) {
         let i = if random.chance(60) { 3 * random.below(list.len() / 3) } else { random.below(list.len() - 2) };
         t.copy_from_slice(&list[i..i + 3]);
     }
-    compare_look_up(report, list, t, random.next() as u32);
+    compare_look_up(random, report, mistake, list, t);
 }
 
-pub fn compare_look_up(report: &mut Report, list: Vec<u32>, t: [u32; 3], found: u32) {
-    let before = (list, t, found);
-    let ours = run(&before, |l| proved::look_up(&l.0, t[0], t[1], t[2], &mut l.2));
-    let theirs = run(&before, |l| plain::look_up(&l.0, t[0], t[1], t[2], &mut l.2));
-    let yes = theirs.lent.2 == 1;
+pub fn compare_look_up(random: &mut Random, report: &mut Report, mistake: Mistake, list: Vec<u32>, t: [u32; 3]) {
+    let before = Looked { list, t, found: random.next() as u32, place: random.junk_count() };
+    let ours = run(&before, |l| proved::look_up(&l.list, t[0], t[1], t[2], &mut l.found, &mut l.place));
+    let theirs = run(&before, |l| plain::look_up_with(mistake, &l.list, t, &mut l.found, &mut l.place));
+    let yes = theirs.lent.found == 1;
     report.compare(Call::LookUp, &before, ours, theirs, yes);
 }

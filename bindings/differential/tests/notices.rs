@@ -58,6 +58,22 @@ fn asks_notice_their_mistakes() {
 }
 
 #[test]
+fn look_ups_show_wrong_places() {
+    use Mistake::{AsIfSorted, EqualsCount, PlaceLeft, RepeatsOnce, StopsAtFound};
+    for mistake in [EqualsCount, PlaceLeft, RepeatsOnce, StopsAtFound, AsIfSorted] {
+        assert!(run(&options(mistake, 0)).differs(Call::LookUp), "{}", mistake.name());
+    }
+}
+
+#[test]
+fn feeds_show_wrong_places() {
+    use Mistake::{EqualsCount, FullPlace, PlaceAtEnd, PlaceLeft};
+    for mistake in [EqualsCount, PlaceLeft, FullPlace, PlaceAtEnd] {
+        assert!(run(&options(mistake, 0)).differs(Call::Feed), "{}", mistake.name());
+    }
+}
+
+#[test]
 fn reworks_notice_mistakes() {
     use Mistake::{ClassLinks, FirstSeen, OneRound, WrongWay};
     for mistake in [ClassLinks, FirstSeen, OneRound, WrongWay] {

@@ -5,8 +5,8 @@ use crate::weak::{images, put_map};
 use crate::{checks, Mistake, Words, ABSENT, CODE, COVER, FULL, LENGTH, MAX_TRIPLES, OK};
 use std::collections::BTreeSet;
 
-/// What a feed answers: whether the triple was new, or the number of the refusal.
-pub type Fed = Result<bool, u32>;
+/// What a feed answers: whether the triple was new and how many triples held before come before it, or the number of the refusal.
+pub type Fed = Result<(bool, usize), u32>;
 
 pub fn open(
     words: &[u32],
@@ -74,7 +74,17 @@ impl PlainIntake {
         PlainIntake { words, roster: roster.to_vec(), slots, held: BTreeSet::new() }
     }
 
-    pub fn feed(&mut self, t: [u32; 3], work_length: usize) -> Fed {
+    /// How many triples held come before the triple, with a mistake.
+    pub fn place(&self, mistake: Mistake, t: [u32; 3]) -> usize {
+        let t = pack(&t);
+        match mistake {
+            Mistake::EqualsCount => self.held.range(..=t).count(),
+            Mistake::PlaceAtEnd if !self.held.contains(&t) => self.held.len(),
+            _ => self.held.range(..t).count(),
+        }
+    }
+
+    pub fn feed(&mut self, mistake: Mistake, t: [u32; 3], work_length: usize) -> Fed {
         if work_length != 2 * self.roster.len() {
             return Err(LENGTH);
         }
@@ -82,14 +92,15 @@ impl PlainIntake {
         if refusal != OK {
             return Err(refusal);
         }
+        let place = self.place(mistake, t);
         if self.held.contains(&pack(&t)) {
-            return Ok(false);
+            return Ok((false, place));
         }
         if self.held.len() == self.slots {
             return Err(FULL);
         }
         self.held.insert(pack(&t));
-        Ok(true)
+        Ok((true, place))
     }
 
     /// The triples held, in rising order.
@@ -257,23 +268,24 @@ fn take_in(intake: &mut FastIntake, t: [u32; 3]) -> Fed {
     if refusal != OK {
         return Err(refusal);
     }
-    let Err(i) = place(&intake.triples, intake.held, t) else {
-        return Ok(false);
+    let i = match place(&intake.triples, intake.held, t) {
+        Ok(i) => return Ok((false, i)),
+        Err(i) => i,
     };
     if intake.held == intake.triples.len() / 3 {
         return Err(FULL);
     }
     insert(&mut intake.triples, intake.held, i, t);
     intake.held += 1;
-    Ok(true)
+    Ok((true, i))
 }
 
 /// Feeds with the notes.
 pub fn feed_fast(intake: &mut FastIntake, t: [u32; 3]) -> Fed {
     let answer = take_in(intake, t);
-    if answer != Ok(true) {
+    let Ok((true, _)) = answer else {
         return answer;
-    }
+    };
     let kept = intake.put_ends(t);
     intake.note_ends(t);
     if kept.is_none() {
@@ -291,9 +303,9 @@ pub fn feed_fast(intake: &mut FastIntake, t: [u32; 3]) -> Fed {
 /// Feeds without the notes: where the image is not in the summary already, map and summary are made anew.
 pub fn feed_lists_only(intake: &mut FastIntake, t: [u32; 3]) -> Fed {
     let answer = take_in(intake, t);
-    if answer != Ok(true) {
+    let Ok((true, _)) = answer else {
         return answer;
-    }
+    };
     let image = [intake.map[t[0] as usize], t[1], intake.map[t[2] as usize]];
     if place(&intake.summary, intake.summarised, image).is_err() {
         intake.summarise_anew();

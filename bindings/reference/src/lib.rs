@@ -23,7 +23,7 @@ pub use roster::own_roster;
 pub use saturate::{saturate, saturate_with};
 pub use site::{read, write};
 pub use strong::{summarise_strong, summarise_strong_with};
-pub use triples::look_up;
+pub use triples::{look_up, look_up_with};
 pub use weak::{cliques, cliques_with, summarise, summarise_with};
 pub use words::Words;
 

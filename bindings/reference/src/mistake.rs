@@ -1,8 +1,8 @@
 //! The five course mistakes of the scope paper, one that the rules for domains and ranges invite, one that the word table
-//! invites, two that the strong summary invites, four that retired queries invite, and two that a limit of the search invites,
-//! to show that a comparison with a wrong engine is noticed.
+//! invites, two that the strong summary invites, four that retired queries invite, two that a limit of the search invites, and
+//! seven that places invite, to show that a comparison with a wrong engine is noticed.
 
-use crate::Words;
+use crate::{Words, FULL};
 
 #[derive(Clone, Copy, PartialEq, Eq, Debug)]
 pub enum Mistake {
@@ -38,10 +38,24 @@ pub enum Mistake {
     UsedUpNone,
     /// A search that has used up its tries answers maybe.
     UsedUpMaybe,
+    /// The triple itself and its repeats count for its place.
+    EqualsCount,
+    /// Of the repeats of a triple only one counts for a place.
+    RepeatsOnce,
+    /// Only the triples in front of the first that is found count for its place.
+    StopsAtFound,
+    /// A place is bisected for, as if every list were sorted.
+    AsIfSorted,
+    /// A refused call leaves the place as it was.
+    PlaceLeft,
+    /// A full intake refuses a new triple but reports its place.
+    FullPlace,
+    /// The place of a new triple that is fed is the number of triples held.
+    PlaceAtEnd,
 }
 
 impl Mistake {
-    pub const ALL: [Mistake; 15] = [
+    pub const ALL: [Mistake; 22] = [
         Mistake::OneRound,
         Mistake::TypedOnlyStays,
         Mistake::ClassLinks,
@@ -57,6 +71,13 @@ impl Mistake {
         Mistake::RetiredPastCount,
         Mistake::UsedUpNone,
         Mistake::UsedUpMaybe,
+        Mistake::EqualsCount,
+        Mistake::RepeatsOnce,
+        Mistake::StopsAtFound,
+        Mistake::AsIfSorted,
+        Mistake::PlaceLeft,
+        Mistake::FullPlace,
+        Mistake::PlaceAtEnd,
     ];
 
     pub fn name(self) -> &'static str {
@@ -77,11 +98,27 @@ impl Mistake {
             Mistake::RetiredPastCount => "retired-past-count",
             Mistake::UsedUpNone => "used-up-none",
             Mistake::UsedUpMaybe => "used-up-maybe",
+            Mistake::EqualsCount => "equals-count",
+            Mistake::RepeatsOnce => "repeats-once",
+            Mistake::StopsAtFound => "stops-at-found",
+            Mistake::AsIfSorted => "as-if-sorted",
+            Mistake::PlaceLeft => "place-left",
+            Mistake::FullPlace => "full-place",
+            Mistake::PlaceAtEnd => "place-at-end",
         }
     }
 
     pub fn named(name: &str) -> Option<Mistake> {
         Mistake::ALL.into_iter().find(|m| m.name() == name)
+    }
+
+    /// The place after a refusal: 0, or by mistake what was there before or what was counted.
+    pub fn refused_place(self, refusal: u32, before: usize, counted: usize) -> usize {
+        match self {
+            Mistake::PlaceLeft => before,
+            Mistake::FullPlace if refusal == FULL => counted,
+            _ => 0,
+        }
     }
 
     /// The words that the engine goes by once words, roster and codes have passed.

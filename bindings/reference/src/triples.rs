@@ -1,7 +1,7 @@
 //! Triples packed into one number, sets of them, and flat lists.
 
-use crate::{checks, LENGTH, OK};
-use std::collections::{HashMap, HashSet};
+use crate::{checks, Mistake, LENGTH, OK};
+use std::collections::{BTreeSet, HashMap, HashSet};
 use std::hash::{BuildHasherDefault, Hasher};
 
 /// A triple of accepted codes, 16 bits each, so that the order of numbers is the order of triples.
@@ -49,11 +49,41 @@ pub fn put_sorted(mut found: Vec<Packed>, list: &mut [u32]) {
     rest.fill(0);
 }
 
-/// Whether the triple is in the list.
-pub fn look_up(list: &[u32], s: u32, p: u32, o: u32, found: &mut u32) -> u32 {
+/// Whether the triple is among these, and how many of them come before it, in one pass.
+fn counted(triples: &[[u32; 3]], t: [u32; 3]) -> (bool, usize) {
+    triples.iter().fold((false, 0), |(found, place), &u| (found | (u == t), place + (u < t) as usize))
+}
+
+/// The place with a mistake.
+fn wrong_place(mistake: Mistake, triples: &[[u32; 3]], t: [u32; 3]) -> usize {
+    match mistake {
+        Mistake::EqualsCount => triples.iter().filter(|&u| *u <= t).count(),
+        Mistake::RepeatsOnce => triples.iter().filter(|&u| *u < t).collect::<BTreeSet<_>>().len(),
+        Mistake::StopsAtFound => triples.iter().take_while(|&u| *u != t).filter(|&u| *u < t).count(),
+        Mistake::AsIfSorted => triples.partition_point(|&u| u < t),
+        _ => counted(triples, t).1,
+    }
+}
+
+/// Whether the triple is in the list, and how many triples of the list come before it.
+pub fn look_up(list: &[u32], s: u32, p: u32, o: u32, found: &mut u32, place: &mut usize) -> u32 {
     if checks::table_length_wrong(list.len()) {
+        *place = 0;
         return LENGTH;
     }
-    *found = list.chunks_exact(3).any(|t| t[0] == s && t[1] == p && t[2] == o) as u32;
+    let (triples, _) = list.as_chunks::<3>();
+    let (is_found, before) = counted(triples, [s, p, o]);
+    (*found, *place) = (is_found as u32, before);
     OK
+}
+
+pub fn look_up_with(mistake: Mistake, list: &[u32], t: [u32; 3], found: &mut u32, place: &mut usize) -> u32 {
+    let left = *place;
+    let status = look_up(list, t[0], t[1], t[2], found, place);
+    let (triples, _) = list.as_chunks::<3>();
+    *place = match status {
+        OK => wrong_place(mistake, triples, t),
+        refusal => mistake.refused_place(refusal, left, 0),
+    };
+    status
 }

@@ -75,7 +75,7 @@ fn fast_intake_is_the_plain_one() {
         let mut lists_only = FastIntake::new(words, &roster, slots);
         for t in table.chunks_exact(3) {
             let t = [t[0], t[1], t[2]];
-            let answer = plain.feed(t, 2 * n as usize);
+            let answer = plain.feed(Mistake::None, t, 2 * n as usize);
             assert_eq!(answer, feed_fast(&mut fast, t));
             assert_eq!(answer, feed_lists_only(&mut lists_only, t));
             compare(&plain, &fast);

@@ -1,4 +1,6 @@
 //! The calls as the C interface has them: slices and numbers lent, a status returned, which is 0 or the number of the refusal.
+//! The place of [`look_up`] and [`feed`] is written by every call, and is 0 after a refusal; the other numbers stay as they are then,
+//! but for those of [`read`].
 //!
 //! Each is safe: the engine takes slices of every length and content, and exclusive borrows cannot overlap.
 
@@ -104,9 +106,9 @@ pub fn summarise_strong(
     }
 }
 
-pub fn look_up(list: &[u32], s: u32, p: u32, o: u32, found: &mut u32) -> u32 {
-    // SAFETY: the pointer comes with the length of its slice, or is a reference.
-    unsafe { ffi::ws_look_up(list.as_ptr(), list.len(), s, p, o, found) }
+pub fn look_up(list: &[u32], s: u32, p: u32, o: u32, found: &mut u32, place: &mut usize) -> u32 {
+    // SAFETY: each pointer comes with the length of its slice, or is a reference.
+    unsafe { ffi::ws_look_up(list.as_ptr(), list.len(), s, p, o, found, place) }
 }
 
 pub fn ask(words: &[u32], table: &[u32], map: &[u32], query: &[u32], maybe: &mut u32) -> u32 {
@@ -166,7 +168,7 @@ pub struct Lent<'a> {
     pub summarised: &'a mut usize,
 }
 
-pub fn feed(lent: Lent, t: [u32; 3], is_new: &mut u32) -> u32 {
+pub fn feed(lent: Lent, t: [u32; 3], is_new: &mut u32, place: &mut usize) -> u32 {
     // SAFETY: each pointer comes with the length of its slice, or is a reference.
     unsafe {
         ffi::ws_feed(
@@ -188,6 +190,7 @@ pub fn feed(lent: Lent, t: [u32; 3], is_new: &mut u32) -> u32 {
             lent.held,
             lent.summarised,
             is_new,
+            place,
         )
     }
 }

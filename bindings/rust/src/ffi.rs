@@ -74,6 +74,7 @@ extern "C" {
         property: u32,
         object: u32,
         found: *mut u32,
+        place: *mut usize,
     ) -> u32;
 
     pub fn ws_ask(
@@ -122,6 +123,7 @@ extern "C" {
         held: *mut usize,
         summarised: *mut usize,
         is_new: *mut u32,
+        place: *mut usize,
     ) -> u32;
 
     pub fn ws_write(

@@ -45,9 +45,10 @@ impl Intake {
         Ok(intake)
     }
 
-    /// Takes in a triple; gives whether it was new.
-    pub fn feed(&mut self, t: Triple) -> Result<bool, Refusal> {
-        let mut is_new = 0;
+    /// Takes in a triple; gives whether it was new, and its place: how many of the triples held before come before it. There it
+    /// stands in [`triples`](Intake::triples), new or not.
+    pub fn feed(&mut self, t: Triple) -> Result<(bool, usize), Refusal> {
+        let (mut is_new, mut place) = (0, 0);
         let lent = Lent {
             words: &self.words.0,
             roster: &self.roster,
@@ -58,7 +59,7 @@ impl Intake {
             held: &mut self.held,
             summarised: &mut self.summarised,
         };
-        accepted(calls::feed(lent, t, &mut is_new)).map(|()| is_new == 1)
+        accepted(calls::feed(lent, t, &mut is_new, &mut place)).map(|()| (is_new == 1, place))
     }
 
     /// The distinct triples fed, in rising order.

@@ -87,8 +87,11 @@ pub fn summarise_strong(
     accepted(calls::summarise_strong(&words.0, table, roster, result, map, work, &mut count)).map(|()| count)
 }
 
-/// Whether the triple is in the list.
-pub fn look_up(list: &[u32], t: Triple) -> Result<bool, Refusal> {
-    let mut found = 0;
-    accepted(calls::look_up(list, t[0], t[1], t[2], &mut found)).map(|()| found == 1)
+/// Whether the triple is in the list, and its place: how many triples of the list come before it in the order of subject, property,
+/// object. The list may be in any order. Each repeat of a triple before it counts; the triple itself and its repeats do not.
+///
+/// In a rising list without repeats the place is where the triple stands, or else where it would stand.
+pub fn look_up(list: &[u32], t: Triple) -> Result<(bool, usize), Refusal> {
+    let (mut found, mut place) = (0, 0);
+    accepted(calls::look_up(list, t[0], t[1], t[2], &mut found, &mut place)).map(|()| (found == 1, place))
 }

@@ -151,7 +151,7 @@ fn reserved_object_comes_before_cover() {
 #[test]
 fn repeat_to_a_full_intake() {
     let mut intake = Intake::open(RDFS, &roster_of(RDFS, &[10, 5, 10], 12), 1).unwrap();
-    assert_eq!(intake.feed([10, 5, 10]), Ok(true));
+    assert_eq!(intake.feed([10, 5, 10]), Ok((true, 0)));
     assert_eq!(intake.feed([10, 5, 11]), Err(Refusal::Full));
-    assert_eq!(intake.feed([10, 5, 10]), Ok(false));
+    assert_eq!(intake.feed([10, 5, 10]), Ok((false, 0)));
 }

@@ -1,4 +1,4 @@
-//! Each refusal of each call, and that only 5 and 8 alter what was lent.
+//! Each refusal of each call, and that only 5 and 8 alter what was lent, but for the place, which is 0 after each.
 
 mod common;
 
@@ -78,9 +78,9 @@ fn own_roster_refuses() {
 #[test]
 fn look_up_refuses_lengths_only() {
     assert_eq!(look_up(&[1, 2], [1, 2, 3]), Err(Refusal::Length));
-    assert_eq!(look_up(&[9, 9, 9, 1, 2, 3], [1, 2, 3]), Ok(true));
-    assert_eq!(look_up(&[1, 1, 2, 3, 1, 1], [1, 2, 3]), Ok(false));
-    assert_eq!(look_up(&[], [0, 0, 0]), Ok(false));
+    assert_eq!(look_up(&[9, 9, 9, 1, 2, 3], [1, 2, 3]), Ok((true, 0)));
+    assert_eq!(look_up(&[1, 1, 2, 3, 1, 1], [1, 2, 3]), Ok((false, 1)));
+    assert_eq!(look_up(&[], [0, 0, 0]), Ok((false, 0)));
     assert_eq!(look_up(&vec![0; 3 * 1_048_577], [0, 0, 0]), Err(Refusal::Length));
 }
 
@@ -135,7 +135,7 @@ fn intake_refuses_in_order() {
     let mut intake = Intake::open(RDFS, &roster_of(RDFS, &[10, 5, 11], 12), 1).unwrap();
     assert_eq!(intake.feed([12, 5, 11]), Err(Refusal::Code));
     assert_eq!(intake.feed([10, 6, 11]), Err(Refusal::Cover));
-    assert_eq!(intake.feed([10, 5, 11]), Ok(true));
+    assert_eq!(intake.feed([10, 5, 11]), Ok((true, 0)));
     assert_eq!(intake.feed([10, 5, 10]), Err(Refusal::Full));
     assert_eq!(intake.feed([10, 6, 11]), Err(Refusal::Cover));
     assert_eq!((intake.triples(), intake.summary()), (&[10, 5, 11][..], &[10, 5, 11][..]));
@@ -144,7 +144,7 @@ fn intake_refuses_in_order() {
 /// Feeds 10 5 11 to lists of ones with 12 codes; the status and what the lists then hold.
 fn fed(roster: &[u8], work_length: usize) -> (u32, [Vec<u32>; 4]) {
     let mut lists = [vec![1; 6], vec![1; 6], vec![1; roster.len()], vec![1; work_length]];
-    let (mut held, mut summarised, mut is_new) = (0, 0, 7);
+    let (mut held, mut summarised, mut is_new, mut place) = (0, 0, 7, 7);
     let [triples, summary, map, work] = &mut lists;
     let lent = calls::Lent {
         words: &RDFS.0,
@@ -156,8 +156,8 @@ fn fed(roster: &[u8], work_length: usize) -> (u32, [Vec<u32>; 4]) {
         held: &mut held,
         summarised: &mut summarised,
     };
-    let status = calls::feed(lent, [10, 5, 11], &mut is_new);
-    assert_eq!((held, summarised, is_new), (0, 0, 7));
+    let status = calls::feed(lent, [10, 5, 11], &mut is_new, &mut place);
+    assert_eq!((held, summarised, is_new, place), (0, 0, 7, 0));
     (status, lists)
 }
 

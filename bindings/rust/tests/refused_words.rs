@@ -1,5 +1,5 @@
 //! That every call that takes words refuses a list of another length with 1 and wrong words with 10, straight after 1, and that
-//! nothing is then altered.
+//! nothing is then altered, but for the place of a feed.
 
 mod common;
 
@@ -24,6 +24,7 @@ struct Lent {
     work: Vec<u32>,
     numbers: [usize; 2],
     answer: u32,
+    place: usize,
 }
 
 impl Lent {
@@ -38,7 +39,14 @@ impl Lent {
             work: vec![9; 28],
             numbers: [9, 9],
             answer: 9,
+            place: 9,
         }
+    }
+
+    /// The same after this call was refused: a feed has reported the place 0.
+    fn refused(name: &str, map_length: usize) -> Lent {
+        let place = if name == "feed" { 0 } else { 9 };
+        Lent { place, ..Lent::new(map_length) }
     }
 }
 
@@ -47,7 +55,8 @@ fn feed(words: &[u32], given: &Given, l: &mut Lent) -> u32 {
     let (triples, summary, map, work) = (&mut l.result, &mut l.summary, &mut l.map, &mut l.work);
     let lent = calls::Lent { words, roster: &given.roster, triples, summary, map, work, held, summarised };
     let end = given.table.len();
-    calls::feed(lent, [given.table[end - 3], given.table[end - 2], given.table[end - 1]], &mut l.answer)
+    let t = [given.table[end - 3], given.table[end - 2], given.table[end - 1]];
+    calls::feed(lent, t, &mut l.answer, &mut l.place)
 }
 
 fn open(words: &[u32], given: &Given, l: &mut Lent) -> u32 {
@@ -107,7 +116,7 @@ fn every_call_refuses_words_of_another_length_first() {
             for right in [true, false] {
                 let mut lent = Lent::new(14);
                 assert_eq!(call(words, &given(right), &mut lent), 1, "{name} {words:?}");
-                assert_eq!(lent, Lent::new(14), "{name} {words:?}");
+                assert_eq!(lent, Lent::refused(name, 14), "{name} {words:?}");
             }
         }
     }
@@ -134,7 +143,7 @@ fn every_call_refuses_wrong_words_straight_after_lengths() {
             for right in [true, false] {
                 let mut lent = Lent::new(14);
                 assert_eq!(call(&words, &given(right), &mut lent), 10, "{name} {words:?}");
-                assert_eq!(lent, Lent::new(14), "{name} {words:?}");
+                assert_eq!(lent, Lent::refused(name, 14), "{name} {words:?}");
             }
         }
     }
@@ -147,7 +156,7 @@ fn lengths_come_before_wrong_words() {
     for (name, call) in CALLS {
         let mut lent = Lent::new(13);
         assert_eq!(call(&[0, 1, 2, 3, 3], &short, &mut lent), 1, "{name}");
-        assert_eq!(lent, Lent::new(13), "{name}");
+        assert_eq!(lent, Lent::refused(name, 13), "{name}");
     }
 }
 

@@ -147,9 +147,10 @@ fn intakes_hold_the_same() {
         let table = names.triples(&SIX_SATURATED);
         let mut intake = Intake::open(names.words, &roster_of(names.words, &table, names.n), 17).unwrap();
         for t in table.chunks_exact(3).rev() {
-            assert_eq!(intake.feed([t[0], t[1], t[2]]), Ok(true));
+            assert_eq!(intake.feed([t[0], t[1], t[2]]), Ok((true, 0)));
         }
-        assert_eq!(intake.feed([table[0], table[1], table[2]]), Ok(false));
+        assert_eq!(intake.feed([table[0], table[1], table[2]]), Ok((false, 0)));
+        assert_eq!(intake.feed([table[48], table[49], table[50]]), Ok((false, 16)));
         assert_eq!(intake.triples(), table);
         assert_eq!(intake.summary(), names.triples(&SIX_SUMMARY));
         assert_eq!(intake.map(), names.list(&SIX_NODES));

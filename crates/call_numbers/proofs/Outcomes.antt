@@ -1,7 +1,8 @@
 -- Statuses and stored numbers of answers.
 -- Assumes nothing.
 use Prim.Native.Nat.{ℕ}
-use mathlib.Core.Path.{_≡_, sym, _∙_, ap}
+use mathlib.Core.Path.{_≡_, refl, sym, subst, _∙_, ap}
+use mathlib.Core.Bool.{true, false}
 use Rattle.model.specs.declared.Refusal.{Refusal}
 use Rattle.model.specs.declared.Done.{Done}
 use Rattle.model.specs.declared.Done.the-variants.{Accepted, Refused as done-refused}
@@ -9,11 +10,13 @@ use Rattle.model.specs.declared.Counted.{Counted}
 use Rattle.model.specs.declared.Counted.the-variants.{Count, Refused as counted-refused}
 use Rattle.model.specs.declared.Found.{Found}
 use Rattle.model.specs.declared.Found.the-variants.{Yes, No, Refused as found-refused}
-use Rattle.model.specs.Outcomes.{Outcome, refusalNumber, done, counted, found}
+use Rattle.model.specs.declared.Reply.{Reply}
+use Rattle.model.specs.declared.Reply.the-variants.{New, NotNew, Refused as reply-refused}
+use Rattle.model.specs.Outcomes.{Outcome, refused, accepted, refusalNumber, done, counted, found, Answer, answer, new, not-new, replied, placeOf}
 use Rattle.query.specs.declared.Asked.{Asked}
 use Rattle.query.specs.declared.Asked.the-variants.{Maybe, None, Refused as asked-refused}
 use Rattle.query.specs.Ask.{asked}
-use Rattle.call_numbers.specs.Status.{statusOf, valueOr, bits, Stores}
+use Rattle.call_numbers.specs.Status.{statusOf, valueOr, numbered, bit, bits, newBit, Stores, Reports}
 
 -- an outcome known by another name
 pub stores-as : {o p : Outcome ℕ} {before status after : ℕ} → o ≡ p → Stores o before status after → Stores p before status after
@@ -43,45 +46,64 @@ counted-refuses c before r s e h = record {
   value = sym (ap (λ (x : Counted). valueOr before (counted x)) e);
 }
 
--- ── found ──
-pub found-yes : (f : Found) (before : ℕ) → f ≡ Yes → Stores (bits (found f)) before 0 1
-unfolding found statusOf valueOr bits
-found-yes f before e = record {
-  answer = sym (ap (λ (x : Found). statusOf (bits (found x))) e);
-  value = sym (ap (λ (x : Found). valueOr before (bits (found x))) e);
-}
+-- ── answers with a place ──
+module _ {A : Type 0} (number : A → ℕ) where
+  reported : (o : Outcome (Answer A)) (x : A) (k before : ℕ) → o ≡ accepted (answer x k) → Reports number o before 0 (number x) k
+  unfolding placeOf numbered statusOf valueOr
+  reported o x k before e =
+      subst (λ (z : Outcome (Answer A)). Reports number z before 0 (number x) k) (sym e)
+      (record { stores = record { answer = refl; value = refl }; stores-place = refl })
 
-pub found-no : (f : Found) (before : ℕ) → f ≡ No → Stores (bits (found f)) before 0 0
-unfolding found statusOf valueOr bits
-found-no f before e = record {
-  answer = sym (ap (λ (x : Found). statusOf (bits (found x))) e);
-  value = sym (ap (λ (x : Found). valueOr before (bits (found x))) e);
-}
+  refused-report : (o : Outcome (Answer A)) (r s before place : ℕ) → o ≡ refused r → (s ≡ r) × (place ≡ 0) → Reports number o before s before place
+  unfolding placeOf numbered statusOf valueOr
+  refused-report o r s before place e h =
+      subst (λ (z : Outcome (Answer A)). Reports number z before s before place) (sym e)
+      (record { stores = record { answer = h .0; value = refl }; stores-place = h .1 })
 
-pub found-refuses : (f : Found) (before : ℕ) (r : Refusal) (s : ℕ) → f ≡ found-refused r → s ≡ refusalNumber r → Stores (bits (found f)) before s before
-unfolding found statusOf valueOr bits
-found-refuses f before r s e h = record {
-  answer = h ∙ sym (ap (λ (x : Found). statusOf (bits (found x))) e);
-  value = sym (ap (λ (x : Found). valueOr before (bits (found x))) e);
-}
+  pub reports-as : {o p : Outcome (Answer A)} {before status after place : ℕ} → o ≡ p → Reports number o before status after place → Reports number p before status after place
+  reports-as {before} {status} {after} {place} e R = subst (λ (z : Outcome (Answer A)). Reports number z before status after place) e R
+
+pub found-yes : (f : Found) (before k : ℕ) → f ≡ Yes k → Reports bit (found f) before 0 1 k
+unfolding found
+found-yes f before k e = reported bit (found f) true k before (ap found e)
+
+pub found-no : (f : Found) (before k : ℕ) → f ≡ No k → Reports bit (found f) before 0 0 k
+unfolding found
+found-no f before k e = reported bit (found f) false k before (ap found e)
+
+pub found-refuses : (f : Found) (before : ℕ) (r : Refusal) (s : ℕ) → f ≡ found-refused r → (place : ℕ) → (s ≡ refusalNumber r) × (place ≡ 0) → Reports bit (found f) before s before place
+unfolding found
+found-refuses f before r s e place h = refused-report bit (found f) (refusalNumber r) s before place (ap found e) h
+
+pub reply-new : (a : Reply) (before k : ℕ) → a ≡ New k → Reports newBit (replied a) before 0 1 k
+unfolding replied
+reply-new a before k e = reported newBit (replied a) new k before (ap replied e)
+
+pub reply-not-new : (a : Reply) (before k : ℕ) → a ≡ NotNew k → Reports newBit (replied a) before 0 0 k
+unfolding replied
+reply-not-new a before k e = reported newBit (replied a) not-new k before (ap replied e)
+
+pub reply-refuses : (a : Reply) (before : ℕ) (r : Refusal) (s : ℕ) → a ≡ reply-refused r → (place : ℕ) → (s ≡ refusalNumber r) × (place ≡ 0) → Reports newBit (replied a) before s before place
+unfolding replied
+reply-refuses a before r s e place h = refused-report newBit (replied a) (refusalNumber r) s before place (ap replied e) h
 
 -- ── asked ──
 pub asked-maybe : (a : Asked) (before : ℕ) → a ≡ Maybe → Stores (bits (asked a)) before 0 1
-unfolding asked statusOf valueOr bits
+unfolding asked statusOf valueOr numbered
 asked-maybe a before e = record {
   answer = sym (ap (λ (x : Asked). statusOf (bits (asked x))) e);
   value = sym (ap (λ (x : Asked). valueOr before (bits (asked x))) e);
 }
 
 pub asked-none : (a : Asked) (before : ℕ) → a ≡ None → Stores (bits (asked a)) before 0 0
-unfolding asked statusOf valueOr bits
+unfolding asked statusOf valueOr numbered
 asked-none a before e = record {
   answer = sym (ap (λ (x : Asked). statusOf (bits (asked x))) e);
   value = sym (ap (λ (x : Asked). valueOr before (bits (asked x))) e);
 }
 
 pub asked-refuses : (a : Asked) (before : ℕ) (r : Refusal) (s : ℕ) → a ≡ asked-refused r → s ≡ refusalNumber r → Stores (bits (asked a)) before s before
-unfolding asked statusOf valueOr bits
+unfolding asked statusOf valueOr numbered
 asked-refuses a before r s e h = record {
   answer = h ∙ sym (ap (λ (x : Asked). statusOf (bits (asked x))) e);
   value = sym (ap (λ (x : Asked). valueOr before (bits (asked x))) e);

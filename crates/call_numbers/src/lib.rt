@@ -3,13 +3,15 @@
 ghost use mathlib.Core.Path.{_≡_};
 ghost use lib.ListN.{length};
 ghost use Rattle.model.specs.Codes.{codes};
-ghost use Rattle.model.specs.Outcomes.{done, counted, found};
+ghost use Rattle.model.specs.Outcomes.{refusalNumber, done, counted, found, replied};
 ghost use Rattle.query.specs.Ask.{asked};
-ghost use Rattle.call_numbers.specs.Status.{statusOf, bits, Stores};
+ghost use Rattle.call_numbers.specs.Status.{statusOf, bit, bits, newBit, Stores, Reports};
 ghost use Rattle.call_numbers.specs.Words.{wordsOf};
 use model::Counted;
 use model::Done;
 use model::Found;
+use model::Refusal;
+use model::Reply;
 use model::Vocabulary;
 use model::refusal_number;
 use query::Asked;
@@ -39,20 +41,49 @@ pub fn counted_status(c: Counted, count: &mut usize) -> u32
     }
 }
 
-// Stores 1 for yes and 0 for no.
-pub fn found_status(f: Found, value: &mut u32) -> u32
-    ensures { λ s. ⌜ Stores (bits (found f)) (now (value .entry)) s (now (value .exit)) ⌝ }
+// A refusal of a call that reports a place, which is 0 then.
+pub fn refused_status(r: Refusal, place: &mut usize) -> u32
+    ensures { λ s. ⌜ (s ≡ refusalNumber r) × (now (place .exit) ≡ 0) ⌝ }
+{
+    *place = 0;
+    refusal_number(r)
+}
+
+// Stores 1 for yes and 0 for no, and the place.
+pub fn found_status(f: Found, value: &mut u32, place: &mut usize) -> u32
+    ensures { λ s. ⌜ Reports bit (found f) (now (value .entry)) s (now (value .exit)) (now (place .exit)) ⌝ }
 {
     match f {
-        Found::Yes => {
+        Found::Yes(k) => {
             *value = 1;
+            *place = k;
             0
         },
-        Found::No => {
+        Found::No(k) => {
             *value = 0;
+            *place = k;
             0
         },
-        Found::Refused(r) => refusal_number(r),
+        Found::Refused(r) => refused_status(r, place),
+    }
+}
+
+// Stores 1 for new and 0 for not new, and the place.
+pub fn reply_status(a: Reply, new: &mut u32, place: &mut usize) -> u32
+    ensures { λ s. ⌜ Reports newBit (replied a) (now (new .entry)) s (now (new .exit)) (now (place .exit)) ⌝ }
+{
+    match a {
+        Reply::New(k) => {
+            *new = 1;
+            *place = k;
+            0
+        },
+        Reply::NotNew(k) => {
+            *new = 0;
+            *place = k;
+            0
+        },
+        Reply::Refused(r) => refused_status(r, place),
     }
 }
 

@@ -10,7 +10,7 @@
 //   weak     summarises: the lengths of result, map and work list
 //   strong   the same strongly
 //   every    derive, cliques, weak and strong with lists long enough
-//   look     looks up: a triple
+//   look     looks up: the expected place, and a triple
 //   ask      how many patterns are counted, and patterns from the first on, the others zeros; the map gives each code itself
 //   zero     the same with a map that gives each code 0
 // Two lines have no expected answer.
@@ -26,6 +26,7 @@ use super::script::number;
 use super::script::numbers;
 use super::script::word_end;
 use comparison::calls;
+use comparison::calls::column;
 use comparison::calls::table_call;
 use comparison::engines::Lengths;
 use comparison::engines::junk;
@@ -189,11 +190,18 @@ fn short_is_zero(words: Vocabulary, table: &[u32], roster: &[u8], length: usize)
 }
 
 fn look_up(tally: &mut [u64; TALLY], name: &[u8], table: &[u32], row: &[u32]) {
-    let s = get(row, 1);
-    let p = get(row, 2);
-    let o = get(row, 3);
+    let s = get(row, 2);
+    let p = get(row, 3);
+    let o = get(row, 4);
     let got = calls::look_up(tally, 0, table, s, p, o);
-    small(LOOK_UP, name, get(row, 0), got);
+    small(LOOK_UP, name, get(row, 0), column(got));
+    check(
+        tally,
+        LOOK_UP,
+        0,
+        b"place",
+        got.place == get(row, 1) as usize,
+    );
 }
 
 fn ask(

@@ -1,8 +1,9 @@
-// The engine's answers as the naive one gives them: the number of a refusal, 0 for none, and a count.
+// The engine's answers as the naive one gives them: the number of a refusal, 0 for none, a count, and a place.
 use model::Counted;
 use model::Done;
 use model::Found;
 use model::Refusal;
+use model::Reply;
 use naive_lists::Answer;
 use query::Asked;
 
@@ -25,6 +26,16 @@ pub fn answer(number: u32, count: usize) -> Answer {
     Answer {
         refused: number,
         count: count,
+        place: 0,
+    }
+}
+
+// Yes or no, as a count of 1 or 0, with a place.
+fn answer_at(count: usize, place: usize) -> Answer {
+    Answer {
+        refused: 0,
+        count: count,
+        place: place,
     }
 }
 
@@ -44,9 +55,17 @@ pub fn of_counted(c: Counted) -> Answer {
 
 pub fn of_found(f: Found) -> Answer {
     match f {
-        Found::Yes => answer(0, 1),
-        Found::No => answer(0, 0),
+        Found::Yes(place) => answer_at(1, place),
+        Found::No(place) => answer_at(0, place),
         Found::Refused(r) => answer(refused(r), 0),
+    }
+}
+
+pub fn of_reply(reply: Reply) -> Answer {
+    match reply {
+        Reply::New(place) => answer_at(1, place),
+        Reply::NotNew(place) => answer_at(0, place),
+        Reply::Refused(r) => answer(refused(r), 0),
     }
 }
 

@@ -6,6 +6,7 @@ use super::engines::after;
 use comparison_report::digest::Run;
 use comparison_report::digest::Seen;
 use comparison_report::digest::answered;
+use comparison_report::digest::fold_place;
 use comparison_report::digest::same;
 use comparison_report::report::ASK;
 use comparison_report::report::LOOK_UP;
@@ -73,31 +74,37 @@ pub fn table_call(
 }
 
 // The column of a yes or no answer.
-fn column(a: Answer) -> u32 {
+pub fn column(a: Answer) -> u32 {
     if a.count == 1 {
         return YES;
     }
     a.refused
 }
 
-// Counts the answers of a call that leaves no lists; answers the engine's column.
-fn settle_answers(
-    tally: &mut [u64; TALLY],
-    call: usize,
-    seed: u64,
-    got: Answer,
-    want: Answer,
-) -> u32 {
-    let a = answered(engine(false), got.refused, got.count);
-    let b = answered(plain(false), want.refused, want.count);
-    if settle(tally, call, seed, column(got), a, b) {
-        answered(engine(true), got.refused, got.count);
-        answered(plain(true), want.refused, want.count);
-    }
-    column(got)
+// An answer and its place, folded.
+fn placed(run: Run, a: Answer) -> Seen {
+    fold_place(run, answered(run, a.refused, a.count), a.place)
 }
 
-pub fn look_up(tally: &mut [u64; TALLY], seed: u64, list: &[u32], s: u32, p: u32, o: u32) -> u32 {
+// Counts the answers of a call that leaves no lists.
+fn settle_answers(tally: &mut [u64; TALLY], call: usize, seed: u64, got: Answer, want: Answer) {
+    let a = placed(engine(false), got);
+    let b = placed(plain(false), want);
+    if settle(tally, call, seed, column(got), a, b) {
+        placed(engine(true), got);
+        placed(plain(true), want);
+    }
+}
+
+// What the engine answers.
+pub fn look_up(
+    tally: &mut [u64; TALLY],
+    seed: u64,
+    list: &[u32],
+    s: u32,
+    p: u32,
+    o: u32,
+) -> Answer {
     let t = Triple {
         subject: s,
         property: p,
@@ -105,7 +112,8 @@ pub fn look_up(tally: &mut [u64; TALLY], seed: u64, list: &[u32], s: u32, p: u32
     };
     let got = of_found(look_up::look_up(list, t));
     let want = naive_ask::look_up(list, s, p, o);
-    settle_answers(tally, LOOK_UP, seed, got, want)
+    settle_answers(tally, LOOK_UP, seed, got, want);
+    got
 }
 
 fn end_of(kind: u32, value: u32) -> End {
@@ -141,6 +149,7 @@ fn query_of(query: &[u32]) -> Query {
     }
 }
 
+// The column of what the engine answers.
 pub fn ask(
     tally: &mut [u64; TALLY],
     seed: u64,
@@ -151,5 +160,6 @@ pub fn ask(
 ) -> u32 {
     let got = of_asked(ask::ask(words, table, map, query_of(query)));
     let want = naive_ask::ask(plain_words(words), table, map, query);
-    settle_answers(tally, ASK, seed, got, want)
+    settle_answers(tally, ASK, seed, got, want);
+    column(got)
 }

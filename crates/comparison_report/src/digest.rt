@@ -56,6 +56,14 @@ pub fn answered(run: Run, refused: u32, count: usize) -> Seen {
     fold_count(fold(seen, refused as u64), count)
 }
 
+// Folds the place that a look up or a feed reports.
+pub fn fold_place(run: Run, seen: Seen, place: usize) -> Seen {
+    if run.show {
+        report::show_place(run.plain, place);
+    }
+    fold_count(seen, place)
+}
+
 fn fold_numbers(seen: Seen, list: &[u32]) -> Seen {
     let mut next = fold(seen, list.len() as u64);
     let mut i = 0;

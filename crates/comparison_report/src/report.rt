@@ -173,6 +173,13 @@ pub fn show_answer(plain: bool, refused: u32, count: usize) {
     print(b")\n");
 }
 
+// The place that an engine reported.
+pub fn show_place(plain: bool, place: usize) {
+    print_engine(plain, b"place");
+    print_value(place as u64);
+    print(b")\n");
+}
+
 // A list that an engine left, at most its first 1,000 numbers.
 pub fn show_list(plain: bool, name: &[u8], list: &[u32]) {
     let end = at_most(1000, list.len());

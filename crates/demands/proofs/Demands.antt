@@ -11,7 +11,7 @@ use Rattle.site_form.proofs.Back.{written-is-read}
 use Rattle.site_form.proofs.Queries.{counts-patterns}
 use Rattle.site_form.proofs.Example.{sign-bytes, prints-example, prints-retired}
 use Rattle.site_form.proofs.Answers.{retired-printed}
-use Rattle.demands.specs.Demands.{GraphsRight, StrongGraphsRight, ClosuresRight, Demand2, Demand3, AtRest, RosterByWords, SiteForms}
+use Rattle.demands.specs.Demands.{GraphsRight, StrongGraphsRight, ClosuresRight, Demand2, Demand3, AtRest, Places, RosterByWords, SiteForms}
 use Rattle.demands.proofs.NoneMeansNone.{none-means-none}
 use Rattle.demands.proofs.Feeds.{list-of-calls}
 use Rattle.demands.proofs.Routes.{accepted-calls, routes-of-calls, strong-routes-of-calls, shortcut-of-calls, strong-shortcut-of-calls}
@@ -77,6 +77,9 @@ at-rest =
       at-rest-of-calls = at-rest-of-calls;
       strong-at-rest-of-calls = strong-at-rest-of-calls;
     }
+
+pub places : Places
+places = record { places-right = theorems.places-right; fed-stands = theorems.fed-stands }
 
 pub roster-by-words : RosterByWords
 roster-by-words = record { word-test = word-test-exact }

@@ -20,7 +20,7 @@ use Rattle.site_form.specs.Answers.{RetiredPrinted}
 use Rattle.theory.specs.Theorems.{SaturationExact, ConstraintsFollow, CliquesExact, RepresentativesExact, SummaryExact, StrongRepresentativesExact}
 use Rattle.theory.specs.Theorems.{StrongSummaryExact, OwnRosterLeast, ShortcutHolds, RoutesAccepted, StrongShortcutHolds, StrongRoutesAccepted}
 use Rattle.theory.specs.Theorems.{WeakOfStrongHolds, AtRestHolds, StrongAtRestHolds, AgainTheSame, StrongAgainTheSame, AnyOrder, FedInAnyOrder}
-use Rattle.theory.specs.Theorems.{WholeList}
+use Rattle.theory.specs.Theorems.{WholeList, PlacesRight, FedStands}
 use Rattle.demands.specs.NoneMeansNone.{NoneMeansNone, StrongNoneMeansNone}
 use Rattle.demands.specs.Feeds.{ListOfCalls}
 use Rattle.demands.specs.Routes.{AcceptedCalls, RoutesOfCalls, StrongRoutesOfCalls, ShortcutOfCalls, StrongShortcutOfCalls, WeakOfStrongCalls}
@@ -84,6 +84,14 @@ pub record AtRest : Type 0 where
   pub leaves-saturated : (v : Vocabulary) → LeavesSaturated v
   pub at-rest-of-calls : (v : Vocabulary) → AtRestOfCalls v
   pub strong-at-rest-of-calls : (v : Vocabulary) → StrongAtRestOfCalls v
+
+-- 02: "Technicians who step through a long list want to land where a triple belongs." The contracts of look up and of feeding say which place they
+-- report, and `WholeList` says it of every list of feeds: `answers` carries the places.
+pub record Places : Type 0 where
+  -- in a rising list the place is where the triple stands or belongs
+  pub places-right : PlacesRight
+  -- after an accepted feed, new or not, the triple stands there
+  pub fed-stands : (v : Vocabulary) → FedStands v
 
 -- 02: "The check should take eight roster bytes as one u64 word at a time; show for every u64 that one test of the word passes exactly if
 -- none of its eight bytes is over 3." The code has the test in roster_values' `word_over_three`, which is called for each word; that rosters of

@@ -1,10 +1,9 @@
 -- Demand 3 over opening and feeding, as their contracts state them.
 -- Assumes nothing.
-use mathlib.Core.Bool.{Bool}
 use mathlib.Core.List.{List}
 use Prim.Native.Nat.{ℕ}
 use Rattle.model.specs.declared.Vocabulary.{Vocabulary}
-use Rattle.model.specs.Outcomes.{Outcome, accepted}
+use Rattle.model.specs.Outcomes.{Outcome, accepted, Answer, Said}
 use Rattle.model.specs.Intake.{State, Feed, Run}
 use Rattle.intake_opening.specs.Opening.{Opens}
 use Rattle.theory.specs.Theorems.{Plain}
@@ -15,5 +14,5 @@ module _ (v : Vocabulary) where
   -- `Run` asks of every feed its contract `Fed`.
   abbrev pub ListOfCalls : Type 0
   ListOfCalls =
-      (roster : List ℕ) (before empty end : State) (fs : List Feed) (os : List (Outcome Bool))
+      (roster : List ℕ) (before empty end : State) (fs : List Feed) (os : List (Outcome (Answer Said)))
       → Opens v roster before (accepted tt) empty → Run v roster empty fs os end → Plain v roster before fs os end

@@ -5,13 +5,14 @@ use super::inputs::MOST_FEEDS;
 use super::inputs::feed_at;
 ghost use Prim.Native.Nat.{_≤_};
 use comparison::answers::of_done;
-use comparison::answers::of_found;
+use comparison::answers::of_reply;
 use comparison::engines::junk;
 use comparison_report::digest::Run;
 use comparison_report::digest::Seen;
 use comparison_report::digest::fold;
 use comparison_report::digest::fold_count;
 use comparison_report::digest::fold_list;
+use comparison_report::digest::fold_place;
 use comparison_report::report::show_answer;
 use comparison_report::report::show_list;
 use intake_adding::FedCounts;
@@ -22,18 +23,21 @@ use naive_intake::Fed;
 use random_sites::random::at_most;
 use random_sites::words::plain_words;
 
-// What one call answers: a refusal's number, or 0 and a count of 1 for new; and the record's two counts.
+// What one call answers: a refusal's number, or 0 and a count of 1 for new; the place, which is 0 for an opening; and the record's two
+// counts.
 struct Step {
     refused: u32,
     count: usize,
+    place: usize,
     held: usize,
     summarised: usize,
 }
 
-// The digest of all calls so far with the last answer, the answer of the opening, the record's two counts, and how many feeds had
-// each answer.
+// The digest of all calls so far with the last answer, the last place, the answer of the opening, the record's two counts, and how many
+// feeds had each answer.
 pub struct State {
     pub seen: Seen,
+    pub place: usize,
     pub opened: u32,
     pub held: usize,
     pub summarised: usize,
@@ -46,6 +50,7 @@ fn engine_opened(left: OpenedCounts) -> Step {
     Step {
         refused: answer.refused,
         count: 0,
+        place: 0,
         held: left.counts.held,
         summarised: left.counts.summarised,
     }
@@ -57,6 +62,7 @@ fn plain_opened(refused: u32) -> Step {
         return Step {
             refused: 0,
             count: 0,
+            place: 0,
             held: 0,
             summarised: 0,
         };
@@ -64,6 +70,7 @@ fn plain_opened(refused: u32) -> Step {
     Step {
         refused: refused,
         count: 0,
+        place: 0,
         held: 70,
         summarised: 71,
     }
@@ -88,11 +95,12 @@ fn open(
 }
 
 fn engine_fed(left: FedCounts) -> Step {
-    let found = left.answer;
-    let answer = of_found(found);
+    let reply = left.answer;
+    let answer = of_reply(reply);
     Step {
         refused: answer.refused,
         count: answer.count,
+        place: answer.place,
         held: left.counts.held,
         summarised: left.counts.summarised,
     }
@@ -109,6 +117,7 @@ fn plain_fed(left: Fed) -> Step {
     Step {
         refused: left.refused,
         count: one_if(left.new),
+        place: left.place,
         held: left.held,
         summarised: left.summarised,
     }
@@ -177,7 +186,7 @@ fn show_counts(plain: bool, held: usize, summarised: usize) {
     show_list(plain, b"counts", &counts);
 }
 
-// Folds an answer and both counts.
+// Folds an answer, its place and both counts.
 fn fold_step(run: Run, seen: Seen, step: Step) -> Seen {
     if run.show {
         show_answer(run.plain, step.refused, step.count);
@@ -191,8 +200,9 @@ fn fold_step(run: Run, seen: Seen, step: Step) -> Seen {
     };
     let a = fold(next, step.refused as u64);
     let b = fold_count(a, step.count);
-    let c = fold_count(b, step.held);
-    fold_count(c, step.summarised)
+    let c = fold_place(run, b, step.place);
+    let d = fold_count(c, step.held);
+    fold_count(d, step.summarised)
 }
 
 fn fold_lists(run: Run, seen: Seen, triples: &[u32], summary: &[u32], map: &[u32]) -> Seen {
@@ -218,6 +228,7 @@ fn start() -> State {
             one: 1,
             two: 1,
         },
+        place: 0,
         opened: 0,
         held: 1,
         summarised: 1,
@@ -231,6 +242,7 @@ fn fold_opened(run: Run, step: Step, triples: &[u32], summary: &[u32], map: &[u3
     let seen = fold_step(run, state.seen, step);
     State {
         seen: fold_lists(run, seen, triples, summary, map),
+        place: step.place,
         opened: step.refused,
         held: step.held,
         summarised: step.summarised,
@@ -303,6 +315,7 @@ fn fold_fed(
     let answers = with_answer(before, step);
     State {
         seen: fold_list(run, next, b"work", work),
+        place: step.place,
         opened: state.opened,
         held: step.held,
         summarised: step.summarised,

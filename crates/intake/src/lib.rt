@@ -1,14 +1,14 @@
 // The intake: opening and feeding over lent lists and a lent record of two counts.
 
 ghost use Rattle.model.specs.Triples.{triple};
-ghost use Rattle.model.specs.Outcomes.{done, found};
+ghost use Rattle.model.specs.Outcomes.{done, replied};
 ghost use Rattle.model.specs.Intake.{Fed};
 ghost use Rattle.intake_opening.specs.Opening.{atEntry, atExit, Opens};
 use intake_feeding::feed_lists;
 use intake_opening::Counts;
 use intake_opening::open_counts;
 use model::Done;
-use model::Found;
+use model::Reply;
 use model::Vocabulary;
 
 // Opens an intake: it holds nothing.
@@ -38,7 +38,7 @@ pub fn open(
     opened.answer
 }
 
-// Feeds a triple to an intake: `Found::Yes` for a new triple, `Found::No` for one that is held.
+// Feeds a triple to an intake: whether it is new, and its place among the triples held before.
 pub fn feed(
     counts: &mut Counts,
     words: Vocabulary,
@@ -50,9 +50,9 @@ pub fn feed(
     s: u32,
     p: u32,
     o: u32,
-) -> Found
+) -> Reply
     ensures { λ r. ⌜ Fed words (now (roster .entry))
-        (atEntry triples summary map (now (counts .entry) .held) (now (counts .entry) .summarised)) (now (work .entry)) (triple s p o) (found r)
+        (atEntry triples summary map (now (counts .entry) .held) (now (counts .entry) .summarised)) (now (work .entry)) (triple s p o) (replied r)
         (atExit triples summary map (now (counts .exit) .held) (now (counts .exit) .summarised)) (now (work .exit)) ⌝ }
 {
     let fed = feed_lists(

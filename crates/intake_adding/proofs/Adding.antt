@@ -3,7 +3,7 @@
 use Prim.Native.Nat.{ℕ, _+_, _*_, _/_, _<_, _≤_}
 use mathlib.Core.Path.{_≡_, refl, sym, _∙_, ap, subst}
 use mathlib.Core.Logic.{inl, inr, ⊎-elim}
-use mathlib.Core.Bool.{Bool, true, false, not, true≢false}
+use mathlib.Core.Bool.{true, false, not, true≢false}
 use mathlib.Core.List.{List, [], List·Memᴰ as Mem}
 use native.Mathlib.Omega.{arith}
 use lib.ListN.{length}
@@ -11,7 +11,7 @@ use borrow.Author.Tests.{not-false}
 use Rattle.model.specs.declared.Triple.{Triple}
 use Rattle.model.specs.declared.Refusal.{Refusal}
 use Rattle.model.specs.declared.Refusal.the-variants.{Full}
-use Rattle.model.specs.declared.Found.the-variants.{Yes, Refused}
+use Rattle.model.specs.declared.Reply.the-variants.{New, Refused}
 use Rattle.model.specs.declared.Counted.{Counted}
 use Rattle.model.specs.declared.Counted.the-variants.{Count, Refused as counted-refused}
 use Rattle.model.specs.declared.Vocabulary.{Vocabulary}
@@ -24,7 +24,7 @@ use Rattle.model.specs.Partition.{label}
 use Rattle.model.specs.Cliques.{Node}
 use Rattle.model.specs.Classes.{mapOf}
 use Rattle.model.specs.Summary.{moved, summary}
-use Rattle.model.specs.Outcomes.{Outcome, accepted, refusalNumber, zeroed, found, counted}
+use Rattle.model.specs.Outcomes.{Outcome, accepted, Answer, answer, Said, new, refusalNumber, zeroed, replied, counted}
 use Rattle.model.specs.Intake.{State, stateOf, Valid}
 use Rattle.theory.proofs.Tests.{or-false, or-neither}
 use Rattle.theory.proofs.Checks.{no-checks, not-accepted}
@@ -107,7 +107,7 @@ module _ (v : Vocabulary) where
           (none-any (bad v roster) H (λ u m. parts-good roster u (any-none (wrongTriple v (length roster)) H (W .codes) u m) (all-at (coversTriple v roster) H (W .covered) u m)))
 
     module _ (i : ℕ) (R : FeedReady v roster triples sums map₀ work t) (low : i ≤ held) (free : held < length triples / 3) where
-      abbrev Adds : Outcome Bool → State → List ℕ → Type 0
+      abbrev Adds : Outcome (Answer Said) → State → List ℕ → Type 0
       Adds = AddCall v roster s work t i
 
       room : length roster ≤ absent
@@ -117,8 +117,8 @@ module _ (v : Vocabulary) where
       below-map = subst (λ (n : ℕ). Below n t) (sym (R .map-size)) ((codes-right v (length roster) t (R .right)) .below)
 
       -- ── held triples that are wrong ──
-      pub added-wrong : any (bad v roster) (first triples held) ≡ true → Adds (found (Refused Full)) s work
-      unfolding found refusalNumber zeroed any
+      pub added-wrong : any (bad v roster) (first triples held) ≡ true → Adds (replied (Refused Full)) s work
+      unfolding replied refusalNumber zeroed any
       added-wrong h =
           record {
             passes = inl refl;
@@ -127,8 +127,8 @@ module _ (v : Vocabulary) where
           }
 
       pub refused-wrong : any (bad v roster) (first triples held) ≡ true → (y : FedCounts) → y ≡ refusal Full held summarised
-          → Adds (found (y .answer)) (stateWith triples sums map₀ (y .counts .held) (y .counts .summarised)) work
-      refused-wrong h y e = subst (λ (y : FedCounts). Adds (found (y .answer)) (stateWith triples sums map₀ (y .counts .held) (y .counts .summarised)) work) (sym e) (added-wrong h)
+          → Adds (replied (y .answer)) (stateWith triples sums map₀ (y .counts .held) (y .counts .summarised)) work
+      refused-wrong h y e = subst (λ (y : FedCounts). Adds (replied (y .answer)) (stateWith triples sums map₀ (y .counts .held) (y .counts .summarised)) work) (sym e) (added-wrong h)
 
       module _ (m : List ℕ) (I : Inserted triples m held i t) where
         front-is : (H : List Triple) → Valid v roster s H → Bound (at triples) 0 held t i → holds t H ≡ false → first m (held + 1) ≡ insert t H
@@ -146,23 +146,23 @@ module _ (v : Vocabulary) where
         count-is H W f = omega (arith, held-is H W, insert-new t H f)
 
         -- a new triple, as `added` answers it
-        pub as-added : (y : FedCounts) (n k : ℕ) → y ≡ newHeld n k → (sums′ map′ w : List ℕ) → Adds (found Yes) (stateWith m sums′ map′ n k) w
-            → Adds (found (y .answer)) (stateWith m sums′ map′ (y .counts .held) (y .counts .summarised)) w
-        as-added y n k e sums′ map′ w A = subst (λ (y : FedCounts). Adds (found (y .answer)) (stateWith m sums′ map′ (y .counts .held) (y .counts .summarised)) w) (sym e) A
+        pub as-added : (y : FedCounts) (n k : ℕ) → y ≡ newHeld i n k → (sums′ map′ w : List ℕ) → Adds (replied (New i)) (stateWith m sums′ map′ n k) w
+            → Adds (replied (y .answer)) (stateWith m sums′ map′ (y .counts .held) (y .counts .summarised)) w
+        as-added y n k e sums′ map′ w A = subst (λ (y : FedCounts). Adds (replied (y .answer)) (stateWith m sums′ map′ (y .counts .held) (y .counts .summarised)) w) (sym e) A
 
         -- ── the summary stays ──
-        pub added-quick : Known sums summarised map₀ t → (w : List ℕ) → Cleared work w 0 (length work) → Adds (found Yes) (stateWith m sums map₀ (held + 1) summarised) w
-        unfolding found stateOf slots
+        pub added-quick : Known sums summarised map₀ t → (w : List ℕ) → Cleared work w 0 (length work) → Adds (replied (New i)) (stateWith m sums map₀ (held + 1) summarised) w
+        unfolding replied stateOf slots
         added-quick K w C =
             record {
-              passes = inr (true, refl);
-              in-any-state = alters-all s work (stateWith m sums map₀ (held + 1) summarised) w (cleared-all work w (length work) C (omega arith))
-                  (refl, omega (arith, free), omega (arith, K .fits)) (I .size, refl, refl);
+              passes = inr (answer new i, refl);
+              in-any-state = alters-all s work i low (stateWith m sums map₀ (held + 1) summarised) w (cleared-all work w (length work) C (omega arith))
+                  (refl, omega (arith, free), omega (arith, K .fits)) (record { in-triples = I .size; in-summary = refl; in-map = refl });
               steps = λ H W B f. (refl, state-is H W B f);
             }
           where
             state-is : (H : List Triple) → Valid v roster s H → Bound (at triples) 0 held t i → holds t H ≡ false
-                → stateWith m sums map₀ (held + 1) summarised ≡ stateOf v roster (length triples) (length sums) (insert t H)
+                → stateWith m sums map₀ (held + 1) summarised ≡ stateOf v roster s (insert t H)
             state-is H W B f =
                 let all : AllBelow (length roster) H = λ u k. (all-codes v (length roster) H (W .codes) u k) .below in
                 let me : Below (length roster) t = (codes-right v (length roster) t (R .right)) .below in
@@ -224,13 +224,13 @@ module _ (v : Vocabulary) where
             k-is : k ≡ length (summary v roster ts)
             k-is = let q = answer-is in cc
 
-            pub added-slow : Adds (found Yes) (stateWith m sums′ map′ (held + 1) k) work′
-            unfolding found stateOf slots
+            pub added-slow : Adds (replied (New i)) (stateWith m sums′ map′ (held + 1) k) work′
+            unfolding replied stateOf slots
             added-slow =
                 record {
-                  passes = inr (true, refl);
-                  in-any-state = alters-all s work (stateWith m sums′ map′ (held + 1) k) work′ (C .in-work ∙ left-after _ _ _ _ ok)
-                      (refl, omega (arith, free), omega (arith, k-is, few-enough)) (I .size, summary-size, map-size);
+                  passes = inr (answer new i, refl);
+                  in-any-state = alters-all s work i low (stateWith m sums′ map′ (held + 1) k) work′ (C .in-work ∙ left-after _ _ _ _ ok)
+                      (refl, omega (arith, free), omega (arith, k-is, few-enough)) (record { in-triples = I .size; in-summary = summary-size; in-map = map-size });
                   steps = λ H W B f. (refl, state-is H W B f);
                 }
               where
@@ -247,7 +247,7 @@ module _ (v : Vocabulary) where
                 map-size = ap {B = ℕ} (λ (x : List ℕ). length x) m-is ∙ length-map-of v roster ts ∙ sym (R .map-size)
 
                 state-is : (H : List Triple) → Valid v roster s H → Bound (at triples) 0 held t i → holds t H ≡ false
-                    → stateWith m sums′ map′ (held + 1) k ≡ stateOf v roster (length triples) (length sums) (insert t H)
+                    → stateWith m sums′ map′ (held + 1) k ≡ stateOf v roster s (insert t H)
                 state-is H W B f =
                     let p = front-is H W B f in
                     let x1 = list-is H W B f in

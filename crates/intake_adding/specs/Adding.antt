@@ -2,19 +2,18 @@
 -- Assumes nothing.
 use Prim.Native.Nat.{ℕ, _*_, _/_}
 use mathlib.Core.Path.{_≡_}
-use mathlib.Core.Logic.{_⊎_}
-use mathlib.Core.Bool.{Bool, true, false}
+use mathlib.Core.Bool.{true, false}
 use mathlib.Core.List.{List}
 use lib.ListN.{length}
 use Rattle.model.specs.declared.Triple.{Triple}
 use Rattle.model.specs.declared.Refusal.{Refusal}
-use Rattle.model.specs.declared.Found.the-variants.{Yes, No, Refused}
+use Rattle.model.specs.declared.Reply.the-variants.{New, NotNew, Refused}
 use Rattle.model.specs.declared.Vocabulary.{Vocabulary}
 use Rattle.model.specs.Codes.{wrongWords}
 use Rattle.model.specs.Triples.{holds, insert}
 use Rattle.model.specs.Roster.{coversTriple, wrongRoster, wrongTriple}
-use Rattle.model.specs.Outcomes.{Outcome, refused, accepted, wrongSize}
-use Rattle.model.specs.Intake.{State, stateOf, Valid, InAnyState}
+use Rattle.model.specs.Outcomes.{Outcome, accepted, Answer, answer, Said, new, wrongSize}
+use Rattle.model.specs.Intake.{State, SevenOrAccepted, stateOf, Valid, InAnyState}
 use Rattle.lists.specs.Flat.{at, Bound}
 use Rattle.intake_adding.specs.declared.FedCounts.{FedCounts}
 
@@ -22,17 +21,13 @@ use Rattle.intake_adding.specs.declared.FedCounts.{FedCounts}
 abbrev pub refusal : Refusal → ℕ → ℕ → FedCounts
 refusal r held summarised = record { answer = Refused r; counts = record { held = held; summarised = summarised } }
 
--- a triple that is held, with the counts as they were
-abbrev pub notNew : ℕ → ℕ → FedCounts
-notNew held summarised = record { answer = No; counts = record { held = held; summarised = summarised } }
+-- a triple that is held at place i, with the counts as they were
+abbrev pub notNew : ℕ → ℕ → ℕ → FedCounts
+notNew i held summarised = record { answer = NotNew i; counts = record { held = held; summarised = summarised } }
 
--- a new triple, with the counts as they are now
-abbrev pub newHeld : ℕ → ℕ → FedCounts
-newHeld held summarised = record { answer = Yes; counts = record { held = held; summarised = summarised } }
-
--- refused with 7, or taken in
-abbrev pub SevenOrTaken : Outcome Bool → Type 0
-SevenOrTaken outcome = (outcome ≡ refused 7) ⊎ ((new : Bool) × (outcome ≡ accepted new))
+-- a new triple, put in at place i, with the counts as they are now
+abbrev pub newHeld : ℕ → ℕ → ℕ → FedCounts
+newHeld i held summarised = record { answer = New i; counts = record { held = held; summarised = summarised } }
 
 module _ (v : Vocabulary) where
   -- the checks 1, 10 and 2 to 4 of a feed pass
@@ -48,8 +43,8 @@ module _ (v : Vocabulary) where
 
   module _ (roster : List ℕ) (s : State) (work : List ℕ) (t : Triple) where
     -- a new triple with its place
-    pub record AddCall (i : ℕ) (outcome : Outcome Bool) (after : State) (work-after : List ℕ) : Type 0 where
-      pub passes : SevenOrTaken outcome
+    pub record AddCall (i : ℕ) (outcome : Outcome (Answer Said)) (after : State) (work-after : List ℕ) : Type 0 where
+      pub passes : SevenOrAccepted outcome
       pub in-any-state : InAnyState s work outcome after work-after
       pub steps : (H : List Triple) → Valid v roster s H → Bound (at (s .triples)) 0 (s .held) t i → holds t H ≡ false
-          → (outcome ≡ accepted true) × (after ≡ stateOf v roster (length (s .triples)) (length (s .summary)) (insert t H))
+          → (outcome ≡ accepted (answer new i)) × (after ≡ stateOf v roster s (insert t H))

@@ -3,7 +3,7 @@
 // by `&mut`, and so it stands here once for each call.
 
 ghost use Rattle.model.specs.Triples.{triple};
-ghost use Rattle.model.specs.Outcomes.{done, found};
+ghost use Rattle.model.specs.Outcomes.{done, replied};
 ghost use Rattle.model.specs.Intake.{Fed};
 ghost use Rattle.intake_opening.specs.Opening.{atEntry, atExit, Opens};
 use intake_adding::FedCounts;
@@ -46,7 +46,7 @@ pub fn feed_by_value(
     o: u32,
 ) -> FedCounts
     ensures { λ r. ⌜ Fed words (now (roster .entry))
-        (atEntry triples summary map (counts .held) (counts .summarised)) (now (work .entry)) (triple s p o) (found (r .answer))
+        (atEntry triples summary map (counts .held) (counts .summarised)) (now (work .entry)) (triple s p o) (replied (r .answer))
         (atExit triples summary map (r .counts .held) (r .counts .summarised)) (now (work .exit)) ⌝ }
 {
     let mut record = counts;

@@ -1,7 +1,7 @@
 // Feeding a triple to an intake, with its two counts by value.
 
 ghost use Rattle.model.specs.Triples.{triple};
-ghost use Rattle.model.specs.Outcomes.{found};
+ghost use Rattle.model.specs.Outcomes.{replied};
 ghost use Rattle.model.specs.Intake.{Fed};
 ghost use Rattle.intake_opening.specs.Opening.{atEntry, atExit};
 ghost use Rattle.intake_taking.specs.Feeding.{FeedVerdict};
@@ -69,7 +69,7 @@ pub fn feed_lists(
     o: u32,
 ) -> FedCounts
     ensures { λ r. ⌜ Fed words (now (roster .entry))
-        (atEntry triples summary map held summarised) (now (work .entry)) (triple s p o) (found (r .answer))
+        (atEntry triples summary map held summarised) (now (work .entry)) (triple s p o) (replied (r .answer))
         (atExit triples summary map (r .counts .held) (r .counts .summarised)) (now (work .exit)) ⌝ }
 {
     let t = Triple {

@@ -12,14 +12,14 @@ use borrow.Author.Tests.{le-leb, lt-leb, eqb-true, not-false}
 use Rattle.model.specs.declared.Triple.{Triple}
 use Rattle.model.specs.declared.Refusal.{Refusal}
 use Rattle.model.specs.declared.Refusal.the-variants.{Length, Words, Roster, Code, Cover, Full}
-use Rattle.model.specs.declared.Found.the-variants.{No, Refused as found-refused}
+use Rattle.model.specs.declared.Reply.the-variants.{NotNew, Refused as reply-refused}
 use Rattle.model.specs.declared.Vocabulary.{Vocabulary}
 use Rattle.model.specs.Codes.{wrongWords}
-use Rattle.model.specs.Triples.{slots, holds, insert}
+use Rattle.model.specs.Triples.{slots, holds, place, insert}
 use Rattle.model.specs.Roster.{coversTriple, wrongRoster, wrongTriple}
 use Rattle.model.specs.Lists.{any}
-use Rattle.model.specs.Outcomes.{Outcome, refused, accepted, refusalNumber, found, Check, decided, checked, Passes, zeroed, wrongSize, wrongWork}
-use Rattle.model.specs.Intake.{State, judged, joins, stateOf, wrongLists, feedChecks, Valid, InAnyState, Fed}
+use Rattle.model.specs.Outcomes.{Outcome, refused, accepted, refusalNumber, Answer, answer, Said, new, not-new, replied, Check, decided, checked, Passes, zeroed, wrongSize, wrongWork}
+use Rattle.model.specs.Intake.{State, judged, afterSaying, joins, stateOf, wrongLists, intakeChecks, Valid, InAnyState, Fed}
 use Rattle.theory.proofs.Tests.{or-left, or-right, or-false, or-neither}
 use Rattle.theory.proofs.Checks.{passes-first, decided-passes, not-accepted, accepted-passes}
 use Rattle.table_checks.specs.declared.Verdict.{Verdict}
@@ -27,7 +27,7 @@ use Rattle.table_checks.specs.declared.Verdict.the-variants.{Passed, Refused}
 use Rattle.table_checks.specs.Verdicts.{verdict}
 use Rattle.table_checks.proofs.Laws.{firstOf, refused-any, kept-by}
 use Rattle.lists.specs.Flat.{at, Cleared, Place}
-use Rattle.lists.proofs.Search.{cleared-all}
+use Rattle.lists.proofs.Search.{cleared-all, place-bound}
 use Rattle.intake_adding.specs.declared.FedCounts.{FedCounts}
 use Rattle.intake_opening.specs.Opening.{wrongLengths, stateWith}
 use Rattle.intake_insertion.specs.Places.{StandsAt}
@@ -43,7 +43,7 @@ module _ (v : Vocabulary) where
     lengths = wrongLengths (length roster) (length triples) (length sums) (length map₀)
 
     abbrev tests : ℕ → ℕ → List Check
-    tests held summarised = feedChecks v roster (stateWith triples sums map₀ held summarised) (record { triple = t; work = length work })
+    tests held summarised = intakeChecks v roster (stateWith triples sums map₀ held summarised) t (length work)
 
     abbrev Is : Verdict → Type 0
     Is = FeedVerdict v roster triples sums map₀ work t
@@ -51,7 +51,7 @@ module _ (v : Vocabulary) where
     outcome-is : {a w b c d : Bool} → (lengths || wrongWork (length roster) (length work)) ≡ a → wrongWords v (length roster) ≡ w
         → wrongRoster v roster ≡ b → wrongTriple v (length roster) t ≡ c → not (coversTriple v roster t) ≡ d
         → (held summarised : ℕ) → checked (tests held summarised) tt ≡ firstOf a w b c d
-    unfolding feedChecks decided wrongLists wrongLengths slots
+    unfolding intakeChecks decided wrongLists wrongLengths slots
     outcome-is p w q r s held summarised = λ i. firstOf (p i) (w i) (q i) (r i) (s i)
 
     by-length : (lengths || wrongWork (length roster) (length work)) ≡ true → Is (Refused Length)
@@ -92,30 +92,31 @@ module _ (v : Vocabulary) where
     abbrev s : State
     s = stateWith triples sums map₀ held summarised
 
-    abbrev Takes : Outcome Bool → State → List ℕ → Type 0
+    abbrev Takes : Outcome (Answer Said) → State → List ℕ → Type 0
     Takes = Taken v roster s work t
 
     full : InAnyState s work (refused 7) s work
     unfolding zeroed any
     full = alters-nothing s work 7 refl
 
-    judged-is : (a b : Bool) (H : List Triple) → holds t H ≡ a → leb (slots triples) (length H) ≡ b → judged v roster (slots triples) H t ≡ cond a (accepted false) (cond b (refused 7) (accepted true))
+    judged-is : (a b : Bool) (H : List Triple) → holds t H ≡ a → leb (slots triples) (length H) ≡ b → judged (slots triples) H t
+        ≡ cond a (accepted (answer not-new (place t H))) (cond b (refused 7) (accepted (answer new (place t H))))
     unfolding judged
-    judged-is a b H p q = λ i. cond (p i) (accepted false) (cond (q i) (refused 7) (accepted true))
+    judged-is a b H p q = λ i. cond (p i) (accepted (answer not-new (place t H))) (cond (q i) (refused 7) (accepted (answer new (place t H))))
 
-    joins-new : (H : List Triple) → insert t H ≡ joins v roster (accepted true) t H
-    unfolding joins
-    joins-new H = refl
+    joins-new : (H : List Triple) (i : ℕ) → insert t H ≡ joins (accepted (answer new i)) t H
+    unfolding joins afterSaying
+    joins-new H i = refl
 
     -- an answer with the counts as they were is what `refuse` and `not_new` give
     pub taken-is : (y z : FedCounts) → y ≡ z → (w : List ℕ)
-        → Takes (found (z .answer)) (stateWith triples sums map₀ (z .counts .held) (z .counts .summarised)) w
-        → Takes (found (y .answer)) (stateWith triples sums map₀ (y .counts .held) (y .counts .summarised)) w
-    taken-is y z e w T = subst (λ (x : FedCounts). Takes (found (x .answer)) (stateWith triples sums map₀ (x .counts .held) (x .counts .summarised)) w) (sym e) T
+        → Takes (replied (z .answer)) (stateWith triples sums map₀ (z .counts .held) (z .counts .summarised)) w
+        → Takes (replied (y .answer)) (stateWith triples sums map₀ (y .counts .held) (y .counts .summarised)) w
+    taken-is y z e w T = subst (λ (x : FedCounts). Takes (replied (x .answer)) (stateWith triples sums map₀ (x .counts .held) (x .counts .summarised)) w) (sym e) T
 
     -- more triples than slots: an intake altered by hand
-    pub taken-over : length triples / 3 < held → Takes (found (found-refused Full)) s work
-    unfolding found refusalNumber slots
+    pub taken-over : length triples / 3 < held → Takes (replied (reply-refused Full)) s work
+    unfolding replied refusalNumber slots
     taken-over h =
         record {
           passes = inl refl;
@@ -129,19 +130,28 @@ module _ (v : Vocabulary) where
           let up = rising v roster triples sums map₀ work held summarised t H W in
           ap (holds t) (sym (first-is v roster triples sums map₀ work held summarised t H W)) ∙ sym (S .exact up (P .bound up)) ∙ e
 
+      -- the place that was found is the number of held triples that come before t
+      place-is : (H : List Triple) → Valid v roster s H → place t H ≡ i
+      place-is H W =
+          ap (place t) (sym (first-is v roster triples sums map₀ work held summarised t H W))
+          ∙ place-bound (at triples) held i t (P .bound (rising v roster triples sums map₀ work held summarised t H W))
+
+      answered : (x : Said) (H : List Triple) → Valid v roster s H → _≡_ {A = Outcome (Answer Said)} (accepted (answer x i)) (accepted (answer x (place t H)))
+      answered x H W = λ j. accepted (answer x (sym (place-is H W) j))
+
       -- the triple is held
-      pub taken-same : r ≡ true → (w : List ℕ) → Cleared work w 0 (length work) → Takes (found No) s w
-      unfolding found joins
+      pub taken-same : r ≡ true → (w : List ℕ) → Cleared work w 0 (length work) → Takes (replied (NotNew i)) s w
+      unfolding replied joins afterSaying
       taken-same e w C =
           record {
-            passes = inr (false, refl);
-            in-any-state = alters-work s work w (cleared-all work w (length work) C (omega arith));
-            steps = λ H W. (sym (judged-is true (leb (slots triples) (length H)) H (holds-is true e H W) refl), W .is-state);
+            passes = inr (answer not-new i, refl);
+            in-any-state = alters-work s work i (P .high) w (cleared-all work w (length work) C (omega arith));
+            steps = λ H W. (answered not-new H W ∙ sym (judged-is true (leb (slots triples) (length H)) H (holds-is true e H W) refl), W .is-state);
           }
 
       -- the intake is full
-      pub taken-full : r ≡ false → length triples / 3 ≤ held → Takes (found (found-refused Full)) s work
-      unfolding found refusalNumber joins slots
+      pub taken-full : r ≡ false → length triples / 3 ≤ held → Takes (replied (reply-refused Full)) s work
+      unfolding replied refusalNumber joins slots
       taken-full e h =
           record {
             passes = inl refl;
@@ -153,17 +163,17 @@ module _ (v : Vocabulary) where
           }
 
       -- the triple is new
-      pub taken-new : r ≡ false → held < length triples / 3 → (o : Outcome Bool) (after : State) (w : List ℕ) → AddCall v roster s work t i o after w → Takes o after w
+      pub taken-new : r ≡ false → held < length triples / 3 → (o : Outcome (Answer Said)) (after : State) (w : List ℕ) → AddCall v roster s work t i o after w → Takes o after w
       unfolding slots
       taken-new e h o after w A = record { passes = A .passes; in-any-state = A .in-any-state; steps = steps }
         where
           steps : (H : List Triple) → Valid v roster s H
-              → (o ≡ judged v roster (slots triples) H t) × (after ≡ stateOf v roster (length triples) (length sums) (joins v roster o t H))
+              → (o ≡ judged (slots triples) H t) × (after ≡ stateOf v roster s (joins o t H))
           steps H W =
               let q = holds-is false e H W in
               let z = A .steps H W (P .bound (rising v roster triples sums map₀ work held summarised t H W)) q in (
-                z .0 ∙ sym (judged-is false false H q (lt-leb (length triples / 3) (length H) (omega (arith, held-is v roster triples sums map₀ work held summarised t H W)))),
-                z .1 ∙ ap (stateOf v roster (length triples) (length sums)) (joins-new H ∙ ap (λ (x : Outcome Bool). joins v roster x t H) (sym (z .0))),
+                z .0 ∙ answered new H W ∙ sym (judged-is false false H q (lt-leb (length triples / 3) (length H) (omega (arith, held-is v roster triples sums map₀ work held summarised t H W)))),
+                z .1 ∙ ap (stateOf v roster s) (joins-new H i ∙ ap (λ (x : Outcome (Answer Said)). joins x t H) (sym (z .0))),
               )
 
     -- ── the whole feed ──
@@ -177,8 +187,8 @@ module _ (v : Vocabulary) where
         unfolding verdict
         decides = sym (J held summarised) ∙ ap verdict e
 
-        refuses-any : (rest : Outcome Bool) → decided cs rest ≡ refused (refusalNumber r)
-        unfolding feedChecks
+        refuses-any : (rest : Outcome (Answer Said)) → decided cs rest ≡ refused (refusalNumber r)
+        unfolding intakeChecks
         refuses-any rest = refused-any cs [] tt (refusalNumber r) rest decides
 
         not-passed : Passes cs → ⊥
@@ -190,18 +200,18 @@ module _ (v : Vocabulary) where
             (wrongRoster v roster) (wrongTriple v (length roster) t) (not (coversTriple v roster t)) (refusalNumber r)
             (sym decides ∙ outcome-is roster triples sums map₀ work t refl refl refl refl refl held summarised)
 
-        refused-feed : Fed v roster s work t (found (found-refused r)) s work
-        unfolding found joins
+        refused-feed : Fed v roster s work t (replied (reply-refused r)) s work
+        unfolding replied joins
         refused-feed =
             record {
-              refuses = λ k. sym (refuses-any (accepted false));
+              refuses = λ k. sym (refuses-any (refused 7));
               passes = λ k. absurd (not-passed k);
               in-any-state = alters-nothing s work (refusalNumber r) keeps;
-              steps = λ H W. (sym (refuses-any (judged v roster (slots triples) H t)), W .is-state);
+              steps = λ H W. (sym (refuses-any (judged (slots triples) H t)), W .is-state);
             }
 
-        pub by-refusal : (y : FedCounts) → y ≡ refusal r held summarised → Fed v roster s work t (found (y .answer)) (stateWith triples sums map₀ (y .counts .held) (y .counts .summarised)) work
-        by-refusal y q = subst (λ (y : FedCounts). Fed v roster s work t (found (y .answer)) (stateWith triples sums map₀ (y .counts .held) (y .counts .summarised)) work) (sym q) refused-feed
+        pub by-refusal : (y : FedCounts) → y ≡ refusal r held summarised → Fed v roster s work t (replied (y .answer)) (stateWith triples sums map₀ (y .counts .held) (y .counts .summarised)) work
+        by-refusal y q = subst (λ (y : FedCounts). Fed v roster s work t (replied (y .answer)) (stateWith triples sums map₀ (y .counts .held) (y .counts .summarised)) work) (sym q) refused-feed
 
       -- no check fails
       module _ (e : x ≡ Passed) where
@@ -210,7 +220,7 @@ module _ (v : Vocabulary) where
         passes = accepted-passes cs tt tt (sym (J held summarised) ∙ ap verdict e)
 
         pub ready : FeedReady v roster triples sums map₀ work t
-        unfolding feedChecks wrongLists wrongWork slots
+        unfolding intakeChecks wrongLists wrongWork slots
         ready =
             let p = passes-first _ _ passes in
             let q = passes-first _ _ (p .1) in
@@ -231,11 +241,11 @@ module _ (v : Vocabulary) where
               work-size = eqb-true _ _ (not-false _ (l .1));
             }
 
-        pub by-taking : (o : Outcome Bool) (after : State) (w : List ℕ) → Takes o after w → Fed v roster s work t o after w
+        pub by-taking : (o : Outcome (Answer Said)) (after : State) (w : List ℕ) → Takes o after w → Fed v roster s work t o after w
         by-taking o after w T =
             record {
               refuses = λ k. absurd (true≢false (sym k ∙ passes));
               passes = λ k. T .passes;
               in-any-state = T .in-any-state;
-              steps = λ H W. let z = T .steps H W in (z .0 ∙ sym (decided-passes cs (judged v roster (slots triples) H t) passes), z .1);
+              steps = λ H W. let z = T .steps H W in (z .0 ∙ sym (decided-passes cs (judged (slots triples) H t) passes), z .1);
             }

@@ -1,6 +1,6 @@
 // A feed that no check refuses: the triple's place, whether it is held, and taking it in.
 
-ghost use Rattle.model.specs.Outcomes.{found};
+ghost use Rattle.model.specs.Outcomes.{replied};
 ghost use Rattle.intake_opening.specs.Opening.{atEntry, atExit};
 ghost use Rattle.intake_adding.specs.Adding.{FeedReady};
 ghost use Rattle.intake_taking.specs.Feeding.{Taken};
@@ -29,7 +29,7 @@ pub fn take_in(
 ) -> FedCounts
     requires { ⌜ FeedReady words (now roster) (now triples) (now summary) (now map) (now work) t ⌝ }
     ensures { λ r. ⌜ Taken words (now (roster .entry))
-        (atEntry triples summary map held summarised) (now (work .entry)) t (found (r .answer))
+        (atEntry triples summary map held summarised) (now (work .entry)) t (replied (r .answer))
         (atExit triples summary map (r .counts .held) (r .counts .summarised)) (now (work .exit)) ⌝ }
 {
     let slots = triples.len() / 3;
@@ -39,7 +39,7 @@ pub fn take_in(
     let i = lower_bound(triples, 0, held, t);
     if stands_at(triples, held, i, t) {
         clear(work, 0, work.len());
-        return not_new(held, summarised);
+        return not_new(i, held, summarised);
     }
     if held < slots {
         return add(

@@ -1,7 +1,7 @@
 -- Binary search over places in rising order, and clearing.
 -- Assumes nothing.
 use Prim.Native.Nat.{ℕ, _+_, _-_, _<_, _≤_}
-use mathlib.Core.Bool.{true, false, true≢false}
+use mathlib.Core.Bool.{Bool, true, false, true≢false}
 use mathlib.Core.Path.{_≡_, refl, sym, _∙_, ap, subst}
 use mathlib.Core.Logic.{⊎-elim}
 use mathlib.Core.List.{List, List·Memᴰ as Mem}
@@ -10,11 +10,12 @@ use lib.ListN.{length, getD, set, length-set, replicate, length-replicate, getD-
 use lib.Seq.{getD-set-same, getD-set-other, ext-getD}
 use Rattle.model.specs.declared.Triple.{Triple}
 use Rattle.model.specs.Codes.{absent}
-use Rattle.model.specs.Lists.{tabulate, zeros}
-use Rattle.model.specs.Triples.{before, same, holds}
+use Rattle.model.specs.Lists.{howMany, tabulate, zeros}
+use Rattle.model.specs.Triples.{before, same, holds, place}
 use Rattle.model.specs.Order.{Lt}
 use Rattle.theory.proofs.Tests.{bool-cases, not-true-false}
 use Rattle.theory.proofs.Lists.{tabulate-mem, mem-tabulate}
+use Rattle.theory.proofs.Runs.{many-parts, run-many-all, run-many-none}
 use Rattle.theory.proofs.Order.{lt-trans, lt-irrefl, before-lt, lt-before, same-eq, same-refl, mem-holds, holds-mem}
 use Rattle.lists.specs.Flat.{RisingPart, Bound, Place, Cleared, Emptied}
 use Rattle.lists.proofs.Compare.{Cmp, lt, eq, gt, cmp}
@@ -52,6 +53,17 @@ module _ (f : ℕ → Triple) (a b : ℕ) (t : Triple) (low high : ℕ) (r : Ris
 pub bracket-end : (f : ℕ → Triple) (a b : ℕ) (t : Triple) (low high : ℕ) → Bracket f a b t low high → high ≤ low → Bound f a b t low
 bracket-end f a b t low high w e =
     record { low = w .from; high = omega (arith, w .to, w .within); below = w .below; above = λ i p q. w .above i (omega (arith, w .within)) q }
+
+-- what parts the places is the number of triples that come before t
+pub place-bound : (f : ℕ → Triple) (n i : ℕ) (t : Triple) → Bound f 0 n t i → place t (tabulate f 0 n) ≡ i
+unfolding place
+place-bound f n i t b =
+    let early : Triple → Bool = λ u. before u t in
+    let high = b .high in
+    let parts : n ≡ i + (n - i) = omega arith in
+    let front = run-many-all early f 0 i (λ k l m. lt-before (f k) t (b .below k l (omega arith))) in
+    let back = run-many-none early f (0 + i) (n - i) (λ k l m. b .above k (omega arith) (omega arith)) in
+    ap (λ (k : ℕ). howMany early (tabulate f 0 k)) parts ∙ omega (arith, many-parts early f 0 i (n - i), front, back)
 
 -- a place between low and high, where the places are in rising order
 pub record Searching (f : ℕ → Triple) (a b : ℕ) (t : Triple) (low high : ℕ) : Type 0 where

@@ -12,13 +12,13 @@ use Rattle.model.specs.declared.Triple.{Triple}
 use Rattle.model.specs.declared.Vocabulary.{Vocabulary}
 use Rattle.model.specs.Codes.{wrongWords}
 use Rattle.model.specs.Lists.{zeros}
-use Rattle.model.specs.Triples.{triples, slots, holds, listed}
+use Rattle.model.specs.Triples.{triples, slots, holds, place, listed}
 use Rattle.model.specs.Roster.{covers, ownRoster, wrongRoster, wrongCodes}
 use Rattle.model.specs.Saturation.{saturation}
 use Rattle.model.specs.Cliques.{Side, source, target, cliques}
 use Rattle.model.specs.Classes.{mapOf, strongMapOf}
 use Rattle.model.specs.Summary.{condensed}
-use Rattle.model.specs.Outcomes.{Outcome, Check, check, checked, Passes, left, wrongSize, wrongLength, wrongWork}
+use Rattle.model.specs.Outcomes.{Outcome, Answer, answer, Check, check, checked, Passes, left, wrongSize, wrongLength, wrongWork}
 
 module _ (v : Vocabulary) where
   -- the checks 1, 10, 2, 3, 4 of a table with a word table and a roster; `lengths` says that another lent list has a wrong length
@@ -111,5 +111,6 @@ module _ (v : Vocabulary) where
   strongSummariseLeaves table roster result map work = summariseLeavesBy (strongMapOf v roster (triples table)) table roster result map work
 
 -- ── look up: list, triple ──
-unfoldable pub lookUpOutcome : List ℕ → Triple → Outcome Bool
-lookUpOutcome list t = checked (check 1 (wrongLength (length list)) ∷ []) (holds t (triples list))
+-- 01: "whether a triple is in a list"; 02: "Look up now returns yes or no and a place"
+unfoldable pub lookUpOutcome : List ℕ → Triple → Outcome (Answer Bool)
+lookUpOutcome list t = checked (check 1 (wrongLength (length list)) ∷ []) (answer (holds t (triples list)) (place t (triples list)))

@@ -11,12 +11,12 @@ use Rattle.model.specs.declared.Triple.{Triple}
 use Rattle.model.specs.declared.Vocabulary.{Vocabulary}
 use Rattle.model.specs.Codes.{wrongWords, absent, mostTriples}
 use Rattle.model.specs.Lists.{any, zeros}
-use Rattle.model.specs.Triples.{slots, holds, insert, listed}
+use Rattle.model.specs.Triples.{slots, holds, place, insert, listed}
 use Rattle.model.specs.Order.{Rising}
 use Rattle.model.specs.Roster.{coversTriple, covers, wrongRoster, wrongTriple, wrongCodes}
 use Rattle.model.specs.Classes.{mapOf}
 use Rattle.model.specs.Summary.{summary}
-use Rattle.model.specs.Outcomes.{Outcome, refused, accepted, Check, check, decided, checked, left, wrongSize, wrongWork}
+use Rattle.model.specs.Outcomes.{Outcome, refused, accepted, Answer, answer, Said, new, not-new, placeOf, Check, check, decided, checked, Passes, left, wrongSize, wrongWork}
 
 -- what is lent to every call of an intake: two triple lists, the map and the record of two counts
 pub record State : Type 0 where
@@ -31,58 +31,85 @@ pub record Feed : Type 0 where
   pub triple : Triple
   pub work : ℕ
 
+-- where no check fails: refused with 7, or accepted
+abbrev pub SevenOrAccepted : Outcome (Answer Said) → Type 0
+SevenOrAccepted outcome = (outcome ≡ refused 7) ⊎ ((x : Answer Said) × (outcome ≡ accepted x))
+
+-- the answer is "new"
+unfoldable pub isNew : Outcome (Answer Said) → Bool
+isNew (refused r) = false
+isNew (accepted x) = saysNew (x .says)
+  where
+    saysNew : Said → Bool
+    saysNew new = true
+    saysNew not-new = false
+
+-- every list of the state keeps its length
+pub record Kept (s after : State) : Type 0 where
+  pub in-triples : length (after .triples) ≡ length (s .triples)
+  pub in-summary : length (after .summary) ≡ length (s .summary)
+  pub in-map : length (after .map) ≡ length (s .map)
+
 -- What holds of a feed's outcome, the state after it and the work list after it whatever the state was, altered by hand or not.
-pub record InAnyState (s : State) (work : List ℕ) (outcome : Outcome Bool) (after : State) (work-after : List ℕ) : Type 0 where
+pub record InAnyState (s : State) (work : List ℕ) (outcome : Outcome (Answer Said)) (after : State) (work-after : List ℕ) : Type 0 where
   -- only a new triple alters the state
-  pub unaltered : (outcome ≡ accepted true → ⊥) → after ≡ s
+  pub unaltered : isNew outcome ≡ false → after ≡ s
   -- the work list is zero after "new" and "not new", and as it was after a refusal (a feed gives neither 5 nor 8)
   pub work-is : work-after ≡ left outcome work (zeros (length work))
   -- with a new triple one more is held, and both counts are at most the slots
-  pub counts-fit : outcome ≡ accepted true → (after .held ≡ s .held + 1) × (after .held ≤ slots (s .triples)) × (after .summarised ≤ slots (s .summary))
-  -- every list keeps its length
-  pub kept : (length (after .triples) ≡ length (s .triples)) × (length (after .summary) ≡ length (s .summary)) × (length (after .map) ≡ length (s .map))
+  pub counts-fit : isNew outcome ≡ true → (after .held ≡ s .held + 1) × (after .held ≤ slots (s .triples)) × (after .summarised ≤ slots (s .summary))
+  -- the place is at most the number of triples held before the call
+  pub place-fits : placeOf outcome ≤ s .held
+  pub kept : Kept s after
+
+-- ── the plain intake, once its checks have passed ──
+-- 01: "the triple in H, "not new"; H as large as the slots, 7; else the triple joins H, "new"" (H is kept in rising order)
+-- 02: "The plain intake's answers carry the place too, counted in H."
+unfoldable pub judged : ℕ → List Triple → Triple → Outcome (Answer Said)
+judged room H t =
+    cond (holds t H) (accepted (answer not-new (place t H)))
+    (cond (leb room (length H)) (refused 7) (accepted (answer new (place t H))))
+
+-- 01: "else the triple joins H, .. Every other feed leaves H alone."
+unfoldable pub afterSaying : Said → Triple → List Triple → List Triple
+afterSaying new t H = insert t H
+afterSaying not-new t H = H
+
+unfoldable pub joins : Outcome (Answer Said) → Triple → List Triple → List Triple
+joins (refused r) t H = H
+joins (accepted x) t H = afterSaying (x .says) t H
 
 module _ (v : Vocabulary) (roster : List ℕ) where
   -- ── the plain intake ──
-  -- 01: "the triple in H, "not new"; H as large as the slots, 7; else the triple joins H, "new""
-  -- (accepted true is "new", accepted false is "not new"; H is kept in rising order)
-  unfoldable pub judged : ℕ → List Triple → Triple → Outcome Bool
-  judged room H t = cond (holds t H) (accepted false) (cond (leb room (length H)) (refused 7) (accepted true))
-
   -- 01: "A feed is judged in this order: work list length not 2 × N, answer 1; a code not below N, or reserved as subject or object, 3;
   -- the triple not covered, 4; .."
-  unfoldable pub answer : ℕ → List Triple → Feed → Outcome Bool
-  answer room H f =
-      decided
-      (check 1 (wrongWork (length roster) (f .work))
+  abbrev pub plainChecks : Feed → List Check
+  plainChecks f =
+      check 1 (wrongWork (length roster) (f .work))
       ∷ check 3 (wrongTriple v (length roster) (f .triple))
       ∷ check 4 (not (coversTriple v roster (f .triple)))
-      ∷ [])
-      (judged room H (f .triple))
+      ∷ []
 
-  -- 01: "else the triple joins H, .. Every other feed leaves H alone."
-  unfoldable pub joins : Outcome Bool → Triple → List Triple → List Triple
-  joins (refused r) t H = H
-  joins (accepted false) t H = H
-  joins (accepted true) t H = insert t H
+  unfoldable pub replyTo : ℕ → List Triple → Feed → Outcome (Answer Said)
+  replyTo room H f = decided (plainChecks f) (judged room H (f .triple))
 
   -- the answers to a list of feeds, and what is held after it
-  unfoldable pub answers : ℕ → List Feed → List Triple → List (Outcome Bool)
+  unfoldable pub answers : ℕ → List Feed → List Triple → List (Outcome (Answer Said))
   answers room [] H = []
-  answers room (f ∷ fs) H = answer room H f ∷ answers room fs (joins (answer room H f) (f .triple) H)
+  answers room (f ∷ fs) H = replyTo room H f ∷ answers room fs (joins (replyTo room H f) (f .triple) H)
 
   unfoldable pub heldAfter : ℕ → List Feed → List Triple → List Triple
   heldAfter room [] H = H
-  heldAfter room (f ∷ fs) H = heldAfter room fs (joins (answer room H f) (f .triple) H)
+  heldAfter room (f ∷ fs) H = heldAfter room fs (joins (replyTo room H f) (f .triple) H)
 
-  -- ── the lists and the record of an intake that holds H ──
+  -- ── the lists and the record of an intake that holds H, both triple lists as long as in s; nothing else of s enters ──
   -- 01: "the triple list is H in rising order, the summary list H's summary, both zero beyond, the map is H's, and the record's two
   -- counts are the sizes of H and of its summary"
-  unfoldable pub stateOf : ℕ → ℕ → List Triple → State
-  stateOf a b H =
+  unfoldable pub stateOf : State → List Triple → State
+  stateOf s H =
       record {
-        triples = listed a H;
-        summary = listed b (summary v roster H);
+        triples = listed (length (s .triples)) H;
+        summary = listed (length (s .summary)) (summary v roster H);
         map = mapOf v roster H;
         held = length H;
         summarised = length (summary v roster H);
@@ -115,13 +142,14 @@ module _ (v : Vocabulary) (roster : List ℕ) where
   openLeaves (accepted x) s = opened s
 
   -- ── feeding: 01, "feeding 1 to 4 and 7"; 02: 10 straight after 1 ──
-  unfoldable pub feedChecks : State → Feed → List Check
-  feedChecks s f =
-      check 1 (wrongLists s || wrongWork (length roster) (f .work))
+  -- (by the triple and the length of the work list)
+  unfoldable pub intakeChecks : State → Triple → ℕ → List Check
+  intakeChecks s t work =
+      check 1 (wrongLists s || wrongWork (length roster) work)
       ∷ check 10 (wrongWords v (length roster))
       ∷ check 2 (wrongRoster v roster)
-      ∷ check 3 (wrongTriple v (length roster) (f .triple))
-      ∷ check 4 (not (coversTriple v roster (f .triple)))
+      ∷ check 3 (wrongTriple v (length roster) t)
+      ∷ check 4 (not (coversTriple v roster t))
       ∷ []
 
   -- the state is the one that opening with this word table and roster and feeds leave, and it holds H; 02: another word table "than at
@@ -131,26 +159,23 @@ module _ (v : Vocabulary) (roster : List ℕ) where
     pub fits : length H ≤ slots (s .triples)
     pub codes : wrongCodes v (length roster) H ≡ false
     pub covered : covers v roster H ≡ true
-    pub is-state : s ≡ stateOf (length (s .triples)) (length (s .summary)) H
+    pub is-state : s ≡ stateOf s H
 
   -- What a feed promises.
-  pub record Fed (s : State) (work : List ℕ) (t : Triple) (outcome : Outcome Bool) (after : State) (work-after : List ℕ) : Type 0 where
-    -- the refusals 1, 10, 2, 3, 4, for every state; by `in-any-state` they alter nothing
-    pub refuses : any (λ (c : Check). c .fails) (feedChecks s (record { triple = t; work = length work })) ≡ true
-        → outcome ≡ decided (feedChecks s (record { triple = t; work = length work })) (accepted false)
+  pub record Fed (s : State) (work : List ℕ) (t : Triple) (outcome : Outcome (Answer Said)) (after : State) (work-after : List ℕ) : Type 0 where
+    -- the refusals 1, 10, 2, 3, 4, for every state; by `in-any-state` they alter nothing (a check fails, so the last 7 is never reached)
+    pub refuses : any (λ (c : Check). c .fails) (intakeChecks s t (length work)) ≡ true → outcome ≡ decided (intakeChecks s t (length work)) (refused 7)
     -- where no check fails, for every state: no refusal but 7
-    pub passes : any (λ (c : Check). c .fails) (feedChecks s (record { triple = t; work = length work })) ≡ false
-        → (outcome ≡ refused 7) ⊎ ((new : Bool) × (outcome ≡ accepted new))
-    -- Open for an altered state that passes the checks: which of "new", "not new" and 7 is answered; and after "new" the contents of the two
-    -- lists and the map, and the count of the summary. What holds of every state, altered or not:
+    pub passes : Passes (intakeChecks s t (length work)) → SevenOrAccepted outcome
+    -- Open for an altered state that passes the checks: which of "new", "not new" and 7 is answered, with which place; and after "new" the
+    -- contents of the two lists and the map, and the count of the summary. What holds of every state, altered or not:
     pub in-any-state : InAnyState s work outcome after work-after
     -- what holds besides of a state that holds H
     pub steps : (H : List Triple) → Valid s H
-        → (outcome ≡ decided (feedChecks s (record { triple = t; work = length work })) (judged (slots (s .triples)) H t))
-        × (after ≡ stateOf (length (s .triples)) (length (s .summary)) (joins outcome t H))
+        → (outcome ≡ decided (intakeChecks s t (length work)) (judged (slots (s .triples)) H t)) × (after ≡ stateOf s (joins outcome t H))
 
   -- ── a list of feeds, each lent what the call before left ──
-  pub data Run : State → List Feed → List (Outcome Bool) → State → Type 0 where
+  pub data Run : State → List Feed → List (Outcome (Answer Said)) → State → Type 0 where
     none : {s : State} → Run s [] [] s
-    then-fed : {s after end : State} {t : Triple} {outcome : Outcome Bool} {fs : List Feed} {os : List (Outcome Bool)} (work work-after : List ℕ)
+    then-fed : {s after end : State} {t : Triple} {outcome : Outcome (Answer Said)} {fs : List Feed} {os : List (Outcome (Answer Said))} (work work-after : List ℕ)
         → Fed s work t outcome after work-after → Run after fs os end → Run s (record { triple = t; work = length work } ∷ fs) (outcome ∷ os) end

@@ -1,6 +1,7 @@
--- Lists: tests over all elements, all results of a function, the values of a function at 0, 1, ..
+-- Lists: tests over all elements, how many pass, all results of a function, the values of a function at 0, 1, .., and the first number that
+-- passes a test.
 -- Assumes nothing.
-use Prim.Native.Nat.{ℕ, zero, suc, _-_, _<_, _≤_}
+use Prim.Native.Nat.{ℕ, zero, suc, _+_, _-_, _<_, _≤_}
 use mathlib.Core.Path.{_≡_}
 use mathlib.Core.Bool.{Bool, true, false, cond, _&&_, _||_}
 use mathlib.Core.List.{List, [], _∷_, _++_}
@@ -15,6 +16,11 @@ module _ {A : Type 0} where
   unfoldable pub all : (A → Bool) → List A → Bool
   all f [] = true
   all f (x ∷ xs) = f x && all f xs
+
+  -- how many elements pass the test
+  unfoldable pub howMany : (A → Bool) → List A → ℕ
+  howMany f [] = 0
+  howMany f (x ∷ xs) = cond (f x) 1 0 + howMany f xs
 
 module _ {A B : Type 0} where
   -- what f gives of each element, one after the other

@@ -14,6 +14,8 @@ use Rattle.model.specs.declared.Counted.{Counted}
 use Rattle.model.specs.declared.Counted.the-variants.{Count, Refused as counted-refused}
 use Rattle.model.specs.declared.Found.{Found}
 use Rattle.model.specs.declared.Found.the-variants.{Yes, No, Refused as found-refused}
+use Rattle.model.specs.declared.Reply.{Reply}
+use Rattle.model.specs.declared.Reply.the-variants.{New, NotNew, Refused as reply-refused}
 use Rattle.model.specs.Codes.{smallestSize, largestSize, mostTriples}
 use Rattle.model.specs.Lists.{any, zeros}
 
@@ -44,11 +46,34 @@ unfoldable pub counted : Counted → Outcome ℕ
 counted (Count n) = accepted n
 counted (counted-refused r) = refused (refusalNumber r)
 
--- for look up whether the triple is in the list, for a feed whether it was new
-unfoldable pub found : Found → Outcome Bool
-found Yes = accepted true
-found No = accepted false
+-- 02: "yes or no and a place": what an accepted call says, and the place that it reports
+pub record Answer (A : Type 0) : Type 0 where
+  pub says : A
+  pub place : ℕ
+
+abbrev pub answer : {A : Type 0} → A → ℕ → Answer A
+answer x k = record { says = x; place = k }
+
+-- look up: whether the triple is in the list, and its place
+unfoldable pub found : Found → Outcome (Answer Bool)
+found (Yes k) = accepted (answer true k)
+found (No k) = accepted (answer false k)
 found (found-refused r) = refused (refusalNumber r)
+
+-- what an accepted call of the intake says
+pub data Said : Type 0 where
+  new not-new : Said
+
+-- feed: whether the triple was new, and its place
+unfoldable pub replied : Reply → Outcome (Answer Said)
+replied (New k) = accepted (answer new k)
+replied (NotNew k) = accepted (answer not-new k)
+replied (reply-refused r) = refused (refusalNumber r)
+
+-- 02: "A refused call reports place 0."
+unfoldable pub placeOf : {A : Type 0} → Outcome (Answer A) → ℕ
+placeOf (refused r) = 0
+placeOf (accepted x) = x .place
 
 -- 01: "Each check runs over all its input before the next"
 pub record Check : Type 0 where

@@ -192,9 +192,16 @@ pub enum Counted {
     Refused(Refusal),
 }
 
-// Look up: whether the triple is in the list. Feed: whether the triple was new.
+// Look up: whether the triple is in the list, and how many triples of it come before it.
 pub enum Found {
-    Yes,
-    No,
+    Yes(usize),
+    No(usize),
+    Refused(Refusal),
+}
+
+// Feed: whether the triple was new, and how many of the triples held before the call come before it.
+pub enum Reply {
+    New(usize),
+    NotNew(usize),
     Refused(Refusal),
 }

@@ -4,21 +4,27 @@ use naive_checks::table_wrong;
 use naive_lists::Answer;
 use naive_lists::Words;
 use naive_lists::accept;
+use naive_lists::accept_at;
 use naive_lists::entry;
 use naive_lists::holds;
 use naive_lists::number_at;
+use naive_lists::place;
 use naive_lists::refuse;
 use naive_lists::triple_at;
 use naive_lists::triple_of;
 
+// A count of 1 is yes, a count of 0 no. The place is given with both.
 pub fn look_up(list: &[u32], s: u32, p: u32, o: u32) -> Answer {
     if table_wrong(list.len()) {
         return refuse(1);
     }
-    if holds(list, list.len() / 3, triple_of(s, p, o)) {
-        return accept(1);
+    let count = list.len() / 3;
+    let t = triple_of(s, p, o);
+    let before = place(list, count, t);
+    if holds(list, count, t) {
+        return accept_at(1, before);
     }
-    accept(0)
+    accept_at(0, before)
 }
 
 // A query is 41 numbers: the count, then eight patterns of subject kind, subject, property, object kind, object. Kind 0 is a

@@ -10,6 +10,7 @@ use naive_lists::Triple;
 use naive_lists::Words;
 use naive_lists::fill;
 use naive_lists::holds;
+use naive_lists::place;
 use naive_lists::put;
 use naive_lists::sort;
 use naive_lists::triple_of;
@@ -46,19 +47,33 @@ pub fn open(
     0
 }
 
-// The answer to a feed, a refusal's number or 0, whether the triple was new, and the sizes of H and of its summary afterwards.
+// The answer to a feed, a refusal's number or 0, whether the triple was new, how many triples of H, as it was before, come before it,
+// and the sizes of H and of its summary afterwards.
 pub struct Fed {
     pub refused: u32,
     pub new: bool,
+    pub place: usize,
     pub held: usize,
     pub summarised: usize,
 }
 
-// All stays as it is.
-fn as_before(refused: u32, held: usize, summarised: usize) -> Fed {
+// Refused: all stays as it is, and the place is 0.
+fn refuse(refused: u32, held: usize, summarised: usize) -> Fed {
     Fed {
         refused: refused,
         new: false,
+        place: 0,
+        held: held,
+        summarised: summarised,
+    }
+}
+
+// A triple of H at a place of it.
+fn repeat(place: usize, held: usize, summarised: usize) -> Fed {
+    Fed {
+        refused: 0,
+        new: false,
+        place: place,
         held: held,
         summarised: summarised,
     }
@@ -100,8 +115,9 @@ fn take_in(
     t: Triple,
 ) -> Fed {
     if triples.len() / 3 <= held {
-        return as_before(7, held, summarised);
+        return refuse(7, held, summarised);
     }
+    let before = place(triples, held, t);
     let count = held + 1;
     put(triples, held, t);
     sort(triples, count);
@@ -117,6 +133,7 @@ fn take_in(
     Fed {
         refused: 0,
         new: true,
+        place: before,
         held: count,
         summarised: answer.count,
     }
@@ -136,11 +153,11 @@ fn judge(
 ) -> Fed {
     let refused = feed_refusal(words, roster, t);
     if refused != 0 {
-        return as_before(refused, held, summarised);
+        return refuse(refused, held, summarised);
     }
     if holds(triples, held, t) {
         fill(work, 0);
-        return as_before(0, held, summarised);
+        return repeat(place(triples, held, t), held, summarised);
     }
     take_in(
         held,
@@ -171,10 +188,10 @@ pub fn feed(
 ) -> Fed {
     let n = roster.len();
     if lengths_wrong(n, triples.len(), summary.len(), map.len()) {
-        return as_before(1, held, summarised);
+        return refuse(1, held, summarised);
     }
     if work_wrong(n, work.len()) {
-        return as_before(1, held, summarised);
+        return refuse(1, held, summarised);
     }
     judge(
         held,

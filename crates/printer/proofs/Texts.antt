@@ -13,7 +13,7 @@ use Rattle.model.specs.declared.Refusal.{Refusal}
 use Rattle.model.specs.declared.Refusal.the-variants.{Form}
 use Rattle.model.specs.Triples.{triples, flat, slots, listed}
 use Rattle.model.specs.Outcomes.{refused, accepted, refusalNumber, check}
-use Rattle.theory.proofs.Checks.{no-checks, not-accepted, decided-passes, first-decides}
+use Rattle.theory.proofs.Checks.{no-checks, not-accepted, same-value, decided-passes, first-decides}
 use Rattle.theory.proofs.Flat.{triples-flat, length-flat, length-listed}
 use Rattle.table_checks.proofs.Laws.{left-after}
 use Rattle.site_form.specs.declared.Site.{Site}
@@ -28,7 +28,7 @@ use Rattle.site_bytes.specs.Calls.{Put}
 use Rattle.table_printing.specs.Outcomes.{siteOutcome}
 use Rattle.site_report.proofs.Lines.{put-as}
 use Rattle.table_printing.proofs.Fits.{forms-are}
-use Rattle.table_printing.proofs.Parts.{front, same-value}
+use Rattle.table_printing.proofs.Parts.{front}
 
 module _ (text l out : List ℕ) (x : ℕ) where
   pub too-long : mostBytes < length text → Put l 0 (shown (refused (refusalNumber Form))) out x → Put l 0 (printed text) out x
@@ -74,7 +74,7 @@ module _ (text list : List ℕ) (size : length list ≡ 3 * mostLines) (short : 
       f,
       record {
         says = q;
-        is-site = same-value _ _ (sym (ap (λ z. formed z (r .site)) e) ∙ C .outcome ∙ some-is f q);
+        is-site = same-value (sym (ap (λ z. formed z (r .site)) e) ∙ C .outcome ∙ some-is f q);
         is-list =
             C .list
             ∙ left-after _ _ _ _ (some-is f q)

@@ -24,10 +24,10 @@ use Rattle.model.specs.Roster.{ownRoster, wrongCodes}
 use Rattle.model.specs.Saturation.{saturation}
 use Rattle.model.specs.Classes.{mapOf}
 use Rattle.model.specs.Summary.{summary}
-use Rattle.model.specs.Outcomes.{Outcome, refused, accepted, refusalNumber, counted, decided, Passes, wrongSize, wrongLength, wrongWork}
+use Rattle.model.specs.Outcomes.{refused, accepted, refusalNumber, counted, decided, Passes, wrongSize, wrongLength, wrongWork}
 use Rattle.model.specs.Calls.{tableChecks, Accepted, Summarised, saturated, ownRosterOutcome, ownRosterLeaves, saturateOutcome, saturateLeaves, summariseOutcome, summariseOutcomeBy, summariseLeavesBy}
 use Rattle.theory.proofs.Tests.{or-left, or-right, or-neither, bool-cases}
-use Rattle.theory.proofs.Checks.{first-passes, no-checks, decided-passes, not-accepted, passed-all}
+use Rattle.theory.proofs.Checks.{first-passes, no-checks, decided-passes, not-accepted, same-value}
 use Rattle.theory.proofs.Flat.{triples-flat, flat-triples, length-flat, length-triples, length-listed}
 use Rattle.theory.specs.Tables.{Right}
 use Rattle.theory.proofs.Accepted.{right-accepted}
@@ -55,10 +55,6 @@ unfolding listed padded
 front n ts k e =
     let q : 3 * k - 0 ≡ length (flat ts) = omega (arith, e, length-flat ts) in
     ap (λ (j : ℕ). take j (listed n ts)) q ∙ take-append-seam (flat ts) _
-
-pub same-value : {A : Type 0} (x y : A) → _≡_ {A = Outcome A} (accepted x) (accepted y) → x ≡ y
-unfolding decided
-same-value x y e = passed-all x y e
 
 module _ (words : Vocabulary) where
   flat-accepted : (table roster : List ℕ) → Right words roster (triples table) → length table % 3 ≡ 0 → length table ≤ 3 * printerSlots → Accepted words table roster
@@ -105,7 +101,7 @@ module _ (words : Vocabulary) where
       module _ (k : ℕ) (e : r ≡ Count k) where
         count-is : length sum ≡ k
         unfolding counted
-        count-is = same-value _ _ (sym outcome ∙ sym (S .answer) ∙ ap counted e)
+        count-is = same-value (sym outcome ∙ sym (S .answer) ∙ ap counted e)
 
         pub sum-few : 3 * k ≤ 3 * printerSlots
         sum-few = let f = few in omega (arith, count-is, condensed-length (mapOf words roster (triples table)) (triples table))
@@ -211,7 +207,7 @@ module _ (words : Vocabulary) where
 
         count-sat : length sat ≡ k
         unfolding counted
-        count-sat = sym sat-count ∙ same-value _ _ (sym (within few-sat) ∙ sym (S .0) ∙ ap counted e)
+        count-sat = sym sat-count ∙ same-value (sym (within few-sat) ∙ sym (S .0) ∙ ap counted e)
 
         list-is : list′ ≡ listed (length list) sat
         unfolding saturateLeaves

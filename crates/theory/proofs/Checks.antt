@@ -48,6 +48,10 @@ pub not-accepted : {A : Type 0} {r : ℕ} {x : A} → _≡_ {A = Outcome A} (ref
 unfolding isAccepted
 not-accepted e = subst isAccepted (sym e) tt
 
+-- an accepted value is one value
+pub same-value : {A : Type 0} {x y : A} → _≡_ {A = Outcome A} (accepted x) (accepted y) → x ≡ y
+same-value e = cc
+
 -- where checks accept, none fails
 pub accepted-passes : {A : Type 0} (cs : List Check) (x y : A) → checked cs x ≡ accepted y → Passes cs
 accepted-passes cs x y e = ⊎-elim (λ w. absurd (not-accepted (sym (w .1) ∙ e))) (λ h. h) (decided-cases cs (accepted x))
@@ -59,4 +63,4 @@ passed c cs x y e =
 
 pub passed-all : {A : Type 0} (x y : A) → checked [] x ≡ accepted y → x ≡ y
 unfolding decided
-passed-all x y e = cc
+passed-all x y e = same-value e

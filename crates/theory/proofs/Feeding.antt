@@ -4,33 +4,35 @@
 use Prim.Native.Nat.{ℕ, _≤_, _<_, _*_, _/_}
 use mathlib.Core.Path.{_≡_, refl, sym, subst, _∙_, ap}
 use mathlib.Core.Logic.{_⊎_, inl, inr, ⊎-elim, _↔_}
-use mathlib.Core.Bool.{Bool, true, false, cond, not, _||_}
+use mathlib.Core.Bool.{true, false, not, _||_}
 use mathlib.Core.List.{List, [], _∷_, map, List·Memᴰ as Mem, List·Memᴰ·head as here, List·Memᴰ·tail as there, List·Memᴰ·not-nil as no-mem, List·Memᴰ·cases-cons as mem-cases}
 use native.Mathlib.Omega.{arith}
 use native.Mathlib.Nat.{sub-zero}
 use lib.Dec.{eqb, leb, ltb}
-use lib.ListN.{length, replicate, length-replicate, getD-replicate}
+use lib.ListN.{length, getD, replicate, length-replicate, getD-replicate}
 use lib.Seq.{ext-getD}
-use borrow.Author.Tests.{ltb-false, leb-false, lt-leb, not-false, eqb-true, eq-eqb}
+use borrow.Author.Tests.{ltb-false, leb-true, leb-false, not-false, eqb-true, eq-eqb}
 use Rattle.model.specs.declared.Triple.{Triple}
 use Rattle.model.specs.declared.Vocabulary.{Vocabulary}
 use Rattle.model.specs.Codes.{wrongWords, absent}
 use Rattle.model.specs.Lists.{any, all, zeros, padded}
-use Rattle.model.specs.Triples.{triples, flat, slots, holds, insert, sorted, listed}
+use Rattle.model.specs.Triples.{flat, slots, holds, insert, sorted, listed}
 use Rattle.model.specs.Order.{Rising}
 use Rattle.model.specs.Roster.{coversTriple, covers, wrongRoster, wrongTriple, wrongCodes}
 use Rattle.model.specs.Cliques.{Node}
 use Rattle.model.specs.Classes.{mapOf}
 use Rattle.model.specs.Summary.{condensed, summary}
-use Rattle.model.specs.Outcomes.{Outcome, refused, accepted, Check, check, decided, Passes, wrongSize, wrongWork}
-use Rattle.model.specs.Intake.{State, Feed, judged, answer, joins, answers, heldAfter, stateOf, wrongLists, openOutcome, opened, feedChecks, Valid, Run, none, then-fed}
-use Rattle.theory.proofs.Tests.{or-false, bool-cases}
+use Rattle.model.specs.Outcomes.{Outcome, refused, accepted, Answer, Said, check, decided, Passes, wrongSize, wrongWork}
+use Rattle.model.specs.Intake.{State, Feed, judged, plainChecks, replyTo, afterSaying, joins, answers, heldAfter, stateOf, wrongLists, openOutcome, opened, intakeChecks, Kept, Valid, Run, none, then-fed}
+use Rattle.theory.proofs.Tests.{or-false, cond-cases}
 use Rattle.theory.proofs.Lists.{any-none, none-any, all-at, at-all, mem-map}
 use Rattle.theory.proofs.Order.{holds-mem, insert-self, insert-keeps, insert-mem, insert-rising, insert-same, insert-new, rising-length, rising-unique, sorted-rising, sorted-mem, mem-sorted}
 use Rattle.theory.specs.Tables.{AllBelow, In, Right}
+use Rattle.theory.specs.Theorems.{PlaceRight}
+use Rattle.theory.proofs.Places.{place-right}
 use Rattle.theory.proofs.Mapped.{length-map-of, map-absent}
 use Rattle.theory.proofs.Summaries.{condensed-length, Same, same-map-of, same-summary-of}
-use Rattle.theory.proofs.Checks.{passes-first, first-passes, no-checks, decided-passes, decided-cases, passed}
+use Rattle.theory.proofs.Checks.{passes-first, first-passes, no-checks, decided-passes, decided-cases, passed, not-accepted, same-value}
 use Rattle.theory.proofs.Flat.{length-listed}
 use Rattle.theory.proofs.Accepted.{below, room, size-bounds}
 
@@ -43,62 +45,81 @@ module _ (v : Vocabulary) (roster : List ℕ) where
     pub codes : wrongCodes v (length roster) H ≡ false
     pub covered : covers v roster H ≡ true
 
-  -- the triple joins what is held
-  pub record Added (space : ℕ) (H : List Triple) (t : Triple) : Type 0 where
-    pub right : wrongTriple v (length roster) t ≡ false
-    pub covered : coversTriple v roster t ≡ true
-    pub new : holds t H ≡ false
-    pub free : length H < space
-
-  abbrev feedTests : Feed → List Check
-  feedTests f =
-      check 1 (wrongWork (length roster) (f .work))
-      ∷ check 3 (wrongTriple v (length roster) (f .triple))
-      ∷ check 4 (not (coversTriple v roster (f .triple)))
-      ∷ []
-
   abbrev next : ℕ → List Triple → Feed → List Triple
-  next space H f = joins v roster (answer v roster space H f) (f .triple) H
+  next space H f = joins (replyTo v roster space H f) (f .triple) H
 
-  pub step-cases : (space : ℕ) (H : List Triple) (f : Feed) → (next space H f ≡ H) ⊎ (Added space H (f .triple) × (next space H f ≡ insert (f .triple) H))
-  unfolding answer judged joins
-  step-cases space H f = ⊎-elim (λ w. inl (ap (λ (o : Outcome Bool). joins v roster o (f .triple) H) (w .1))) passed (decided-cases (feedTests f) (judged v roster space H (f .triple)))
+  -- what a feed does to what is held
+  data Step (space : ℕ) (H : List Triple) (t : Triple) (K : List Triple) : Type 0 where
+    stayed : K ≡ H → Step space H t K
+    added : wrongTriple v (length roster) t ≡ false → coversTriple v roster t ≡ true → holds t H ≡ false → length H < space → K ≡ insert t H → Step space H t K
+
+  abbrev StepOf : ℕ → List Triple → Triple → Outcome (Answer Said) → Type 0
+  StepOf space H t o = Step space H t (joins o t H)
+
+  refused-step : (space : ℕ) (H : List Triple) (t : Triple) (r : ℕ) → StepOf space H t (refused r)
+  unfolding joins
+  refused-step space H t r = stayed refl
+
+  judged-step : (space : ℕ) (H : List Triple) (t : Triple) → wrongTriple v (length roster) t ≡ false → coversTriple v roster t ≡ true
+      → StepOf space H t (judged space H t)
+  unfolding judged joins afterSaying
+  judged-step space H t a b =
+      cond-cases (StepOf space H t) (holds t H) (λ e. stayed refl)
+      (λ e. cond-cases (StepOf space H t) (leb space (length H)) (λ l. stayed refl) (λ l. added a b e (leb-false space (length H) l) refl))
+
+  step-of : (space : ℕ) (H : List Triple) (f : Feed) → Step space H (f .triple) (next space H f)
+  unfolding replyTo
+  step-of space H f =
+      ⊎-elim
+      (λ w. subst (StepOf space H (f .triple)) (sym (w .1)) (refused-step space H (f .triple) (w .0)))
+      (λ h.
+      let b = passes-first _ _ ((passes-first _ _ h) .1) in
+      let d = passes-first _ _ (b .1) in
+      subst (StepOf space H (f .triple)) (sym (decided-passes (plainChecks v roster f) _ h)) (judged-step space H (f .triple) (b .0) (not-false _ (d .0))))
+      (decided-cases (plainChecks v roster f) (judged space H (f .triple)))
+
+  -- the triple of an accepted feed stands at the place that is reported
+  abbrev Stands : List Triple → Triple → Triple → Outcome (Answer Said) → Type 0
+  Stands H t d o = (x : Answer Said) → o ≡ accepted x → getD (joins (accepted x) t H) (x .place) d ≡ t
+
+  judged-stands : (space : ℕ) (H : List Triple) (t d : Triple) → Rising H → Stands H t d (judged space H t)
+  unfolding judged joins afterSaying
+  judged-stands space H t d r =
+      cond-cases (Stands H t d) (holds t H)
+      (λ e x q. subst (λ (y : Answer Said). getD (afterSaying (y .says) t H) (y .place) d ≡ t) (same-value q) (right .held e d))
+      (λ e. cond-cases (Stands H t d) (leb space (length H))
+      (λ l x q. absurd (not-accepted q))
+      (λ l x q. subst (λ (y : Answer Said). getD (afterSaying (y .says) t H) (y .place) d ≡ t) (same-value q) (right .joined d)))
     where
-      after : Outcome Bool → List Triple
-      after o = joins v roster o (f .triple) H
+      right : PlaceRight t H
+      right = place-right t H r
 
-      passed : Passes (feedTests f) → (next space H f ≡ H) ⊎ (Added space H (f .triple) × (next space H f ≡ insert (f .triple) H))
-      passed h =
-          let a = passes-first _ _ h in
-          let b = passes-first _ _ (a .1) in
-          let d = passes-first _ _ (b .1) in
-          let e : answer v roster space H f ≡ judged v roster space H (f .triple) = decided-passes (feedTests f) _ h in
-          ⊎-elim
-          (λ k. inl (ap after (e ∙ ap (λ (x : Bool). cond x (accepted false) (cond (leb space (length H)) (refused 7) (accepted true))) k)))
-          (λ k. ⊎-elim
-          (λ l. inl (ap after (e ∙ (λ i. cond (k i) (accepted false) (cond (l i) (refused 7) (accepted true))))))
-          (λ l. inr (
-            record { right = b .0; covered = not-false _ (d .0); new = k; free = leb-false space (length H) l },
-            ap after (e ∙ (λ i. cond (k i) (accepted false) (cond (l i) (refused 7) (accepted true)))),
-          ))
-          (bool-cases (leb space (length H))))
-          (bool-cases (holds (f .triple) H))
-
-  insert-holds : (space : ℕ) (H : List Triple) (t : Triple) → Holds space H → Added space H t → Holds space (insert t H)
-  unfolding wrongCodes covers
-  insert-holds space H t h a =
-      record {
-        rising = insert-rising t H (h .rising);
-        fits = omega (arith, insert-new t H (a .new), a .free);
-        codes = none-any (wrongTriple v (length roster)) (insert t H)
-            (λ u m. ⊎-elim (λ (e : u ≡ t). ap (wrongTriple v (length roster)) e ∙ a .right) (λ k. any-none (wrongTriple v (length roster)) H (h .codes) u k) (insert-mem t u H m));
-        covered = at-all (coversTriple v roster) (insert t H)
-            (λ u m. ⊎-elim (λ (e : u ≡ t). ap (coversTriple v roster) e ∙ a .covered) (λ k. all-at (coversTriple v roster) H (h .covered) u k) (insert-mem t u H m));
-      }
+  pub fed-stands : (space : ℕ) (H : List Triple) (f : Feed) (d : Triple) → Rising H → Stands H (f .triple) d (replyTo v roster space H f)
+  unfolding replyTo
+  fed-stands space H f d r x q =
+      ⊎-elim (λ w. absurd (not-accepted (sym (w .1) ∙ q)))
+      (λ h. judged-stands space H (f .triple) d r x (sym (decided-passes (plainChecks v roster f) _ h) ∙ q))
+      (decided-cases (plainChecks v roster f) (judged space H (f .triple)))
 
   pub next-holds : (space : ℕ) (H : List Triple) (f : Feed) → Holds space H → Holds space (next space H f)
-  next-holds space H f h =
-      ⊎-elim (λ e. subst (Holds space) (sym e) h) (λ w. subst (Holds space) (sym (w .1)) (insert-holds space H (f .triple) h (w .0))) (step-cases space H f)
+  unfolding wrongCodes covers
+  next-holds space H f h = go (step-of space H f)
+    where
+      t : Triple
+      t = f .triple
+
+      go : Step space H t (next space H f) → Holds space (next space H f)
+      go (stayed e) = subst (Holds space) (sym e) h
+      go (added right cover fresh free e) =
+          subst (Holds space) (sym e)
+          (record {
+            rising = insert-rising t H (h .rising);
+            fits = omega (arith, insert-new t H fresh, free);
+            codes = none-any (wrongTriple v (length roster)) (insert t H)
+                (λ u m. ⊎-elim (λ (q : u ≡ t). ap (wrongTriple v (length roster)) q ∙ right) (λ k. any-none (wrongTriple v (length roster)) H (h .codes) u k) (insert-mem t u H m));
+            covered = at-all (coversTriple v roster) (insert t H)
+                (λ u m. ⊎-elim (λ (q : u ≡ t). ap (coversTriple v roster) q ∙ cover) (λ k. all-at (coversTriple v roster) H (h .covered) u k) (insert-mem t u H m));
+          })
 
   pub held-holds : (space : ℕ) (fs : List Feed) (H : List Triple) → Holds space H → Holds space (heldAfter v roster space fs H)
   unfolding heldAfter
@@ -108,27 +129,26 @@ module _ (v : Vocabulary) (roster : List ℕ) where
   -- ── feeding a table in any order, with repeats ──
   -- a feed that no check refuses
   abbrev pub Good : Feed → Type 0
-  Good f = Passes (feedTests f)
+  Good f = Passes (plainChecks v roster f)
 
   -- where all that is held and fed is among as many triples as there are slots, every feed's triple is held afterwards
   module _ (space : ℕ) (U : List Triple) (few : length U ≤ space) where
-    next-has : (H : List Triple) (f : Feed) → Good f → Rising H → ((t : Triple) → Mem t H → Mem t U) → Mem (f .triple) U → next space H f ≡ insert (f .triple) H
-    unfolding answer judged joins
-    next-has H f g r u m =
-        ⊎-elim
-        (λ k. ap after (e ∙ ap (λ (x : Bool). cond x (accepted false) (cond (leb space (length H)) (refused 7) (accepted true))) k) ∙ sym (insert-same (f .triple) H r (holds-mem (f .triple) H k)))
-        (λ k.
-        let more = rising-length (insert (f .triple) H) U (insert-rising (f .triple) H r)
-        (λ t n. ⊎-elim (λ (q : t ≡ f .triple). subst (λ (z : Triple). Mem z U) (sym q) m) (λ n. u t n) (insert-mem (f .triple) t H n)) in
-        let l = lt-leb space (length H) (omega (arith, insert-new (f .triple) H k)) in
-        ap after (e ∙ (λ i. cond (k i) (accepted false) (cond (l i) (refused 7) (accepted true)))))
-        (bool-cases (holds (f .triple) H))
+    judged-has : (H : List Triple) (t : Triple) → Rising H → ((u : Triple) → Mem u H → Mem u U) → Mem t U → joins (judged space H t) t H ≡ insert t H
+    unfolding judged joins afterSaying
+    judged-has H t r u m =
+        cond-cases (λ (o : Outcome (Answer Said)). joins o t H ≡ insert t H) (holds t H) (λ k. sym (insert-same t H r (holds-mem t H k)))
+        (λ k. cond-cases (λ (o : Outcome (Answer Said)). joins o t H ≡ insert t H) (leb space (length H))
+        (λ l. absurd (omega (arith, leb-true space (length H) l, insert-new t H k, more, few))) (λ l. refl))
       where
-        after : Outcome Bool → List Triple
-        after o = joins v roster o (f .triple) H
+        more : length (insert t H) ≤ length U
+        more =
+            rising-length (insert t H) U (insert-rising t H r)
+            (λ x n. ⊎-elim (λ (q : x ≡ t). subst (λ (z : Triple). Mem z U) (sym q) m) (λ n. u x n) (insert-mem t x H n))
 
-        e : answer v roster space H f ≡ judged v roster space H (f .triple)
-        e = decided-passes (feedTests f) _ g
+    next-has : (H : List Triple) (f : Feed) → Good f → Rising H → ((t : Triple) → Mem t H → Mem t U) → Mem (f .triple) U → next space H f ≡ insert (f .triple) H
+    unfolding replyTo
+    next-has H f g r u m =
+        ap (λ (o : Outcome (Answer Said)). joins o (f .triple) H) (decided-passes (plainChecks v roster f) _ g) ∙ judged-has H (f .triple) r u m
 
     pub record Collected (fs : List Feed) (H out : List Triple) : Type 0 where
       pub rising : Rising out
@@ -166,30 +186,34 @@ module _ (v : Vocabulary) (roster : List ℕ) where
     pub equal : slots (s .triples) ≡ slots (s .summary)
     pub map-size : length (s .map) ≡ length roster
 
-  abbrev state : State → List Triple → State
-  state s H = stateOf v roster (length (s .triples)) (length (s .summary)) H
-
-  pub record SameSizes (s z : State) : Type 0 where
-    pub triples : length (z .triples) ≡ length (s .triples)
-    pub summary : length (z .summary) ≡ length (s .summary)
-    pub map : length (z .map) ≡ length roster
-
-  pub state-sizes : (s : State) (H : List Triple) → Sized s → length H ≤ space-of s → SameSizes s (state s H)
+  pub state-sizes : (s : State) (H : List Triple) → Sized s → length H ≤ space-of s → Kept s (stateOf v roster s H)
   unfolding stateOf slots
   state-sizes s H z h =
       record {
-        triples = length-listed (length (s .triples)) H (third (length (s .triples)) (length H) h);
-        summary = length-listed (length (s .summary)) (summary v roster H) (third (length (s .summary)) _ (omega (arith, condensed-length (mapOf v roster H) H, z .equal)));
-        map = length-map-of v roster H;
+        in-triples = length-listed (length (s .triples)) H (third (length (s .triples)) (length H) h);
+        in-summary = length-listed (length (s .summary)) (summary v roster H) (third (length (s .summary)) _ (omega (arith, condensed-length (mapOf v roster H) H, z .equal)));
+        in-map = length-map-of v roster H ∙ sym (z .map-size);
+      }
+
+  -- states of one size have one state for each H
+  same-state : (s z : State) (H : List Triple) → Kept s z → stateOf v roster z H ≡ stateOf v roster s H
+  unfolding stateOf
+  same-state s z H e = λ i.
+      record {
+        triples = listed (e .in-triples i) H;
+        summary = listed (e .in-summary i) (summary v roster H);
+        map = mapOf v roster H;
+        held = length H;
+        summarised = length (summary v roster H);
       }
 
   -- the lists' check goes by their lengths
-  lists-same : (s z : State) → length (s .map) ≡ length roster → SameSizes s z → wrongLists v roster z ≡ wrongLists v roster s
+  lists-same : (s z : State) → Kept s z → wrongLists v roster z ≡ wrongLists v roster s
   unfolding wrongLists slots
-  lists-same s z m e = λ i.
+  lists-same s z e = λ i.
       wrongSize (length roster)
-      || (not (eqb ((e .map ∙ sym m) i) (length roster))
-      || (not (eqb (e .triples i / 3) (e .summary i / 3)) || ltb 1048576 (e .triples i / 3)))
+      || (not (eqb (e .in-map i) (length roster))
+      || (not (eqb (e .in-triples i / 3) (e .in-summary i / 3)) || ltb 1048576 (e .in-triples i / 3)))
 
   -- ── a run of feeds ──
   -- a state that holds H, in lists of right sizes
@@ -197,27 +221,29 @@ module _ (v : Vocabulary) (roster : List ℕ) where
     pub lists : wrongLists v roster s ≡ false
     pub sized : Sized s
     pub holds-it : Holds (space-of s) H
-    pub is-state : s ≡ state s H
+    pub is-state : s ≡ stateOf v roster s H
 
   good-valid : (s : State) (H : List Triple) → Good-state s H → Valid v roster s H
   good-valid s H g =
       record { rising = g .holds-it .rising; fits = g .holds-it .fits; codes = g .holds-it .codes; covered = g .holds-it .covered; is-state = g .is-state }
 
-  good-next : (s : State) (K : List Triple) → wrongLists v roster s ≡ false → Sized s → Holds (space-of s) K → Good-state (state s K) K
+  good-next : (s z : State) (K : List Triple) → wrongLists v roster s ≡ false → Sized s → Holds (space-of s) K → Kept s z → z ≡ stateOf v roster s K → Good-state z K
   unfolding slots
-  good-next s K l z h =
-      let e = state-sizes s K z (h .fits) in
+  good-next s z K l d h e q =
       record {
-        lists = lists-same s (state s K) (z .map-size) e ∙ l;
-        sized = record { equal = ap (λ (x : ℕ). x / 3) (e .triples) ∙ z .equal ∙ ap (λ (x : ℕ). x / 3) (sym (e .summary)); map-size = e .map };
-        holds-it = subst (λ (x : ℕ). Holds (x / 3) K) (sym (e .triples)) h;
-        is-state = λ i. stateOf v roster (sym (e .triples) i) (sym (e .summary) i) K;
+        lists = lists-same s z e ∙ l;
+        sized = record {
+          equal = ap (λ (x : ℕ). x / 3) (e .in-triples) ∙ d .equal ∙ ap (λ (x : ℕ). x / 3) (sym (e .in-summary));
+          map-size = e .in-map ∙ d .map-size;
+        };
+        holds-it = subst (λ (x : ℕ). Holds (x / 3) K) (sym (e .in-triples)) h;
+        is-state = q ∙ sym (same-state s z K e);
       }
 
   -- with right lists and a right roster a feed's checks are the plain intake's
   feed-outcome : (s : State) (f : Feed) (H : List Triple) → wrongLists v roster s ≡ false → wrongWords v (length roster) ≡ false → wrongRoster v roster ≡ false
-      → decided (feedChecks v roster s f) (judged v roster (space-of s) H (f .triple)) ≡ answer v roster (space-of s) H f
-  unfolding feedChecks answer decided
+      → decided (intakeChecks v roster s (f .triple) (f .work)) (judged (space-of s) H (f .triple)) ≡ replyTo v roster (space-of s) H f
+  unfolding intakeChecks replyTo decided
   feed-outcome s f H l w m = λ i.
       decided
       (check 1 (l i || wrongWork (length roster) (f .work))
@@ -226,25 +252,23 @@ module _ (v : Vocabulary) (roster : List ℕ) where
       ∷ check 3 (wrongTriple v (length roster) (f .triple))
       ∷ check 4 (not (coversTriple v roster (f .triple)))
       ∷ [])
-      (judged v roster (space-of s) H (f .triple))
+      (judged (space-of s) H (f .triple))
 
-  pub run-plain : (words : wrongWords v (length roster) ≡ false) (marks : wrongRoster v roster ≡ false) {s end : State} {fs : List Feed} {os : List (Outcome Bool)} → Run v roster s fs os end → (H : List Triple) → Good-state s H
-      → (os ≡ answers v roster (space-of s) fs H) × (end ≡ state s (heldAfter v roster (space-of s) fs H))
+  pub run-plain : (words : wrongWords v (length roster) ≡ false) (marks : wrongRoster v roster ≡ false) {s end : State} {fs : List Feed} {os : List (Outcome (Answer Said))} → Run v roster s fs os end → (H : List Triple) → Good-state s H
+      → (os ≡ answers v roster (space-of s) fs H) × (end ≡ stateOf v roster s (heldAfter v roster (space-of s) fs H))
   unfolding answers heldAfter slots
   run-plain words marks none H g = (refl, g .is-state)
   run-plain words marks {s} {end} (then-fed {after} {t} {outcome} {fs} {os} work work-after p run) H g =
       let f : Feed = record { triple = t; work = length work } in
       let k = p .steps H (good-valid s H g) in
-      let e : outcome ≡ answer v roster (space-of s) H f = k .0 ∙ feed-outcome s f H (g .lists) words marks in
+      let e : outcome ≡ replyTo v roster (space-of s) H f = k .0 ∙ feed-outcome s f H (g .lists) words marks in
       let K : List Triple = next (space-of s) H f in
-      let q : after ≡ state s K = k .1 ∙ ap (λ (o : Outcome Bool). state s (joins v roster o t H)) e in
+      let q : after ≡ stateOf v roster s K = k .1 ∙ ap (λ (o : Outcome (Answer Said)). stateOf v roster s (joins o t H)) e in
       let h : Holds (space-of s) K = next-holds (space-of s) H f (g .holds-it) in
-      let z = state-sizes s K (g .sized) (h .fits) in
-      let a : length (after .triples) ≡ length (s .triples) = ap (λ (x : State). length (x .triples)) q ∙ z .triples in
-      let b : length (after .summary) ≡ length (s .summary) = ap (λ (x : State). length (x .summary)) q ∙ z .summary in
-      let rest = run-plain words marks run K (subst (λ (x : State). Good-state x K) (sym q) (good-next s K (g .lists) (g .sized) h)) in (
-        λ i. e i ∷ (rest .0 ∙ (λ j. answers v roster (a j / 3) fs K)) i,
-        rest .1 ∙ (λ i. stateOf v roster (a i) (b i) (heldAfter v roster (a i / 3) fs K)),
+      let sizes : Kept s after = p .in-any-state .kept in
+      let rest = run-plain words marks run K (good-next s after K (g .lists) (g .sized) h sizes q) in (
+        λ i. e i ∷ (rest .0 ∙ (λ j. answers v roster (sizes .in-triples j / 3) fs K)) i,
+        rest .1 ∙ (λ i. stateOf v roster after (heldAfter v roster (sizes .in-triples i / 3) fs K)) ∙ same-state s after _ sizes,
       )
 
   -- ── opening ──
@@ -265,7 +289,7 @@ module _ (v : Vocabulary) (roster : List ℕ) where
   unfolding listed padded flat zeros
   empty-list n = ap (λ (k : ℕ). replicate k 0) (sub-zero n)
 
-  pub opened-state : (s : State) → Sized s → length roster ≤ absent → opened v roster s ≡ state s []
+  pub opened-state : (s : State) → Sized s → length roster ≤ absent → opened v roster s ≡ stateOf v roster s []
   unfolding opened stateOf
   opened-state s z l =
       let a = sym (empty-list (length (s .triples))) in
@@ -311,18 +335,18 @@ module _ (v : Vocabulary) (roster : List ℕ) where
       (record { equal = eqb-true _ _ (not-false _ (d .0)); map-size = eqb-true _ _ (not-false _ (b .0)) }, omega arith)
 
   -- the whole list of feeds after an accepted opening
-  pub whole-list : (s end : State) (fs : List Feed) (os : List (Outcome Bool)) → openOutcome v roster s ≡ accepted tt → Run v roster (opened v roster s) fs os end
-      → (os ≡ answers v roster (slots (s .triples)) fs []) × (end ≡ stateOf v roster (length (s .triples)) (length (s .summary)) (heldAfter v roster (slots (s .triples)) fs []))
+  pub whole-list : (s end : State) (fs : List Feed) (os : List (Outcome (Answer Said))) → openOutcome v roster s ≡ accepted tt → Run v roster (opened v roster s) fs os end
+      → (os ≡ answers v roster (slots (s .triples)) fs []) × (end ≡ stateOf v roster s (heldAfter v roster (slots (s .triples)) fs []))
   unfolding slots
   whole-list s end fs os h run =
       let o = opening s h in
       let z = opening-sized s o in
       let e = opened-state s (z .0) (z .1) in
-      let g = good-next s [] (o .lists) (z .0) (empty-holds (slots (s .triples))) in
       let k = state-sizes s [] (z .0) (omega arith) in
+      let g = good-next s (stateOf v roster s []) [] (o .lists) (z .0) (empty-holds (slots (s .triples))) k refl in
       let w = run-plain (o .words) (o .marks) (subst (λ (x : State). Run v roster x fs os end) e run) [] g in (
-        w .0 ∙ (λ i. answers v roster (k .triples i / 3) fs []),
-        w .1 ∙ (λ i. stateOf v roster (k .triples i) (k .summary i) (heldAfter v roster (k .triples i / 3) fs [])),
+        w .0 ∙ (λ i. answers v roster (k .in-triples i / 3) fs []),
+        w .1 ∙ same-state s (stateOf v roster s []) _ k ∙ (λ i. stateOf v roster s (heldAfter v roster (k .in-triples i / 3) fs [])),
       )
 
   -- feeding a table's triples, in any order and with repeats, into slots enough

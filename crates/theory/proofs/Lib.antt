@@ -2,6 +2,7 @@ pub mod Tests
 pub mod Lists
 pub mod Runs
 pub mod Order
+pub mod Places
 pub mod Flat
 pub mod Checks
 pub mod Covered

@@ -1,9 +1,9 @@
--- Members of lists: of all results, of mapped and tabulated lists, and what tests over all elements say of them.
+-- Members of lists: of all results, of mapped and tabulated lists, what tests over all elements say of them, and how many pass.
 -- Assumes nothing.
 use Prim.Native.Nat.{ℕ, zero, suc, _≤_, _<_, _+_}
 use mathlib.Core.Path.{_≡_, refl, sym, subst, _∙_, ap}
 use mathlib.Core.Logic.{_⊎_, inl, inr, ⊎-elim}
-use mathlib.Core.Bool.{Bool, true, false, _||_, true≢false}
+use mathlib.Core.Bool.{Bool, true, false, cond, _||_, true≢false}
 use mathlib.Core.List.{List, [], _∷_, map, List·Memᴰ as Mem, List·Memᴰ·head as here, List·Memᴰ·tail as there, List·Memᴰ·not-nil as no-mem}
 use mathlib.Core.List.{List·Memᴰ·cases-cons as mem-cases, List·Memᴰ·append-cases as append-cases, Memᴰ·append-left as append-left}
 use mathlib.Core.List.{Memᴰ·append-right as append-right}
@@ -13,8 +13,12 @@ use lib.ListN.{length, getD}
 use lib.Seq.{ext-getD}
 use native.Mathlib.Nat.{zero-add}
 use borrow.Author.Tests.{eqb-true, eq-eqb}
-use Rattle.model.specs.Lists.{any, all, collect, when, among, tabulate}
+use Rattle.model.specs.Lists.{any, all, howMany, collect, when, among, tabulate}
 use Rattle.theory.proofs.Tests.{or-true, or-left, or-right, and-true, and-both, cond-cases, bool-cases}
+
+at-most-one : (b : Bool) → cond b 1 0 ≤ 1
+at-most-one true = omega arith
+at-most-one false = omega arith
 
 module _ {A : Type 0} where
   -- ── tests ──
@@ -48,6 +52,22 @@ module _ {A : Type 0} where
   unfolding all
   at-all f [] h = refl
   at-all f (x ∷ xs) h = and-both (f x) _ (h x (here refl)) (at-all f xs (λ y m. h y (there m)))
+
+  -- ── how many pass ──
+  pub many-le : (f : A → Bool) (xs : List A) → howMany f xs ≤ length xs
+  unfolding howMany
+  many-le f [] = omega arith
+  many-le f (x ∷ xs) = omega (arith, at-most-one (f x), many-le f xs)
+
+  pub many-none : (f : A → Bool) (xs : List A) → ((x : A) → Mem x xs → f x ≡ false) → howMany f xs ≡ 0
+  unfolding howMany
+  many-none f [] h = refl
+  many-none f (x ∷ xs) h = rw (h x (here refl)) (omega (arith, many-none f xs (λ y m. h y (there m))))
+
+  pub many-all : (f : A → Bool) (xs : List A) → ((x : A) → Mem x xs → f x ≡ true) → howMany f xs ≡ length xs
+  unfolding howMany
+  many-all f [] h = refl
+  many-all f (x ∷ xs) h = rw (h x (here refl)) (omega (arith, many-all f xs (λ y m. h y (there m))))
 
   -- ── one or none ──
   pub when-mem : {b : Bool} {x y : A} → Mem y (when b x) → (b ≡ true) × (y ≡ x)

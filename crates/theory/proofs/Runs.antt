@@ -1,13 +1,13 @@
--- A test over the values of a function at a run of numbers, and the loop that makes it; the loop that looks for the first.
+-- A test over the values of a function at a run of numbers, how many pass it, and the loop that makes it; the loop that looks for the first.
 -- Assumes nothing.
 use Prim.Native.Nat.{ℕ, zero, suc, _+_, _<_, _≤_}
 use native.Mathlib.Omega.{arith}
 use native.Mathlib.Nat.{zero-add, add-zero, suc-add, add-suc, eq-or-lt-of-le}
 use mathlib.Core.Path.{_≡_, refl, sym, ap, _∙_}
-use mathlib.Core.Bool.{Bool, true, false, _||_, or-assoc, or-false}
+use mathlib.Core.Bool.{Bool, true, false, cond, _||_, or-assoc, or-false}
 use mathlib.Core.Logic.{⊎-elim}
-use Rattle.model.specs.Lists.{any, tabulate, First}
-use Rattle.theory.proofs.Lists.{any-found, any-holds, any-none, none-any, mem-tabulate, tabulate-mem}
+use Rattle.model.specs.Lists.{any, howMany, tabulate, First}
+use Rattle.theory.proofs.Lists.{any-found, any-holds, any-none, none-any, many-none, many-all, length-tabulate, mem-tabulate, tabulate-mem}
 
 module _ {A : Type 0} (f : A → Bool) (g : ℕ → A) where
   pub run-none : (a : ℕ) → any f (tabulate g a 0) ≡ false
@@ -47,6 +47,23 @@ module _ {A : Type 0} (f : A → Bool) (g : ℕ → A) where
 
   pub run-each : (a n : ℕ) → any f (tabulate g a n) ≡ false → (i : ℕ) → a ≤ i → i < a + n → f (g i) ≡ false
   run-each a n e i l m = any-none f (tabulate g a n) e (g i) (mem-tabulate g a n i l m)
+
+  -- ── how many values of a run pass the test ──
+  pub many-one : (a : ℕ) → howMany f (tabulate g a 1) ≡ cond (f (g a)) 1 0
+  unfolding howMany tabulate
+  many-one a = add-zero (cond (f (g a)) 1 0)
+
+  pub many-parts : (a m n : ℕ) → howMany f (tabulate g a (m + n)) ≡ howMany f (tabulate g a m) + howMany f (tabulate g (a + m) n)
+  unfolding howMany tabulate
+  many-parts a zero n = rw (zero-add n, add-zero a) (sym (zero-add (howMany f (tabulate g a n))))
+  many-parts a (suc m) n = rw (suc-add m n, many-parts (suc a) m n, suc-add a m, add-suc a m) (omega arith)
+
+  pub run-many-all : (a n : ℕ) → ((i : ℕ) → a ≤ i → i < a + n → f (g i) ≡ true) → howMany f (tabulate g a n) ≡ n
+  run-many-all a n h =
+      many-all f (tabulate g a n) (λ x m. let w = tabulate-mem g a n m in ap f (w .3) ∙ h (w .0) (w .1) (w .2)) ∙ length-tabulate g a n
+
+  pub run-many-none : (a n : ℕ) → ((i : ℕ) → a ≤ i → i < a + n → f (g i) ≡ false) → howMany f (tabulate g a n) ≡ 0
+  run-many-none a n h = many-none f (tabulate g a n) (λ x m. let w = tabulate-mem g a n m in ap f (w .3) ∙ h (w .0) (w .1) (w .2))
 
   -- ── a loop that looks for a number where the test holds ──
   -- none of the first i of n is one

@@ -17,11 +17,11 @@ use Rattle.model.specs.Cliques.{Clique, linked}
 use Rattle.model.specs.Summary.{summary}
 use Rattle.model.specs.Calls.{Accepted, tableChecks}
 use Rattle.model.specs.Outcomes.{wrongLength, wrongSize}
-use Rattle.theory.specs.Theorems.{TriplesOf, InSaturation, Source, SaturationExact, ConstraintsFollow, CliquesExact, RepresentativesExact}
+use Rattle.theory.specs.Theorems.{PlacesRight, TriplesOf, InSaturation, Source, SaturationExact, ConstraintsFollow, CliquesExact, RepresentativesExact}
 use Rattle.theory.specs.Theorems.{SummaryExact, StrongRepresentativesExact, StrongSummaryExact, OwnRosterLeast, ShortcutBy, RoutesBy, AgainBy}
 use Rattle.theory.specs.Theorems.{AtRestBy, ShortcutHolds, RoutesAccepted, StrongShortcutHolds, StrongRoutesAccepted, WeakOfStrongHolds}
 use Rattle.theory.specs.Theorems.{Saturated, AtRestHolds, StrongAtRestHolds, AgainTheSame, StrongAgainTheSame, SaturationSaturated, AnyOrder}
-use Rattle.theory.specs.Theorems.{WholeList, FedInAnyOrder}
+use Rattle.theory.specs.Theorems.{WholeList, FedInAnyOrder, FedStands}
 use Rattle.theory.proofs.Tests.{or-false}
 use Rattle.theory.proofs.Checks.{passes-first}
 use Rattle.theory.proofs.Flat.{triples-flat}
@@ -38,7 +38,11 @@ use Rattle.theory.proofs.Strong.{Strong, strongly-strong, strong-strong
 use Rattle.theory.proofs.Grouping as grouping
 use Rattle.theory.proofs.Grouping.{Grouping, weakly, strongly}
 use Rattle.theory.proofs.Constraints.{origin-of, schema-kept}
+use Rattle.theory.proofs.Places.{place-right}
 use Rattle.theory.proofs.Feeding as feeding
+
+pub places-right : PlacesRight
+places-right t ts r = place-right t ts r
 
 module _ (v : Vocabulary) where
   pub saturation-exact : SaturationExact v
@@ -253,6 +257,9 @@ module _ (v : Vocabulary) where
       let R = accept.accepted-right v table roster h in
       let c = feeding.any-order v roster (triples table) R space fs few work same in
       record { held = c .0; summarised = c .1; mapped = c .2 }
+
+  pub fed-stands : FedStands v
+  fed-stands roster space H f x d r q = feeding.fed-stands v roster space H f d r x q
 
   pub whole-list : WholeList v
   whole-list roster s end fs os h run =

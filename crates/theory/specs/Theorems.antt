@@ -3,13 +3,13 @@
 use Prim.Native.Nat.{ℕ, _≤_, _<_, _*_}
 use mathlib.Core.Path.{_≡_}
 use mathlib.Core.Logic.{_⊎_, _↔_}
-use mathlib.Core.Bool.{Bool, true, false}
+use mathlib.Core.Bool.{true, false}
 use mathlib.Core.List.{List, [], map, List·Memᴰ as Mem}
-use lib.ListN.{length}
+use lib.ListN.{length, getD}
 use Rattle.model.specs.declared.Triple.{Triple}
 use Rattle.model.specs.declared.Vocabulary.{Vocabulary}
 use Rattle.model.specs.Codes.{absent, kind, reserved, mostTriples}
-use Rattle.model.specs.Triples.{triple, triples, flat, slots, sorted, listed}
+use Rattle.model.specs.Triples.{triple, triples, flat, slots, before, holds, place, insert, sorted, listed}
 use Rattle.model.specs.Order.{Rising}
 use Rattle.model.specs.Roster.{mark, isClass, isProperty, covers, ownRoster, wrongRoster, wrongCodes}
 use Rattle.model.specs.Rules.{Derives}
@@ -18,13 +18,27 @@ use Rattle.model.specs.Partition.{label}
 use Rattle.model.specs.Cliques.{Graph, Side, Node, Has, Clique, cliques}
 use Rattle.model.specs.Classes.{DataNode, Weakly, Strongly, RepresentsBy, mapOf, strongMapOf}
 use Rattle.model.specs.Summary.{Image, condensed, summary, strongSummary}
-use Rattle.model.specs.Outcomes.{Outcome, accepted}
+use Rattle.model.specs.Outcomes.{Outcome, accepted, Answer, Said}
 use Rattle.model.specs.Calls.{Accepted}
-use Rattle.model.specs.Intake.{State, Feed, answers, heldAfter, stateOf, openOutcome, opened, Run}
+use Rattle.model.specs.Intake.{State, Feed, replyTo, joins, answers, heldAfter, stateOf, openOutcome, opened, Run}
 
 -- the triples of a table, as a set
 abbrev pub TriplesOf : List ℕ → Graph
 TriplesOf table t = Mem t (triples table)
+
+-- ── the place of a triple ──
+-- 02: "Technicians who step through a long list want to land where a triple belongs." In a rising list the triples in front of the place come
+-- before t, and none from there on does.
+pub record PlaceRight (t : Triple) (ts : List Triple) : Type 0 where
+  pub within : place t ts ≤ length ts
+  pub front : (k : ℕ) → k < place t ts → (d : Triple) → before (getD ts k d) t ≡ true
+  pub back : (k : ℕ) → place t ts ≤ k → k < length ts → (d : Triple) → before (getD ts k d) t ≡ false
+  -- a triple that is held stands at its place, and one that joins stands there afterwards
+  pub held : holds t ts ≡ true → (d : Triple) → getD ts (place t ts) d ≡ t
+  pub joined : (d : Triple) → getD (insert t ts) (place t ts) d ≡ t
+
+abbrev pub PlacesRight : Type 0
+PlacesRight = (t : Triple) (ts : List Triple) → Rising ts → PlaceRight t ts
 
 module _ (v : Vocabulary) where
   abbrev pub saturationOf : List ℕ → List ℕ → List Triple
@@ -189,17 +203,24 @@ module _ (v : Vocabulary) where
       → (fs : List Feed) → ((f : Feed) → Mem f fs → f .work ≡ 2 * length roster) → ((t : Triple) → Mem t (map (λ (f : Feed). f .triple) fs) ↔ Mem t (triples table))
       → Collected table roster (heldAfter v roster space fs [])
 
+  -- 02: "Feeding the intake reports the same place within the triples it held before the call, for a repeat too." In what is held after an
+  -- accepted feed, new or not, its triple stands at that place.
+  abbrev pub FedStands : Type 0
+  FedStands =
+      (roster : List ℕ) (space : ℕ) (H : List Triple) (f : Feed) (x : Answer Said) (d : Triple) → Rising H → replyTo v roster space H f ≡ accepted x
+      → getD (joins (accepted x) (f .triple) H) (x .place) d ≡ f .triple
+
   -- the demand: every list of feeds, refusals and repeats included, gives the plain intake's answers and state, as one claim about the whole list
-  pub record Plain (roster : List ℕ) (s : State) (fs : List Feed) (os : List (Outcome Bool)) (end : State) : Type 0 where
+  pub record Plain (roster : List ℕ) (s : State) (fs : List Feed) (os : List (Outcome (Answer Said))) (end : State) : Type 0 where
     pub answered : os ≡ answers v roster (slots (s .triples)) fs []
-    pub state : end ≡ stateOf v roster (length (s .triples)) (length (s .summary)) (heldAfter v roster (slots (s .triples)) fs [])
+    pub state : end ≡ stateOf v roster s (heldAfter v roster (slots (s .triples)) fs [])
     -- what is held is a table in rising order, accepted with the roster: demand 2 says what its summary and its map are
     pub rising : Rising (heldAfter v roster (slots (s .triples)) fs [])
     pub accepted-table : Accepted v (flat (heldAfter v roster (slots (s .triples)) fs [])) roster
 
   abbrev pub WholeList : Type 0
   WholeList =
-      (roster : List ℕ) (s end : State) (fs : List Feed) (os : List (Outcome Bool)) → openOutcome v roster s ≡ accepted tt
+      (roster : List ℕ) (s end : State) (fs : List Feed) (os : List (Outcome (Answer Said))) → openOutcome v roster s ≡ accepted tt
       → Run v roster (opened v roster s) fs os end → Plain roster s fs os end
 
   -- the demand: feeding in any order, with repeats, ends in the plain summary, of the lists and the record that a run of feeds leaves
@@ -212,7 +233,7 @@ module _ (v : Vocabulary) where
 
   abbrev pub FedInAnyOrder : Type 0
   FedInAnyOrder =
-      (table roster : List ℕ) → Accepted v table roster → (s end : State) (fs : List Feed) (os : List (Outcome Bool)) → openOutcome v roster s ≡ accepted tt
+      (table roster : List ℕ) → Accepted v table roster → (s end : State) (fs : List Feed) (os : List (Outcome (Answer Said))) → openOutcome v roster s ≡ accepted tt
       → length (sorted (triples table)) ≤ slots (s .triples)
       → ((f : Feed) → Mem f fs → f .work ≡ 2 * length roster) → ((t : Triple) → Mem t (map (λ (f : Feed). f .triple) fs) ↔ Mem t (triples table))
       → Run v roster (opened v roster s) fs os end → Filled table roster s end

@@ -25,7 +25,7 @@ use Rattle.site_form.specs.declared.Form.the-variants.{Read, Refused}
 use Rattle.site_form.specs.declared.ReadAnswer.{ReadAnswer}
 use Rattle.site_form.specs.Reading.{Forms, formed, queryOf, queriesOf, siteOf, noForms, readForms, outcomeOf, readOutcome, siteIn, readSite, readList}
 use Rattle.site_reader.specs.Calls.{ReadCall}
-use Rattle.call_numbers.specs.Status.{statusOf, valueOr, bits, Stores}
+use Rattle.call_numbers.specs.Status.{statusOf, valueOr, numbered, bits, Stores}
 use Rattle.flat_queries.specs.Flat.{flatQuery, endNumbers, patternNumbers, queryNumbers, flatQueries}
 use Rattle.weak_summary.specs.Calls.{flatAskOutcome, OpenStatus, formStatus, ReadLent, lent, rightLengths, siteLeaves, flatReadOutcome, flatReadLeaves, ReadStatus, RefusedReadIsZero}
 use Rattle.call_numbers.proofs.Outcomes.{stores-as}
@@ -123,7 +123,7 @@ module _ (v : Vocabulary) where
     ask-one h = ap (λ (b : Bool). cond (not b) (refused 1) (askOutcome v table map (flatQuery query))) (ne-eqb (length query) 41 h)
 
     pub ask-length : (before s : ℕ) → (length query ≡ 41 → ⊥) → s ≡ refusalNumber Length → Stores (bits (flatAskOutcome v table map query)) before s before
-    unfolding bits statusOf valueOr refusalNumber
+    unfolding numbered statusOf valueOr refusalNumber
     ask-length before s h e = stores-as (sym (ap bits (ask-one h))) (record { answer = e; value = refl })
 
     pub ask-passed : length query ≡ 41 → askOutcome v table map (flatQuery query) ≡ flatAskOutcome v table map query

@@ -11,7 +11,7 @@ use Rattle.model.specs.declared.Vocabulary.{Vocabulary}
 use Rattle.model.specs.Codes.{codes}
 use Rattle.model.specs.Lists.{zeros}
 use Rattle.model.specs.Cliques.{source, target}
-use Rattle.model.specs.Outcomes.{Outcome, refused, refusalNumber, check, decided}
+use Rattle.model.specs.Outcomes.{Outcome, refused, Answer, Said, refusalNumber, check, decided}
 use Rattle.model.specs.Calls.{Summarised, ownRosterOutcome, ownRosterLeaves, saturateOutcome, saturateLeaves, cliquesOutcome, cliquesLeave}
 use Rattle.model.specs.Calls.{summariseOutcome, summariseLeaves, strongSummariseOutcome, strongSummariseLeaves}
 use Rattle.model.specs.Intake.{State, openOutcome, openLeaves, Fed}
@@ -21,7 +21,7 @@ use Rattle.site_form.specs.declared.Form.{Form}
 use Rattle.site_form.specs.declared.Form.the-variants.{Read, Refused}
 use Rattle.site_form.specs.Reading.{readOutcome, readSite, readList}
 use Rattle.site_form.specs.Writing.{writeOutcome, writeList}
-use Rattle.call_numbers.specs.Status.{statusOf, bits, Stores}
+use Rattle.call_numbers.specs.Status.{statusOf, bits, newBit, Stores, Reports}
 use Rattle.flat_queries.specs.Flat.{flatQuery, flatQueries}
 use Rattle.call_numbers.specs.Words.{ByWords}
 
@@ -78,11 +78,11 @@ module _ (v : Vocabulary) where
     pub answer : status ≡ statusOf (openOutcome v roster s)
     pub leaves : after ≡ openLeaves v roster (openOutcome v roster s) s
 
-  -- feeding: the status and the number `new` tell an outcome, and of that outcome holds what a feed promises
-  pub record FeedStatus (roster : List ℕ) (s : State) (work : List ℕ) (t : Triple) (new status new′ : ℕ) (after : State) (work′ : List ℕ) : Type 0 where
-    pub outcome : Outcome Bool
+  -- feeding: the status and the numbers `new` and `place` tell an outcome, and of that outcome holds what a feed promises
+  pub record FeedStatus (roster : List ℕ) (s : State) (work : List ℕ) (t : Triple) (new status new′ place′ : ℕ) (after : State) (work′ : List ℕ) : Type 0 where
+    pub outcome : Outcome (Answer Said)
     pub fed : Fed v roster s work t outcome after work′
-    pub stores : Stores (bits outcome) new status new′
+    pub reports : Reports newBit outcome new status new′ place′
 
 -- ── the calls that are lent the five codes as a list ──
 -- own roster: roster (lent)
@@ -130,10 +130,10 @@ AskByWords words table map query maybe status maybe′ =
 abbrev pub OpenByWords : (words roster : List ℕ) (s : State) (status : ℕ) (after : State) → Type 0
 OpenByWords words roster s status after = ByWords words ((status ≡ 1) × (after ≡ s)) (λ v. OpenStatus v roster s status after)
 
--- feeding: the lists and counts, the work list and the number `new` (lent)
-abbrev pub FeedByWords : (words roster : List ℕ) (s : State) (work : List ℕ) (new : ℕ) (t : Triple) (status : ℕ) (after : State) (work′ : List ℕ) (new′ : ℕ) → Type 0
-FeedByWords words roster s work new t status after work′ new′ =
-    ByWords words ((status ≡ 1) × (new′ ≡ new) × (work′ ≡ work) × (after ≡ s)) (λ v. FeedStatus v roster s work t new status new′ after work′)
+-- feeding: the lists and counts, the work list and the numbers `new` and `place` (lent); the place is 0 after a refusal, whatever it was
+abbrev pub FeedByWords : (words roster : List ℕ) (s : State) (work : List ℕ) (new : ℕ) (t : Triple) (status : ℕ) (after : State) (work′ : List ℕ) (new′ place′ : ℕ) → Type 0
+FeedByWords words roster s work new t status after work′ new′ place′ =
+    ByWords words ((status ≡ 1) × (new′ ≡ new) × (place′ ≡ 0) × (work′ ≡ work) × (after ≡ s)) (λ v. FeedStatus v roster s work t new status new′ place′ after work′)
 
 -- writing: out (lent), count (lent)
 abbrev pub WriteByWords : (words : List ℕ) (n : ℕ) (table out : List ℕ) (count status : ℕ) (out′ : List ℕ) (count′ : ℕ) → Type 0

@@ -1,11 +1,12 @@
 // The calls of the papers for other languages: numbers and slices only. Each call answers 0 or the number of its refusal;
-// what else it gives is stored through the numbers that are lent. A refusal leaves these alone, but for 8 and 5 of reading.
+// what else it gives is stored through the numbers that are lent. A refusal leaves these alone, but for the place, which is 0 then, and
+// for 8 and 5 of reading.
 
 ghost use mathlib.Core.Path.{_≡_};
 ghost use Rattle.model.specs.Triples.{triple};
 ghost use Rattle.model.specs.Calls.{lookUpOutcome};
 ghost use Rattle.intake_opening.specs.Opening.{atEntry, atExit};
-ghost use Rattle.call_numbers.specs.Status.{bits, Stores};
+ghost use Rattle.call_numbers.specs.Status.{bit, Reports};
 ghost use Rattle.weak_summary.specs.Calls.{OwnRosterByWords, SaturateByWords, CliquesByWords, SummariseByWords, SummariseStrongByWords, AskByWords, OpenByWords, FeedByWords, WriteByWords, lent, formStatus, ReadStatus};
 use ask::ask;
 use call_numbers::WORDS_NUMBERS;
@@ -14,6 +15,8 @@ use call_numbers::counted_status;
 use call_numbers::done_status;
 use call_numbers::found_status;
 use call_numbers::put_words;
+use call_numbers::refused_status;
+use call_numbers::reply_status;
 use call_numbers::words_of;
 use cliques::cliques;
 use flat_queries::QUERIES_NUMBERS;
@@ -121,15 +124,22 @@ pub extern "C" fn ws_summarise_strong(
 }
 
 #[no_mangle]
-pub extern "C" fn ws_look_up(list: &[u32], s: u32, p: u32, o: u32, found: &mut u32) -> u32
-    ensures { λ r. ⌜ Stores (bits (lookUpOutcome (now (list .entry)) (triple s p o))) (now (found .entry)) r (now (found .exit)) ⌝ }
+pub extern "C" fn ws_look_up(
+    list: &[u32],
+    s: u32,
+    p: u32,
+    o: u32,
+    found: &mut u32,
+    place: &mut usize,
+) -> u32
+    ensures { λ r. ⌜ Reports bit (lookUpOutcome (now (list .entry)) (triple s p o)) (now (found .entry)) r (now (found .exit)) (now (place .exit)) ⌝ }
 {
     let t = Triple {
         subject: s,
         property: p,
         object: o,
     };
-    found_status(look_up(list, t), found)
+    found_status(look_up(list, t), found, place)
 }
 
 #[no_mangle]
@@ -192,14 +202,15 @@ pub extern "C" fn ws_feed(
     held: &mut usize,
     summarised: &mut usize,
     new: &mut u32,
+    place: &mut usize,
 ) -> u32
     ensures { λ r. ⌜ FeedByWords (now (words .entry)) (now (roster .entry))
         (atEntry triples summary map (now (held .entry)) (now (summarised .entry))) (now (work .entry)) (now (new .entry))
         (triple s p o) r
-        (atExit triples summary map (now (held .exit)) (now (summarised .exit))) (now (work .exit)) (now (new .exit)) ⌝ }
+        (atExit triples summary map (now (held .exit)) (now (summarised .exit))) (now (work .exit)) (now (new .exit)) (now (place .exit)) ⌝ }
 {
     if words.len() != WORDS_NUMBERS {
-        return refusal_number(Refusal::Length);
+        return refused_status(Refusal::Length, place);
     }
     let loaded = words_of(words);
     let fed = feed_lists(
@@ -218,7 +229,7 @@ pub extern "C" fn ws_feed(
     let answer = fed.answer;
     *held = fed.counts.held;
     *summarised = fed.counts.summarised;
-    found_status(answer, new)
+    reply_status(answer, new, place)
 }
 
 #[no_mangle]

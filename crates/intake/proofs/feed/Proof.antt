@@ -44,18 +44,18 @@ use denote.Triple.Walked.{says, Stays, stay-ref, gave-slice, stay-none, walkOf, 
 use denote.Exit.{yes}
 use denote.Signature.{plain, shrSliceOf}
 use Rattle.model.specs.Triples.{triple}
-use Rattle.model.specs.Outcomes.{found}
+use Rattle.model.specs.Outcomes.{replied}
 use Rattle.model.specs.Intake.{Fed}
 use Rattle.intake_opening.specs.Opening.{stateWith}
 use Rattle.intake_opening.specs.declared.Counts.{Counts}
 use Rattle.intake_adding.specs.declared.FedCounts.{FedCounts}
-use Rattle.model.specs.declared.Found.{Found}
+use Rattle.model.specs.declared.Reply.{Reply}
 use Rattle.intake_opening.proofs.Counts as T
 use Rattle.intake_opening.proofs.Counts.Laws as T′
 use Rattle.intake_adding.proofs.FedCounts as F
 use Rattle.intake_adding.proofs.FedCounts.Laws as F′
-use Rattle.model.proofs.Found as E
-use Rattle.model.proofs.Found.Laws as E′
+use Rattle.model.proofs.Reply as E
+use Rattle.model.proofs.Reply.Laws as E′
 use Rattle.model.specs.declared.Vocabulary.{Vocabulary}
 use Rattle.model.proofs.Vocabulary as X0
 use Rattle.model.proofs.Vocabulary.Laws as X0′
@@ -129,7 +129,7 @@ module _ {M : Type 1} (𝓤 : URA M) (H : Heap 𝓤) (A : Atoms 𝓤) (W : Given
   vals = (vptr b o ∷ [], restv)
 
   -- the machine value of an answer
-  abbrev ans : Found → Val
+  abbrev ans : Reply → Val
   ans y = EL.val E.the-type E′.the-laws y
 
   abbrev after : FedCounts → Counts
@@ -150,7 +150,7 @@ module _ {M : Type 1} (𝓤 : URA M) (H : Heap 𝓤) (A : Atoms 𝓤) (W : Given
 
   -- what the callee ensures of its result and of the last lists
   abbrev Said : FedCounts → List ℕ → List ℕ → List ℕ → List ℕ → Type 0
-  Said r z3 z4 z5 z6 = Fed v1 y2 (stateWith y3 y4 y5 (h .held) (h .summarised)) y6 (triple v7 v8 v9) (found (r .answer)) (stateWith z3 z4 z5 (r .counts .held) (r .counts .summarised)) z6
+  Said r z3 z4 z5 z6 = Fed v1 y2 (stateWith y3 y4 y5 (h .held) (h .summarised)) y6 (triple v7 v8 v9) (replied (r .answer)) (stateWith z3 z4 z5 (r .counts .held) (r .counts .summarised)) z6
 
   exits : (r : FedCounts) (z3 : List ℕ) (z4 : List ℕ) (z5 : List ℕ) (z6 : List ℕ) → Said r z3 z4 z5 z6 → length z3 ≡ length y3 → length z4 ≡ length y4 → length z5 ≡ length y5 → length z6 ≡ length y6 → Is E.the-row (r .answer) (ans (r .answer) ∷ []) → ent 𝓤 (⋆ 𝓤 H A (‵ (fobs γ (T.the-row .coded .code (after r))) ∷ ‵ (fbor κ0 (Body (mem T.the-row) b o γ)) ∷ ‵ (flft κ0 q0) ∷ (‵ (flft κ1 q1) ⊛ ‵ (flft κ2 q2) ⊛ ‵ (flft κ3 q3) ⊛ ‵ (flft κ4 q4) ⊛ ‵ (flft κ5 q5) ⊛ ‵ ftrue) ∷ ‵ (finally u32 γ3 z3) ∷ ‵ (finally u32 γ4 z4) ∷ ‵ (finally u32 γ5 z5) ∷ ‵ (finally u32 γ6 z6) ∷ [])) (Post (ans (r .answer)))
   exits r z3 z4 z5 z6 e l3 l4 l5 l6 is =

@@ -46,18 +46,18 @@ use denote.Triple.Walked.{says, Stays, gave-slice, stay-none, walkOf, goes-gave-
 use denote.Exit.{yes}
 use denote.Signature.{plain, shrSliceOf}
 use Rattle.model.specs.Triples.{triple}
-use Rattle.model.specs.Outcomes.{found}
+use Rattle.model.specs.Outcomes.{replied}
 use Rattle.model.specs.Intake.{Fed}
 use Rattle.intake_opening.specs.Opening.{stateWith}
 use Rattle.intake_opening.specs.declared.Counts.{Counts}
 use Rattle.intake_adding.specs.declared.FedCounts.{FedCounts}
-use Rattle.model.specs.declared.Found.{Found}
+use Rattle.model.specs.declared.Reply.{Reply}
 use Rattle.intake_opening.proofs.Counts as T
 use Rattle.intake_opening.proofs.Counts.Laws as T′
 use Rattle.intake_adding.proofs.FedCounts as F
 use Rattle.intake_adding.proofs.FedCounts.Laws as F′
-use Rattle.model.proofs.Found as E
-use Rattle.model.proofs.Found.Laws as E′
+use Rattle.model.proofs.Reply as E
+use Rattle.model.proofs.Reply.Laws as E′
 use Rattle.model.specs.declared.Vocabulary.{Vocabulary}
 use Rattle.model.proofs.Vocabulary as X0
 use Rattle.model.proofs.Vocabulary.Laws as X0′
@@ -115,7 +115,7 @@ module _ {M : Type 1} (𝓤 : URA M) (H : Heap 𝓤) (A : Atoms 𝓤) (W : Given
   abbrev mach : Counts → Val
   mach z = vstruct (vcons (vint w64 (z .held)) (vcons (vint w64 (z .summarised)) vnil))
 
-  abbrev ans : Found → Val
+  abbrev ans : Reply → Val
   ans y = EL.val E.the-type E′.the-laws y
 
   -- the arguments, and their machine values
@@ -151,16 +151,16 @@ module _ {M : Type 1} (𝓤 : URA M) (H : Heap 𝓤) (A : Atoms 𝓤) (W : Given
   goes l ν δ = qed W ((‵ (flft (ν ∷ []) fullShare) ⊛ ‵ (flft κ0 q0) ⊛ ‵ (flft κ1 q1) ⊛ ‵ (flft κ2 q2) ⊛ ‵ (flft κ3 q3) ⊛ ‵ (flft κ4 q4) ⊛ ‵ ftrue) ∷ ‵ (owns (MutRef (named 0) (ν ∷ []) T.the-row ∷ X0.the-row ∷ ShrSlice (named 0) κ0 u8 ∷ MutSlice (named 1) κ1 u32 ∷ MutSlice (named 2) κ2 u32 ∷ MutSlice (named 3) κ3 u32 ∷ MutSlice (named 4) κ4 u32 ∷ u32 ∷ u32 ∷ u32 ∷ []) (args l δ) (vptr l 0 ∷ [], restv)) ∷ []) ∵ join ! $ frame ! $ done !
 
   -- what the callee ensures of its answer y, the record's last value z and the last lists
-  abbrev Said : Found → Counts → List ℕ → List ℕ → List ℕ → List ℕ → Type 0
-  Said y z z3 z4 z5 z6 = Fed v1 y2 (stateWith y3 y4 y5 (h .held) (h .summarised)) y6 (triple v7 v8 v9) (found y) (stateWith z3 z4 z5 (z .held) (z .summarised)) z6
+  abbrev Said : Reply → Counts → List ℕ → List ℕ → List ℕ → List ℕ → Type 0
+  Said y z z3 z4 z5 z6 = Fed v1 y2 (stateWith y3 y4 y5 (h .held) (h .summarised)) y6 (triple v7 v8 v9) (replied y) (stateWith z3 z4 z5 (z .held) (z .summarised)) z6
 
-  abbrev result : Found → Counts → FedCounts
+  abbrev result : Reply → Counts → FedCounts
   result y z = record { answer = y; counts = z }
 
-  abbrev out : Found → Counts → Val
+  abbrev out : Reply → Counts → Val
   out y z = vstruct (vcons (ans y) (vcons (mach z) vnil))
 
-  exits : (y : Found) (z : Counts) (z3 : List ℕ) (z4 : List ℕ) (z5 : List ℕ) (z6 : List ℕ) → Said y z z3 z4 z5 z6 → length z3 ≡ length y3 → length z4 ≡ length y4 → length z5 ≡ length y5 → length z6 ≡ length y6 → Is F.the-row (result y z) (out y z ∷ []) → ent 𝓤 (⋆ 𝓤 H A ((‵ (flft κ0 q0) ⊛ ‵ (flft κ1 q1) ⊛ ‵ (flft κ2 q2) ⊛ ‵ (flft κ3 q3) ⊛ ‵ (flft κ4 q4) ⊛ ‵ ftrue) ∷ ‵ (finally u32 γ3 z3) ∷ ‵ (finally u32 γ4 z4) ∷ ‵ (finally u32 γ5 z5) ∷ ‵ (finally u32 γ6 z6) ∷ [])) (Post (out y z))
+  exits : (y : Reply) (z : Counts) (z3 : List ℕ) (z4 : List ℕ) (z5 : List ℕ) (z6 : List ℕ) → Said y z z3 z4 z5 z6 → length z3 ≡ length y3 → length z4 ≡ length y4 → length z5 ≡ length y5 → length z6 ≡ length y6 → Is F.the-row (result y z) (out y z ∷ []) → ent 𝓤 (⋆ 𝓤 H A ((‵ (flft κ0 q0) ⊛ ‵ (flft κ1 q1) ⊛ ‵ (flft κ2 q2) ⊛ ‵ (flft κ3 q3) ⊛ ‵ (flft κ4 q4) ⊛ ‵ ftrue) ∷ ‵ (finally u32 γ3 z3) ∷ ‵ (finally u32 γ4 z4) ∷ ‵ (finally u32 γ5 z5) ∷ ‵ (finally u32 γ6 z6) ∷ [])) (Post (out y z))
   exits y z z3 z4 z5 z6 e l3 l4 l5 l6 is =
       qed W ((‵ (flft κ0 q0) ⊛ ‵ (flft κ1 q1) ⊛ ‵ (flft κ2 q2) ⊛ ‵ (flft κ3 q3) ⊛ ‵ (flft κ4 q4) ⊛ ‵ ftrue) ∷ ‵ (finally u32 γ3 z3) ∷ ‵ (finally u32 γ4 z4) ∷ ‵ (finally u32 γ5 z5) ∷ ‵ (finally u32 γ6 z6) ∷ []) ∵
       suffices ! _ (ends-at 𝓤 H A f.ended stayed (f.clauses 𝓤 H A at-mem run) W (((κ0, (κ1, (κ2, (κ3, (κ4, tt))))), (q0, (q1, (q2, (q3, (q4, tt))))), bounds, a, vals), tt) (out y z) (result y z) (tt, (tt, (tt, (z3, (z4, (z5, (z6, (tt, (tt, (tt, tt)))))))))) (tt, (tt, (tt, (l3, (l4, (l5, (l6, (tt, (tt, (tt, tt))))))))))) $
@@ -168,7 +168,7 @@ module _ {M : Type 1} (𝓤 : URA M) (H : Heap 𝓤) (A : Atoms 𝓤) (W : Given
       frame ! $ nothing ! $ owned ! u32 (Is u32) (uint-makes 𝓤 H A W w32) v9 _ (refl, fits9) $ fjoin ! $ owned ! u32 (Is u32) (uint-makes 𝓤 H A W w32) v8 _ (refl, fits8) $ fjoin ! $ owned ! u32 (Is u32) (uint-makes 𝓤 H A W w32) v7 _ (refl, fits7) $ fjoin ! $ move ! (4 ∷ 0 ∷ []) $ fjoin ! $ move ! (3 ∷ 0 ∷ []) $ fjoin ! $ move ! (2 ∷ 0 ∷ []) $ fjoin ! $ move ! (1 ∷ 0 ∷ []) $ fjoin ! $ nothing ! $ fjoin ! $ owned ! X0.the-row (Is X0.the-row) (LL.makes X0.the-type X0′.the-plain 𝓤 H A) v1 _ fits1 $ fjoin ! $ owned ! T.the-row (Is T.the-row) (LL.makes T.the-type T′.the-plain 𝓤 H A) h _ made $ fjoin ! $ owned ! F.the-row (Is F.the-row) (LL.makes F.the-type F′.the-plain 𝓤 H A) (result y z) _ is $ move ! (1 ∷ 0 ∷ []) $ done !
 
   -- what whoever makes the result owes
-  is-result : (y : Found) (z : Counts) (w : Val) → Is E.the-row y (w ∷ []) → Is T.the-row z (LL.vals T.the-type T′.the-laws z) → Is F.the-row (result y z) (out y z ∷ [])
+  is-result : (y : Reply) (z : Counts) (w : Val) → Is E.the-row y (w ∷ []) → Is T.the-row z (LL.vals T.the-type T′.the-laws z) → Is F.the-row (result y z) (out y z ∷ [])
   is-result y z w is k = LL.owes F.the-type F′.the-laws (result y z) (subst (λ (vs : List Val). Is E.the-row y vs) (EL.tells E.the-type E′.the-laws y (w ∷ []) is) is, (k, tt))
 
   module _ (C : Calls 𝓤 H) (Λ : Loops 𝓤 H) (fm : FmC 𝓤 H (W .laws) C) (known : Triple 𝓤 (C #intake·feed) (G 𝓤 H A at-mem run)) where
@@ -199,7 +199,7 @@ module _ {M : Type 1} (𝓤 : URA M) (H : Heap 𝓤) (A : Atoms 𝓤) (W : Given
         -- the arguments go to the callee
         move ! (49 ∷ []) $ fsplit ! $ drop ! $ move ! (3 ∷ 49 ∷ []) $ join ! $ move ! (2 ∷ 1 ∷ []) $ fjoin ! $ move ! (1 ∷ 0 ∷ []) $ use2 W (raw (G 𝓤 H A at-mem run .pre (to l11 ν δ))) (goes l11 ν δ) $
         calls-at ! fm (G 𝓤 H A at-mem run) known (to l11 ν δ) (and-then ! (load ! (from ! (stop !)) (look ! 20 refl)) (and-then ! (load ! (from ! (stop !)) (look ! 41 refl)) (and-then ! (load ! (from ! (stop !)) (look ! 39 refl)) (and-then ! (load ! (from ! (stop !)) (look ! 16 refl)) (and-then ! (load ! (from ! (stop !)) (look ! 12 refl)) (and-then ! (load ! (from ! (stop !)) (look ! 8 refl)) (and-then ! (load ! (from ! (stop !)) (look ! 4 refl)) (and-then ! (load ! (from ! (stop !)) (look ! 29 refl)) (and-then ! (load ! (from ! (stop !)) (look ! 27 refl)) (and-then ! (load ! (from ! (stop !)) (look ! 25 refl)) (no-more !))))))))))) (λ w.
-        use1 W (later (some (λ (y : Found). ((‵ (flft (ν ∷ []) fullShare) ⊛ ‵ (flft κ0 q0) ⊛ ‵ (flft κ1 q1) ⊛ ‵ (flft κ2 q2) ⊛ ‵ (flft κ3 q3) ⊛ ‵ (flft κ4 q4) ⊛ ‵ ftrue) ⊛ ‵ (E.the-row .own y (w ∷ []))) ⊛ raw (ensured 𝓤 H A g.ended (g.clauses 𝓤 H A at-mem run) (ν ∷ [], (κ0, (κ1, (κ2, (κ3, (κ4, tt)))))) (args l11 δ) tt y)))) (id⊢ 𝓤 _) $ await ! tt $ pick ! (λ y.
+        use1 W (later (some (λ (y : Reply). ((‵ (flft (ν ∷ []) fullShare) ⊛ ‵ (flft κ0 q0) ⊛ ‵ (flft κ1 q1) ⊛ ‵ (flft κ2 q2) ⊛ ‵ (flft κ3 q3) ⊛ ‵ (flft κ4 q4) ⊛ ‵ ftrue) ⊛ ‵ (E.the-row .own y (w ∷ []))) ⊛ raw (ensured 𝓤 H A g.ended (g.clauses 𝓤 H A at-mem run) (ν ∷ [], (κ0, (κ1, (κ2, (κ3, (κ4, tt)))))) (args l11 δ) tt y)))) (id⊢ 𝓤 _) $ await ! tt $ pick ! (λ y.
         -- what the callee ensures, at some last record and lists
         split ! $ move ! (1 ∷ []) $ use1 W (some (λ (zs : Counts × (Unit {0} × (Unit {0} × (List ℕ × (List ℕ × (List ℕ × (List ℕ × (Unit {0} × (Unit {0} × (Unit {0} × Unit {0})))))))))). ‵ (lasts g.ended (ν ∷ [], (κ0, (κ1, (κ2, (κ3, (κ4, tt)))))) (args l11 δ) zs) ⊛ raw (fact 𝓤 (Said y (zs .0) (zs .1 .1 .1 .0) (zs .1 .1 .1 .1 .0) (zs .1 .1 .1 .1 .1 .0) (zs .1 .1 .1 .1 .1 .1 .0))))) (id⊢ 𝓤 _) $ pick ! (λ zs.
         split ! $ move ! (1 ∷ []) $ heard ! (Said y (zs .0) (zs .1 .1 .1 .0) (zs .1 .1 .1 .1 .0) (zs .1 .1 .1 .1 .1 .0) (zs .1 .1 .1 .1 .1 .1 .0)) (λ e.

@@ -3,15 +3,15 @@
 use mathlib.Core.Path.{refl}
 use borrow.Author.Needs.{needs}
 use Rattle.call_numbers.proofs.Words.{one, by-wrong, by-right}
-use Rattle.model.specs.Outcomes.{found}
+use Rattle.model.specs.Outcomes.{replied}
 use Rattle.weak_summary.proofs.ws_feed.Statement.{statement}
 use Rattle.weak_summary.proofs.ws_feed.Tie as tie
 
-refusal-number-requires : tie.Need-refusal-number-requires
-refusal-number-requires c κs = search needs
+refused-status-requires : tie.Need-refused-status-requires
+refused-status-requires c κs = search needs
 
 returns : tie.Need-returns
-returns c = by-wrong (c .before .if1 .taken) (one (c .refusal-number .ensures), refl, refl, refl)
+returns c = by-wrong (c .before .before .if1 .taken) (one (c .refused-status .ensures .0), refl, c .refused-status .ensures .1, refl, refl)
 
 words-of-requires : tie.Need-words-of-requires
 words-of-requires c κs = c .if1 .left
@@ -19,8 +19,8 @@ words-of-requires c κs = c .if1 .left
 feed-lists-requires : tie.Need-feed-lists-requires
 feed-lists-requires c κs = search needs
 
-found-status-requires : tie.Need-found-status-requires
-found-status-requires c κs = search needs
+reply-status-requires : tie.Need-reply-status-requires
+reply-status-requires c κs = search needs
 
 same-length : tie.Need-same-length
 same-length c = search needs
@@ -36,22 +36,22 @@ same-length-4 c = search needs
 
 returns-2 : tie.Need-returns-2
 returns-2 c =
-    let back10 = c .before .before .before .before .before .before .before .before .before .before in
-    let back17 = back10 .before .before .before .before .before .before .before in
-    let back18 = back17 .before in
-    let f = back10 .feed-lists in
-    by-right (back18 .if1 .left) _ (back17 .words-of .ensures)
-    (record { outcome = found (f .result .answer); fed = f .ensures; stores = c .found-status .ensures })
+    let back11 = c .before .before .before .before .before .before .before .before .before .before .before in
+    let back18 = back11 .before .before .before .before .before .before .before in
+    let back19 = back18 .before in
+    let f = back11 .feed-lists in
+    by-right (back19 .if1 .left) _ (back18 .words-of .ensures)
+    (record { outcome = replied (f .result .answer); fed = f .ensures; reports = c .reply-status .ensures })
 
 pub ws-feed-spec : {M : Type 1} → statement M
 ws-feed-spec =
     tie.close
     (tie.spec
-    refusal-number-requires
+    refused-status-requires
     returns
     words-of-requires
     feed-lists-requires
-    found-status-requires
+    reply-status-requires
     same-length
     same-length-2
     same-length-3

@@ -1,9 +1,8 @@
 -- `weak_summary::ws_look_up` meets its contract.
 -- Assumes nothing.
-use mathlib.Core.Path.{ap}
 use borrow.Author.Needs.{needs}
-use Rattle.call_numbers.specs.Status.{bits}
-use Rattle.call_numbers.proofs.Outcomes.{stores-as}
+use Rattle.call_numbers.specs.Status.{bit}
+use Rattle.call_numbers.proofs.Outcomes.{reports-as}
 use Rattle.weak_summary.proofs.ws_look_up.Statement.{statement}
 use Rattle.weak_summary.proofs.ws_look_up.Tie as tie
 
@@ -14,7 +13,7 @@ found-status-requires : tie.Need-found-status-requires
 found-status-requires c κs = search needs
 
 returns : tie.Need-returns
-returns c = stores-as (ap bits (c .before .before .look-up .ensures)) (c .found-status .ensures)
+returns c = reports-as bit (c .before .before .before .look-up .ensures) (c .found-status .ensures)
 
 pub ws-look-up-spec : {M : Type 1} → statement M
 ws-look-up-spec = tie.close (tie.spec look-up-requires found-status-requires returns)
