@@ -20,7 +20,7 @@ pub struct Seen {
 }
 
 // What is seen of t in the whole list. A triple that stands after t in the list may come before it in the order, so the pass never ends early.
-// The loop has no branch of its own, and the compiler makes none of the two comparisons: in a list without order none could be foreseen.
+// The loop has no branch of its own, but the compiler branches where a triple has the subject that is looked up.
 fn seen_in(list: &[u32], t: Triple) -> Seen
     ensures { λ r. ⌜ r ≡ seenIn (triples (now (list .entry))) t ⌝ }
 {
