@@ -242,23 +242,27 @@ uint32_t ws_ask(const uint32_t *words, size_t words_length, const uint32_t *tabl
 /*
  * Open an intake: it holds no triple.
  *   triples, summary  of equal slots, at most WS_MAX_TRIPLES; zero afterwards.
+ *   weights           as many numbers as there are slots; zero afterwards.
  *   map               N numbers; all WS_ABSENT afterwards.
  *   *held, *summarised  0 afterwards.
  * Refusals, in order
  *   1  the words not five; N out of range; the map not of N numbers; triples and summary of unequal slots, or over
- *      WS_MAX_TRIPLES slots
+ *      WS_MAX_TRIPLES slots; weights of more or fewer numbers than slots
  *   10, 2
  * They alter nothing.
  */
 uint32_t ws_open(const uint32_t *words, size_t words_length, const uint8_t *roster, size_t roster_length,
-                 uint32_t *triples, size_t triples_length, uint32_t *summary, size_t summary_length, uint32_t *map,
-                 size_t map_length, size_t *held, size_t *summarised);
+                 uint32_t *triples, size_t triples_length, uint32_t *summary, size_t summary_length, uint32_t *weights,
+                 size_t weights_length, uint32_t *map, size_t map_length, size_t *held, size_t *summarised);
 
 /*
  * Feed an intake one triple. Lend the words and the roster of the opening, and the lists and counts as the call before left
  * them.
  *   triples      the distinct triples fed so far, in rising order, zero beyond.
  *   summary      their summary, zero beyond.
+ *   weights      one number for each slot: for each triple of the summary, in the same order, how many of the triples held
+ *                become it when their subject and object are replaced by their representatives, which is at least 1; zero
+ *                beyond. They add up to *held, which is how many of the triples fed since the opening were new.
  *   map          their map.
  *   work         2 * N numbers with any content; zero after an accepted feed, new or not.
  *   *held        the number of triples held.
@@ -268,7 +272,7 @@ uint32_t ws_open(const uint32_t *words, size_t words_length, const uint8_t *rost
  *   *place       how many of the triples held before the call come before it; 0 after a refusal. After
  *                an accepted feed, new or not, the triple stands there in triples.
  * Refusals, in order
- *   1  the words not five; N out of range; map, work, triples or summary of a wrong length
+ *   1  the words not five; N out of range; triples, summary, weights, map or work of a wrong length
  *   10, 2
  *   3  of the fed triple
  *   4  of the fed triple
@@ -279,13 +283,14 @@ uint32_t ws_open(const uint32_t *words, size_t words_length, const uint8_t *rost
  * "not new" the work list is zero, and the other lists and both counts stay as they are; after "new" the work list is zero,
  * *held is one more, and *held and *summarised are at most the slots; *place is at most what *held was before the call.
  * Open are which of "new", "not new" and 7 is answered, what *place is after "new" and "not new" and, after "new", what
- * triples, summary and map hold and what *summarised is. Counts that were altered stay so after 7 and "not new": compare
- * them with the slots before they are used as lengths.
+ * triples, summary, weights and map hold and what *summarised is. Counts that were altered stay so after 7 and "not new":
+ * compare them with the slots before they are used as lengths.
  */
 uint32_t ws_feed(const uint32_t *words, size_t words_length, const uint8_t *roster, size_t roster_length,
-                 uint32_t *triples, size_t triples_length, uint32_t *summary, size_t summary_length, uint32_t *map,
-                 size_t map_length, uint32_t *work, size_t work_length, uint32_t subject, uint32_t property,
-                 uint32_t object, size_t *held, size_t *summarised, uint32_t *is_new, size_t *place);
+                 uint32_t *triples, size_t triples_length, uint32_t *summary, size_t summary_length, uint32_t *weights,
+                 size_t weights_length, uint32_t *map, size_t map_length, uint32_t *work, size_t work_length,
+                 uint32_t subject, uint32_t property, uint32_t object, size_t *held, size_t *summarised,
+                 uint32_t *is_new, size_t *place);
 
 /*
  * Write the site form: the line (site N), then, unless the words are 0, 1, 2, 3, 4 in this sequence, the line

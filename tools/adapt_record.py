@@ -172,11 +172,11 @@ def generate(fn,name,rec,fields,res,enum,params,said,specuses):
 
 if __name__ == '__main__':
     rec=[('held','usize'),('summarised','usize')]
-    lists=[('val','Vocabulary'),('shr','u8'),('mut','u32'),('mut','u32'),('mut','u32')]
+    lists=[('val','Vocabulary'),('shr','u8'),('mut','u32'),('mut','u32'),('mut','u32'),('mut','u32')]
     def write(fn,text): open(f'crates/{CRATE}/proofs/{fn}/Proof.antt','w').write(text)
     write('open_by_value',generate('open_by_value','open','Counts',rec,'OpenedCounts','Done',lists,
-      said='Opens v1 y2 (stateWith y3 y4 y5 (h .held) (h .summarised)) (outcome y) (stateWith z3 z4 z5 (z .held) (z .summarised))',
+      said='Opens v1 y2 (stateWith y3 y4 y5 y6 (h .held) (h .summarised)) (outcome y) (stateWith z3 z4 z5 z6 (z .held) (z .summarised))',
       specuses=['use Rattle.model.specs.Outcomes.{done as outcome}','use Rattle.intake_opening.specs.Opening.{stateWith, Opens}']))
     write('feed_by_value',generate('feed_by_value','feed','Counts',rec,'FedCounts','Reply',lists+[('mut','u32'),('num','u32'),('num','u32'),('num','u32')],
-      said='Fed v1 y2 (stateWith y3 y4 y5 (h .held) (h .summarised)) y6 (triple v7 v8 v9) (replied y) (stateWith z3 z4 z5 (z .held) (z .summarised)) z6',
+      said='Fed v1 y2 (stateWith y3 y4 y5 y6 (h .held) (h .summarised)) y7 (triple v8 v9 v10) (replied y) (stateWith z3 z4 z5 z6 (z .held) (z .summarised)) z7',
       specuses=['use Rattle.model.specs.Triples.{triple}','use Rattle.model.specs.Outcomes.{replied}','use Rattle.model.specs.Intake.{Fed}','use Rattle.intake_opening.specs.Opening.{stateWith}']))

@@ -2,7 +2,7 @@
 
 use crate::inputs::{self, Random, FIRST_FREE, FRESH, SITE, TYPE, WORDS};
 use crate::measure::{heading, measure, series, sizes, Settings, Timing};
-use weak_summary::calls::{self as proved, Lent};
+use weak_summary::calls::{self as proved, Lent, State};
 use weak_summary_reference::{feed_fast, feed_lists_only, FastIntake, Fed, Words, MAX_TRIPLES};
 
 /// Feeds per run; times are for one feed.
@@ -13,6 +13,7 @@ const FEEDS: usize = 16;
 struct Intake {
     triples: Vec<u32>,
     summary: Vec<u32>,
+    weights: Vec<u32>,
     map: Vec<u32>,
     work: Vec<u32>,
     held: usize,
@@ -29,23 +30,23 @@ struct Plain {
 
 fn feed(l: &mut Intake, roster: &[u8], t: [u32; 3]) {
     let (mut is_new, mut place) = (9, usize::MAX);
-    let lent = Lent {
-        words: &WORDS,
-        roster,
+    let state = State {
         triples: &mut l.triples,
         summary: &mut l.summary,
+        weights: &mut l.weights,
         map: &mut l.map,
-        work: &mut l.work,
         held: &mut l.held,
         summarised: &mut l.summarised,
     };
+    let lent = Lent { words: &WORDS, roster, state, work: &mut l.work };
     let status = proved::feed(lent, t, &mut is_new, &mut place);
     assert_eq!(status, 0);
     l.answers.push(Ok((is_new == 1, place)));
 }
 
 fn agree(a: &Intake, b: &Plain) -> Result<String, String> {
-    let lists = a.triples == b.intake.triples && a.summary == b.intake.summary && a.map == b.intake.map;
+    let lists = [&a.triples, &a.summary, &a.weights, &a.map]
+        == [&b.intake.triples, &b.intake.summary, &b.intake.weights, &b.intake.map];
     let counts = (a.held, a.summarised) == (b.intake.held, b.intake.summarised);
     if lists && counts && a.answers == b.answers {
         let new = a.answers.iter().filter(|answer| matches!(answer, Ok((true, _)))).count();
@@ -66,6 +67,7 @@ fn holding(table: &[u32], roster: &[u8]) -> (Intake, Plain) {
     let ours = Intake {
         triples: intake.triples.clone(),
         summary: intake.summary.clone(),
+        weights: intake.weights.clone(),
         map: intake.map.clone(),
         work: vec![1; 2 * roster.len()],
         held: intake.held,
@@ -161,10 +163,10 @@ pub fn all(settings: &Settings) {
     let sizes = &sizes(settings);
     let note = "Size: triples held before, of the data-heavy table; the state is what feeding them leaves. N is 65,536. \
                 Times are for one feed, the mean of 16. The proved intake has nothing but the lent lists. The plain one \
-                keeps notes of its own beside them (an end of each property, which nodes have data) and makes the map and \
-                the summary anew only when the class of a known node changes; in the lines \"lists only\" it has no notes \
-                and makes them anew whenever the image is new, as the proved one does. New nodes have the largest codes, so \
-                they are inserted at the end.";
+                keeps notes of its own beside them (an end of each property, which nodes have data) and makes the map, the \
+                summary and the weights anew only when the class of a known node changes; in the lines \"lists only\" it has \
+                no notes and makes them anew whenever the image is new, as the proved one does. New nodes have the largest \
+                codes, so they are inserted at the end.";
     heading("Feed", note);
     for (name, choose) in CHOICES {
         series(settings, name, sizes, |t| feeds(settings, t, choose, feed_fast));

@@ -8,8 +8,7 @@ use weak_summary_reference as plain;
 /// What opening writes.
 #[derive(Clone, PartialEq)]
 struct Opened {
-    lists: [Vec<u32>; 2],
-    map: Vec<u32>,
+    lists: [Vec<u32>; 4],
     counts: [usize; 2],
     status: u32,
 }
@@ -33,15 +32,16 @@ fn check(settings: &Settings, n: usize) -> Timing {
 
 fn open(settings: &Settings, n: usize, slots: usize) -> Timing {
     let roster = &marked(n);
-    let before = Opened { lists: [(); 2].map(|()| vec![1; 3 * slots]), map: vec![1; n], counts: [9; 2], status: 9 };
+    let lists = [3 * slots, 3 * slots, slots, n].map(|length| vec![1; length]);
+    let before = Opened { lists, counts: [9; 2], status: 9 };
     measure(
         settings,
         (&before, &before),
-        |Opened { lists: [triples, summary], map, counts: [held, summarised], status }| {
-            *status = proved::open(&WORDS, roster, triples, summary, map, held, summarised);
+        |Opened { lists: [triples, summary, weights, map], counts: [held, summarised], status }| {
+            *status = proved::open(&WORDS, roster, proved::State { triples, summary, weights, map, held, summarised });
         },
-        |Opened { lists: [triples, summary], map, counts: [held, summarised], status }| {
-            *status = plain::open(&WORDS, roster, triples, summary, map, held, summarised);
+        |Opened { lists: [triples, summary, weights, map], counts: [held, summarised], status }| {
+            *status = plain::open(&WORDS, roster, plain::State { triples, summary, weights, map, held, summarised });
         },
         |a, b| if a == b && a.status == 0 { Ok("-".to_string()) } else { Err("openings".to_string()) },
     )
@@ -50,7 +50,8 @@ fn open(settings: &Settings, n: usize, slots: usize) -> Timing {
 pub fn all(settings: &Settings) {
     let sizes: Vec<usize> = (13..=16).map(|power| 1 << power).collect();
     let note = "Size: N. Check of the roster: a saturate of one triple with a wrong code, which is refused straight after this check. \
-                Opening makes a map of N entries absent and zeroes the two triple lists, which have no slots, or 65,536.";
+                Opening makes a map of N entries absent and zeroes the two triple lists and the weights, which have no slots, \
+                or 65,536.";
     heading("Roster check and opening", note);
     series(settings, "check of the roster", &sizes, |n| check(settings, n));
     series(settings, "opening, no slots", &sizes, |n| open(settings, n, 0));

@@ -1,12 +1,13 @@
 /* The edges of the C interface: the most bytes that are written, a summary as long as its table, lists of length 0, places,
-   retired queries, and intakes that were altered between calls. The last line says how many checks failed. */
+   retired queries, weights of a wrong size, and intakes that were altered between calls. The last line says how many checks
+   failed. */
 #include <stdio.h>
 #include <string.h>
 
 #include "weak_summary.h"
 
 #define N 12
-#define SLOTS 2
+#define SLOTS 3
 #define FIVE RDFS, WS_WORDS_NUMBERS
 #define NONE NULL, 0
 
@@ -124,10 +125,12 @@ static void no_slots(void) {
     check(ws_summarise_strong(FIVE, ONE, 3, ROSTER, N, NONE, map, N, work, 2 * N, &count) == WS_REFUSED_SLOTS, "nor strongly");
     check(count == 9 && all(map, N, 0) && all(work, 2 * N, 0), "after 5 map and work are zero, strongly");
     spoil();
-    check(ws_open(FIVE, ROSTER, N, NONE, NONE, map, N, &held, &summarised) == WS_OK, "an intake without slots is opened");
+    check(ws_open(FIVE, ROSTER, N, NONE, NONE, work, 1, map, N, &held, &summarised) == WS_REFUSED_LENGTH && held == 9,
+          "without slots there are no weights");
+    check(ws_open(FIVE, ROSTER, N, NONE, NONE, NONE, map, N, &held, &summarised) == WS_OK, "an intake without slots is opened");
     check(held == 0 && summarised == 0 && all(map, N, WS_ABSENT), "and holds nothing");
     uint32_t status =
-        ws_feed(FIVE, ROSTER, N, NONE, NONE, map, N, work, 2 * N, 10, 5, 11, &held, &summarised, &number, &place);
+        ws_feed(FIVE, ROSTER, N, NONE, NONE, NONE, map, N, work, 2 * N, 10, 5, 11, &held, &summarised, &number, &place);
     check(refused(status, WS_REFUSED_FULL) && held == 0 && number == 9 && all(work, 2 * N, 9), "and is full");
 }
 
@@ -138,17 +141,19 @@ static void no_rosters(void) {
     check(ws_cliques(FIVE, ONE, 3, NONE, map, N, work, N) == WS_REFUSED_LENGTH, "roster of cliques");
     check(ws_summarise(FIVE, ONE, 3, NONE, NONE, map, N, work, 2 * N, &count) == WS_REFUSED_LENGTH, "roster of summarise");
     check(ws_summarise_strong(FIVE, ONE, 3, NONE, NONE, map, N, work, 2 * N, &count) == WS_REFUSED_LENGTH, "roster, strongly");
-    check(ws_open(FIVE, NONE, NONE, NONE, map, N, &held, &summarised) == WS_REFUSED_LENGTH, "roster of opening");
-    uint32_t status = ws_feed(FIVE, NONE, NONE, NONE, map, N, work, 2 * N, 10, 5, 11, &held, &summarised, &number, &place);
+    check(ws_open(FIVE, NONE, NONE, NONE, NONE, map, N, &held, &summarised) == WS_REFUSED_LENGTH, "roster of opening");
+    uint32_t status =
+        ws_feed(FIVE, NONE, NONE, NONE, NONE, map, N, work, 2 * N, 10, 5, 11, &held, &summarised, &number, &place);
     check(refused(status, WS_REFUSED_LENGTH), "roster of feeding");
 }
 
 /* Another list that is missing, the others being right. */
 static void one_list_missing(void) {
-    check(ws_open(FIVE, ROSTER, N, NONE, NONE, NONE, &held, &summarised) == WS_REFUSED_LENGTH, "map of opening");
-    uint32_t status = ws_feed(FIVE, ROSTER, N, NONE, NONE, NONE, work, 2 * N, 10, 5, 11, &held, &summarised, &number, &place);
+    check(ws_open(FIVE, ROSTER, N, NONE, NONE, NONE, NONE, &held, &summarised) == WS_REFUSED_LENGTH, "map of opening");
+    uint32_t status =
+        ws_feed(FIVE, ROSTER, N, NONE, NONE, NONE, NONE, work, 2 * N, 10, 5, 11, &held, &summarised, &number, &place);
     check(refused(status, WS_REFUSED_LENGTH), "map of feeding");
-    status = ws_feed(FIVE, ROSTER, N, NONE, NONE, map, N, NONE, 10, 5, 11, &held, &summarised, &number, &place);
+    status = ws_feed(FIVE, ROSTER, N, NONE, NONE, NONE, map, N, NONE, 10, 5, 11, &held, &summarised, &number, &place);
     check(refused(status, WS_REFUSED_LENGTH), "work list of feeding");
     status = ws_read(NONE, NONE, NONE, words, WS_WORDS_NUMBERS, &number, &count, &asks);
     check(status == WS_REFUSED_LENGTH, "queries of reading");
@@ -172,8 +177,8 @@ static void no_lists(void) {
     check(ws_ask(NONE, NONE, NONE, NONE, &number) == WS_REFUSED_LENGTH, "ask");
     check(ws_ask(FIVE, ONE, 3, NONE, QUERY, WS_QUERY_NUMBERS, &number) == WS_REFUSED_LENGTH, "map of ask");
     check(ws_ask(FIVE, ONE, 3, map, N, NONE, &number) == WS_REFUSED_LENGTH, "query");
-    check(ws_open(NONE, NONE, NONE, NONE, NONE, &held, &summarised) == WS_REFUSED_LENGTH, "opening");
-    uint32_t status = ws_feed(NONE, NONE, NONE, NONE, NONE, NONE, 10, 5, 11, &held, &summarised, &number, &place);
+    check(ws_open(NONE, NONE, NONE, NONE, NONE, NONE, &held, &summarised) == WS_REFUSED_LENGTH, "opening");
+    uint32_t status = ws_feed(NONE, NONE, NONE, NONE, NONE, NONE, NONE, 10, 5, 11, &held, &summarised, &number, &place);
     check(refused(status, WS_REFUSED_LENGTH), "feeding");
     check(ws_write(NONE, N, NONE, NONE, &count) == WS_REFUSED_LENGTH, "writing");
     check(ws_read(NONE, NONE, NONE, NONE, &number, &count, &asks) == WS_REFUSED_LENGTH, "reading");
@@ -252,11 +257,81 @@ static void retired_queries(void) {
     check(ask_triple(ONE, query) == WS_REFUSED_QUERY && number == 9, "a wrong code comes before it");
 }
 
-/* What is lent to a feed and may be altered by it. */
+/* What is lent to a feed and may be altered by it, with numbers behind the weights for lists that are too long. */
 struct intake {
-    uint32_t triples[3 * SLOTS], summary[3 * SLOTS], map[N], work[2 * N], is_new;
+    uint32_t triples[3 * SLOTS], summary[3 * SLOTS], weights[3 * SLOTS], map[N], work[2 * N], is_new;
     size_t held, summarised, place;
 };
+
+/* Opens an intake with a list of so many weights. */
+static uint32_t open_intake(struct intake *x, uint32_t *list, size_t length) {
+    return ws_open(FIVE, ROSTER, N, x->triples, 3 * SLOTS, x->summary, 3 * SLOTS, list, length, x->map, N, &x->held,
+                   &x->summarised);
+}
+
+/* Feeds it a triple of property 5 with a list of so many weights. */
+static uint32_t feed_intake(struct intake *x, uint32_t *list, size_t length, uint32_t subject, uint32_t object) {
+    return ws_feed(FIVE, ROSTER, N, x->triples, 3 * SLOTS, x->summary, 3 * SLOTS, list, length, x->map, N, x->work, 2 * N,
+                   subject, 5, object, &x->held, &x->summarised, &x->is_new, &x->place);
+}
+
+static int same_but_work(const struct intake *x, const struct intake *y) {
+    return memcmp(x->triples, y->triples, sizeof x->triples) == 0 && memcmp(x->summary, y->summary, sizeof x->summary) == 0 &&
+           memcmp(x->weights, y->weights, sizeof x->weights) == 0 && memcmp(x->map, y->map, sizeof x->map) == 0 &&
+           x->held == y->held && x->summarised == y->summarised;
+}
+
+/* Whether nothing differs but the place. */
+static int same_but_place(const struct intake *x, const struct intake *y) {
+    return same_but_work(x, y) && memcmp(x->work, y->work, sizeof x->work) == 0 && x->is_new == y->is_new;
+}
+
+/* Whether a feed is accepted and there is then one line, of this weight. Behind the weights there are nines. */
+static int weighs(struct intake *x, uint32_t subject, uint32_t object, uint32_t weight) {
+    return feed_intake(x, x->weights, SLOTS, subject, object) == WS_OK && x->summarised == 1 && x->weights[0] == weight &&
+           all(x->weights + 1, SLOTS - 1, 0) && all(x->weights + SLOTS, 2 * SLOTS, 9);
+}
+
+/* An intake that holds 10 5 11 and 11 5 10, which have one line; the work list and the answers are spoilt. */
+static struct intake holding_two(void) {
+    struct intake x;
+    memset(&x, 9, sizeof x);
+    for (size_t i = 0; i < 3 * SLOTS; i++) {
+        x.weights[i] = 9;
+    }
+    check(open_intake(&x, x.weights, SLOTS) == WS_OK && all(x.weights, SLOTS, 0), "opening zeroes the weights");
+    check(weighs(&x, 10, 11, 1) && weighs(&x, 11, 10, 2), "two triples, one line");
+    memset(x.work, 9, sizeof x.work);
+    x.is_new = 9;
+    x.place = 9;
+    return x;
+}
+
+/* Each triple of a line weighs one; repeats, and triples that find no slot, weigh nothing. */
+static void weights(void) {
+    struct intake x = holding_two();
+    check(weighs(&x, 10, 11, 2) && weighs(&x, 11, 10, 2), "a repeat weighs nothing");
+    check(weighs(&x, 10, 10, 3) && weighs(&x, 10, 10, 3), "a third triple of the line, and its repeat");
+    check(x.summary[0] == 10 && x.summary[1] == 5 && x.summary[2] == 10, "the line of all three");
+    struct intake before = x;
+    check(feed_intake(&x, x.weights, SLOTS, 11, 11) == WS_REFUSED_FULL && same_but_place(&x, &before), "7 weighs nothing");
+    check(weighs(&x, 11, 10, 3), "nor does a repeat that is fed to a full intake");
+    check(ws_open(FIVE, ROSTER, N, x.triples, 8, x.summary, 7, x.weights, 2, x.map, N, &x.held, &x.summarised) == WS_OK,
+          "lists of 8 and of 7 numbers have two slots");
+}
+
+/* Weights that are missing, one too few, one too many, or as many as a triple list has numbers. */
+static void wrong_weights(void) {
+    static const size_t lengths[] = {0, SLOTS - 1, SLOTS + 1, 3 * SLOTS};
+    for (size_t i = 0; i < sizeof lengths / sizeof *lengths; i++) {
+        struct intake x = holding_two(), before = x;
+        uint32_t *list = lengths[i] == 0 ? NULL : x.weights;
+        check(open_intake(&x, list, lengths[i]) == WS_REFUSED_LENGTH, "opening refuses weights of a wrong size");
+        check(same_but_place(&x, &before) && x.place == 9, "and alters nothing");
+        check(feed_intake(&x, list, lengths[i], 10, 10) == WS_REFUSED_LENGTH, "feeding refuses weights of a wrong size");
+        check(same_but_place(&x, &before) && x.place == 0, "and alters nothing but the place");
+    }
+}
 
 static uint32_t random_below(uint32_t bound) {
     static uint64_t seed = 1;
@@ -264,12 +339,14 @@ static uint32_t random_below(uint32_t bound) {
     return (uint32_t)(seed >> 33) % bound;
 }
 
-/* An intake in which every number is any small one, sometimes the absent mark. */
+/* An intake in which every number is any small one, sometimes the absent mark; of the weights, sometimes all. */
 static struct intake altered(void) {
     struct intake x;
+    uint32_t highest = random_below(3);
     for (size_t i = 0; i < 3 * SLOTS; i++) {
         x.triples[i] = i % 3 == 1 ? 5 : 9 + random_below(4);
         x.summary[i] = i % 3 == 1 ? 5 : 9 + random_below(4);
+        x.weights[i] = highest == 0 || (highest == 1 && random_below(2) == 0) ? WS_ABSENT : random_below(4);
     }
     for (size_t i = 0; i < N; i++) {
         x.map[i] = random_below(4) == 0 ? WS_ABSENT : 9 + random_below(4);
@@ -282,18 +359,14 @@ static struct intake altered(void) {
     return x;
 }
 
-static int same_but_work(const struct intake *x, const struct intake *y) {
-    return memcmp(x->triples, y->triples, sizeof x->triples) == 0 && memcmp(x->summary, y->summary, sizeof x->summary) == 0 &&
-           memcmp(x->map, y->map, sizeof x->map) == 0 && x->held == y->held && x->summarised == y->summarised;
-}
-
 /* What holds after a feed of an intake in any state; gives the answer: 0 not new, 1 new, 7. */
-static uint32_t feed_altered(void) {
-    struct intake x = altered(), before = x;
-    uint32_t status = ws_feed(FIVE, ROSTER, N, x.triples, 3 * SLOTS, x.summary, 3 * SLOTS, x.map, N, x.work, 2 * N, 10, 5, 11,
-                              &x.held, &x.summarised, &x.is_new, &x.place);
+static uint32_t feed_altered(struct intake x, uint32_t subject, uint32_t object) {
+    struct intake before = x;
+    uint32_t status = feed_intake(&x, x.weights, SLOTS, subject, object);
+    check(memcmp(x.weights + SLOTS, before.weights + SLOTS, 2 * SLOTS * sizeof *x.weights) == 0,
+          "nothing is written behind the weights");
     if (status == WS_REFUSED_FULL) {
-        check(same_but_work(&x, &before) && memcmp(x.work, before.work, sizeof x.work) == 0 && x.is_new == 9 && x.place == 0,
+        check(same_but_place(&x, &before) && x.place == 0,
               "after 7 nothing is altered, the work list included, and the place is 0");
         return status;
     }
@@ -308,9 +381,22 @@ static uint32_t feed_altered(void) {
 static void altered_intakes(void) {
     size_t answers[8] = {0};
     for (int k = 0; k < 10000; k++) {
-        answers[feed_altered() % 8]++;
+        answers[feed_altered(altered(), 10, 11) % 8]++;
     }
     check(answers[0] > 100 && answers[1] > 100 && answers[7] > 100, "each answer is given");
+}
+
+/* Weights that were all set to the highest number, in an intake that is right in all else. Fed are a repeat, a triple whose
+   line is there, and one that brings a node. Opened again the intake is right. */
+static void highest_weights(void) {
+    static const uint32_t ends[3][2] = {{10, 11}, {10, 10}, {9, 10}};
+    for (size_t k = 0; k < 3; k++) {
+        struct intake x = holding_two();
+        memset(x.weights, 255, sizeof x.weights);
+        feed_altered(x, ends[k][0], ends[k][1]);
+        check(open_intake(&x, x.weights, SLOTS) == WS_OK && all(x.weights, SLOTS, 0), "opening zeroes the highest weights");
+        check(feed_intake(&x, x.weights, SLOTS, 10, 11) == WS_OK && x.weights[0] == 1, "and the first triple weighs one");
+    }
 }
 
 int main(void) {
@@ -322,7 +408,10 @@ int main(void) {
     no_text();
     places();
     retired_queries();
+    weights();
+    wrong_weights();
     altered_intakes();
+    highest_weights();
     printf("C edges: %d checks, %d failed\n", checks, failures);
     return failures != 0;
 }

@@ -1,6 +1,7 @@
 /* The papers' example through the C interface, in the header's sequence: read, own roster, saturate, summarise, ask; also the
-   same on the summary, queries that are retired, what ask says where the sequence is not kept, and an intake. Then all of it
-   with other words than 0 to 4, the two summaries of a chain, and places. Each result is checked against the papers'. */
+   same on the summary, queries that are retired, what ask says where the sequence is not kept, and an intake with the weights
+   of its lines. Then all of it with other words than 0 to 4, the two summaries of a chain, and places. Each result is checked
+   against the papers'. */
 #include <stdio.h>
 #include <string.h>
 
@@ -16,6 +17,9 @@ static const char *const TEXT =
 static const uint32_t SUMMARY[] = {5,  2, 7, 5,  3, 8, 5,  3, 9,  6,  2, 7,  6,  3, 8,  6, 3, 9, 7, 3, 8,
                                    7,  3, 9, 8,  1, 9, 10, 0, 8,  10, 0, 9,  10, 5, 12, 10, 6, 12, 10, 7, 12};
 
+/* How many of the saturation's 17 triples become each of these 14: 10 stands for 11 too, and 12 for 13. */
+static const uint32_t WEIGHTS[] = {1, 1, 1, 1, 1, 1, 1, 1, 1, 2, 2, 1, 1, 2};
+
 static const uint32_t MAP[N] = {WS_ABSENT, WS_ABSENT, WS_ABSENT, WS_ABSENT, WS_ABSENT, 5,  6,
                                 7,         8,         9,         10,        10,        12, 12};
 
@@ -29,6 +33,8 @@ static const uint32_t OTHER_WORDS[WS_WORDS_NUMBERS] = {10, 11, 12, 13, 14};
 
 static const uint32_t OTHER_SUMMARY[] = {0, 12, 2, 0, 13, 3, 0, 13, 4, 1, 12, 2, 1, 13, 3, 1, 13, 4, 2, 13, 3,
                                          2, 13, 4, 3, 11, 4, 5, 0,  7, 5, 1,  7, 5, 2,  7, 5, 10, 3, 5, 10, 4};
+
+static const uint32_t OTHER_WEIGHTS[] = {1, 1, 1, 1, 1, 1, 1, 1, 1, 1, 1, 2, 2, 2};
 
 static const uint32_t OTHER_MAP[9] = {0, 1, 2, 3, 4, 5, 5, 7, 7};
 
@@ -157,25 +163,63 @@ static void wrong_none(size_t count) {
     check(ask_one(summary, count, map, WS_CODE, 11, 6) == 1, "by its own map: maybe");
 }
 
+/* An intake of as many slots as the saturation has triples, or fewer. */
+static uint32_t held_triples[51], held_summary[51], held_weights[17], held_map[OTHER_N];
+static size_t held, summarised;
+
+static uint32_t open_intake(uint32_t n, size_t slots) {
+    return ws_open(words, WS_WORDS_NUMBERS, roster, n, held_triples, 3 * slots, held_summary, 3 * slots, held_weights, slots,
+                   held_map, n, &held, &summarised);
+}
+
+static uint32_t feed(uint32_t n, size_t slots, const uint32_t *t, uint32_t *is_new, size_t *place) {
+    return ws_feed(words, WS_WORDS_NUMBERS, roster, n, held_triples, 3 * slots, held_summary, 3 * slots, held_weights, slots,
+                   held_map, n, work, 2 * n, t[0], t[1], t[2], &held, &summarised, is_new, place);
+}
+
+/* Prints each line of the intake's summary with its weight, and gives the sum of the weights. */
+static size_t print_weighed(void) {
+    size_t sum = 0;
+    for (size_t i = 0; i < summarised; i++) {
+        const uint32_t *t = held_summary + 3 * i;
+        printf("(t %u %u %u) stands for %u\n", t[0], t[1], t[2], held_weights[i]);
+        sum += held_weights[i];
+    }
+    return sum;
+}
+
 /* Feeds the six triples, last first, each twice, to an intake of six slots: each comes before all that are held. Then first to
    last once more: each has its place. */
 static void feed_all(uint32_t n) {
-    static uint32_t held_triples[18], held_summary[18], held_map[OTHER_N];
-    size_t held = 0, summarised = 0;
-    int right = ws_open(words, WS_WORDS_NUMBERS, roster, n, held_triples, 18, held_summary, 18, held_map, n, &held,
-                        &summarised) == WS_OK;
+    static const uint32_t ones[6] = {1, 1, 1, 1, 1, 1};
+    int right = open_intake(n, 6) == WS_OK;
     for (size_t i = 0; i < 18; i++) {
         const uint32_t *t = table + 3 * (i < 12 ? 5 - i / 2 : i - 12);
         uint32_t is_new = 2;
         size_t place = 99;
-        uint32_t status = ws_feed(words, WS_WORDS_NUMBERS, roster, n, held_triples, 18, held_summary, 18, held_map, n, work,
-                                  2 * n, t[0], t[1], t[2], &held, &summarised, &is_new, &place);
+        uint32_t status = feed(n, 6, t, &is_new, &place);
         right = right && status == WS_OK && is_new == (i < 12 && i % 2 == 0) && place == (i < 12 ? 0 : i - 12);
     }
     check(right, "each triple is new once, at its place; a repeat fed to a full intake passes");
-    check(held == 6 && memcmp(held_triples, table, sizeof held_triples) == 0, "the intake holds the six, in rising order");
+    check(held == 6 && memcmp(held_triples, table, 18 * sizeof *table) == 0, "the intake holds the six, in rising order");
     check(summarised == 6, "plain summary has 6 triples");
-    print_triples(held_summary, summarised);
+    check(print_weighed() == 6 && memcmp(held_weights, ones, sizeof ones) == 0, "each stands for one triple");
+}
+
+/* Feeds the saturation: of its 17 triples each is new, and the 14 lines of the summary stand for all of them. */
+static void weigh(uint32_t n, const uint32_t *expected, const uint32_t *weights) {
+    size_t all = 0;
+    int right = saturate(n, saturated, 3 * SLOTS, &all) == WS_OK && all == 17 && open_intake(n, 17) == WS_OK;
+    for (size_t i = 0; i < all; i++) {
+        uint32_t is_new = 2;
+        size_t place = 99;
+        right = right && feed(n, 17, saturated + 3 * i, &is_new, &place) == WS_OK && is_new == 1 && place == i;
+    }
+    check(right && held == 17, "each triple of the saturation is new");
+    check(summarised == 14 && memcmp(held_summary, expected, sizeof SUMMARY) == 0, "the summary of the saturation");
+    check(print_weighed() == 17, "its weights add up to 17");
+    check(memcmp(held_weights, weights, sizeof WEIGHTS) == 0, "the weights of its 14 lines");
+    check(held_weights[14] == 0 && held_weights[15] == 0 && held_weights[16] == 0, "the weights behind them are zero");
 }
 
 static void the_papers_words(void) {
@@ -189,6 +233,7 @@ static void the_papers_words(void) {
     ask_words(N, count);
     wrong_none(count);
     feed_all(N);
+    weigh(N, SUMMARY, WEIGHTS);
 }
 
 /* The words stand in the text that is written, too. */
@@ -213,6 +258,7 @@ static void other_words(void) {
     ask_both(OTHER_N, count);
     ask_words(OTHER_N, count);
     feed_all(OTHER_N);
+    weigh(OTHER_N, OTHER_SUMMARY, OTHER_WEIGHTS);
     write_back();
 }
 

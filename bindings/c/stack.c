@@ -45,7 +45,7 @@ static const uint32_t CORNERS[][3] = {{65535, 0, 0}, {0, 65535, 0},  {0, 0, 6553
 static unsigned char stack[STACK_BYTES];
 static ucontext_t outside, inside;
 
-static uint32_t table[3 * MOST], result[3 * MOST], summary[3 * MOST], map[N], work[2 * N];
+static uint32_t table[3 * MOST], result[3 * MOST], summary[3 * MOST], weights[MOST], map[N], work[2 * N];
 static uint32_t query[WS_QUERY_NUMBERS], queries[WS_QUERIES_NUMBERS], words[WS_WORDS_NUMBERS];
 static uint8_t roster[N], own[N], text[65536];
 static size_t given, slots, count, held, summarised, place, text_length;
@@ -117,12 +117,12 @@ static void run_ask(void) {
 }
 
 static void run_open(void) {
-    status = ws_open(FIVE, roster, N, table, 3 * MOST, summary, 3 * MOST, map, N, &held, &summarised);
+    status = ws_open(FIVE, roster, N, table, 3 * MOST, summary, 3 * MOST, weights, MOST, map, N, &held, &summarised);
 }
 
 static void run_feed(void) {
-    status = ws_feed(FIVE, roster, N, table, 3 * MOST, summary, 3 * MOST, map, N, work, 2 * N, 30, 14, fed_object, &held,
-                     &summarised, &answer, &place);
+    status = ws_feed(FIVE, roster, N, table, 3 * MOST, summary, 3 * MOST, weights, MOST, map, N, work, 2 * N, 30, 14,
+                     fed_object, &held, &summarised, &answer, &place);
 }
 
 static void run_write(void) {
@@ -222,7 +222,8 @@ static void measure_tables(void) {
     measure_result(&saturate, run_saturate);
 }
 
-/* An intake with room for a few triples more. Its lists are as feeds leave them: a rising table, its summary and its map. */
+/* An intake with room for a few triples more. Its lists are as feeds leave them: a rising table, its summary and its map; but
+   for the weights, which are zero, as no call goes by them. */
 static void measure_intake(void) {
     mark_nearly_all();
     fill_with_corners();

@@ -88,6 +88,28 @@ pub fn table(random: &mut Random, words: Words, n: usize, amount: usize) -> Vec<
     table
 }
 
+/// How many classes and properties a typed table has.
+const CLASSES: usize = 2;
+const PROPERTIES: usize = 8;
+
+/// The least size of its site, with four nodes.
+pub const TYPED_SIZE: usize = 5 + CLASSES + PROPERTIES + 4;
+
+/// A table that, when it is fed, puts nodes with types together and apart: half of its triples are types, and the others have
+/// properties enough to keep nodes apart for a while. Nodes, classes and properties are different codes.
+pub fn typed_table(random: &mut Random, words: Words, n: usize, amount: usize) -> Vec<u32> {
+    let nodes = n - 5 - CLASSES - PROPERTIES;
+    let mut table = Vec::with_capacity(3 * amount);
+    for _ in 0..amount {
+        let [node, other] = [(); 2].map(|()| free_code(&words, CLASSES + PROPERTIES + random.below(nodes)));
+        table.extend(match random.chance(50) {
+            true => [node, words[0], free_code(&words, random.below(CLASSES))],
+            false => [node, free_code(&words, CLASSES + random.below(PROPERTIES)), other],
+        });
+    }
+    table
+}
+
 /// A wrong number where a code should be: not below n, or reserved. A code below 5 is wrong only where it is a word.
 fn wrong_code(random: &mut Random, words: Words, n: usize) -> u32 {
     match random.below(5) {

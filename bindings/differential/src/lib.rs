@@ -35,10 +35,10 @@ pub struct Options {
     pub shown: usize,
 }
 
-/// Cases of each call for one chain of feeds.
+/// Cases of each call for one chain of feeds of each kind.
 const PER_CHAIN: usize = 8;
 
-/// Random cases of each call, both summaries reworked, and a chain of feeds.
+/// Random cases of each call, both summaries reworked, and two chains of feeds.
 fn turn(random: &mut Random, report: &mut Report, mistake: Mistake) {
     for _ in 0..PER_CHAIN {
         tables::own_roster(random, report);
@@ -54,9 +54,10 @@ fn turn(random: &mut Random, report: &mut Report, mistake: Mistake) {
     }
     rest::rework(random, report, mistake, &tables::WEAK);
     rest::rework(random, report, mistake, &tables::STRONG);
-    feeds::open(random, report);
+    feeds::open(random, report, mistake);
     feeds::altered(random, report);
     feeds::feeds(random, report, mistake);
+    feeds::typed_feeds(random, report, mistake);
 }
 
 pub fn run(options: &Options) -> Report {

@@ -2,7 +2,7 @@
 
 use crate::asks;
 use crate::feeds;
-use crate::generate::Site;
+use crate::generate::{self, Site};
 use crate::random::Random;
 use crate::report::Report;
 use crate::rest;
@@ -126,7 +126,7 @@ fn limits(random: &mut Random, report: &mut Report, mistake: Mistake) {
             tables::compare_look_up(random, report, mistake, list.clone(), [5, 5, object]);
         }
         tables::compare_own_roster(report, (RDFS.to_vec(), list, random.junk_bytes(6)));
-        feeds::open_with(random, report, &RDFS, &[0; 6], amount);
+        feeds::open_weighed(random, report, mistake, amount);
     }
     // Words that are right from five codes on, at the largest site only, and nowhere.
     for words in [RDFS, [4, 3, 2, 1, 0], [65_535, 0, 65_534, 1, 2], [0, 1, 2, 3, 65_536]] {
@@ -144,7 +144,8 @@ fn limits(random: &mut Random, report: &mut Report, mistake: Mistake) {
 pub fn all(random: &mut Random, report: &mut Report, mistake: Mistake) {
     limits(random, report, mistake);
     for sizes in [[60, 600, 3_000, 250], [2_000, 1_500, 2_000, 1_500], [65_536, 200, 200, 200]] {
-        feeds::chain(random, report, mistake, sizes);
+        feeds::chain(random, report, mistake, generate::table, sizes);
+        feeds::chain(random, report, mistake, generate::typed_table, sizes);
     }
     for sizes in [[300, 3_000], [4_000, 20_000], [65_536, 100_000], [65_536, MAX_TRIPLES], [2_000, MAX_TRIPLES]] {
         for words in [RDFS, words::others(random, sizes[0])] {

@@ -129,6 +129,19 @@ impl Report {
         }
     }
 
+    /// Counts a difference where something does not hold that must after a call.
+    pub fn require(&mut self, call: Call, holds: bool, what: &str, left: &impl Debug) {
+        if holds {
+            return;
+        }
+        self.differences += 1;
+        self.different.insert(call);
+        if self.differences <= self.shown {
+            println!("DIFFERENCE in {}, case {}: {what}", call.name(), self.cases);
+            println!("  proved engine: {}", cut(format!("{left:?}")));
+        }
+    }
+
     /// Counts how far an accepted query went.
     pub fn reached(&mut self, reach: Reach) {
         let answer = !reach.maybe as usize;

@@ -3,7 +3,7 @@
 use weak_summary_differential::{run, Call, Mistake, Options};
 
 fn options(mistake: Mistake, shown: usize) -> Options {
-    Options { seed: 7, cases: 20_000, long: false, mistake, shown }
+    Options { seed: 7, cases: 25_000, long: false, mistake, shown }
 }
 
 #[test]
@@ -69,6 +69,22 @@ fn look_ups_show_wrong_places() {
 fn feeds_show_wrong_places() {
     use Mistake::{EqualsCount, FullPlace, PlaceAtEnd, PlaceLeft};
     for mistake in [EqualsCount, PlaceLeft, FullPlace, PlaceAtEnd] {
+        assert!(run(&options(mistake, 0)).differs(Call::Feed), "{}", mistake.name());
+    }
+}
+
+#[test]
+fn openings_show_wrong_weights() {
+    use Mistake::{WeightsNotZeroed, WeightsUnchecked};
+    for mistake in [WeightsNotZeroed, WeightsUnchecked] {
+        assert!(run(&options(mistake, 0)).differs(Call::Open), "{}", mistake.name());
+    }
+}
+
+#[test]
+fn feeds_show_wrong_weights() {
+    use Mistake::{RepeatWeighs, StaleWeights, WeightLostOnMerge, WeightNeverFalls, WeightsOfOld, WeightsUnchecked};
+    for mistake in [RepeatWeighs, StaleWeights, WeightLostOnMerge, WeightNeverFalls, WeightsOfOld, WeightsUnchecked] {
         assert!(run(&options(mistake, 0)).differs(Call::Feed), "{}", mistake.name());
     }
 }

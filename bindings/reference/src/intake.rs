@@ -1,38 +1,55 @@
 //! The intake: the plain one of the scope paper, and a faster one for the benchmark.
 
 use crate::triples::{pack, unpack, Packed};
-use crate::weak::{images, put_map};
+use crate::weak::{image, put_map};
+use crate::weights::{counted_images, weigh_with, Mapped, Weighed};
 use crate::{checks, Mistake, Words, ABSENT, CODE, COVER, FULL, LENGTH, MAX_TRIPLES, OK};
 use std::collections::BTreeSet;
 
 /// What a feed answers: whether the triple was new and how many triples held before come before it, or the number of the refusal.
 pub type Fed = Result<(bool, usize), u32>;
 
-pub fn open(
-    words: &[u32],
-    roster: &[u8],
-    triples: &mut [u32],
-    summary: &mut [u32],
-    map: &mut [u32],
-    held: &mut usize,
-    summarised: &mut usize,
-) -> u32 {
+/// What an intake keeps, as a call borrows it.
+pub struct State<'a> {
+    pub triples: &'a mut [u32],
+    pub summary: &'a mut [u32],
+    pub weights: &'a mut [u32],
+    pub map: &'a mut [u32],
+    pub held: &'a mut usize,
+    pub summarised: &'a mut usize,
+}
+
+impl State<'_> {
+    /// Whether a length is wrong with n codes, as far as an engine with a mistake looks.
+    pub fn lengths_wrong(&self, mistake: Mistake, n: usize) -> bool {
+        let slots = self.triples.len() / 3;
+        let weights_wrong = self.weights.len() != slots && mistake != Mistake::WeightsUnchecked;
+        self.summary.len() / 3 != slots || slots > MAX_TRIPLES || weights_wrong || self.map.len() != n
+    }
+}
+
+pub fn open(words: &[u32], roster: &[u8], state: State) -> u32 {
+    open_with(Mistake::None, words, roster, state)
+}
+
+pub fn open_with(mistake: Mistake, words: &[u32], roster: &[u8], state: State) -> u32 {
     let Some(words) = Words::of(words) else {
         return LENGTH;
     };
-    let slots = triples.len() / 3;
-    let lists_wrong = summary.len() / 3 != slots || slots > MAX_TRIPLES || map.len() != roster.len();
-    if checks::size_wrong(roster.len()) || lists_wrong {
+    if checks::size_wrong(roster.len()) || state.lengths_wrong(mistake, roster.len()) {
         return LENGTH;
     }
     let refusal = checks::roster_refusal(words, roster);
     if refusal != OK {
         return refusal;
     }
-    triples.fill(0);
-    summary.fill(0);
-    map.fill(ABSENT);
-    (*held, *summarised) = (0, 0);
+    state.triples.fill(0);
+    state.summary.fill(0);
+    if mistake != Mistake::WeightsNotZeroed {
+        state.weights.fill(0);
+    }
+    state.map.fill(ABSENT);
+    (*state.held, *state.summarised) = (0, 0);
     OK
 }
 
@@ -67,11 +84,13 @@ pub struct PlainIntake {
     pub roster: Vec<u8>,
     pub slots: usize,
     pub held: BTreeSet<Packed>,
+    /// The triple of the last feed that was accepted, and whether it was new. Only mistakes go by it.
+    last: Option<([u32; 3], bool)>,
 }
 
 impl PlainIntake {
     pub fn new(words: Words, roster: &[u8], slots: usize) -> PlainIntake {
-        PlainIntake { words, roster: roster.to_vec(), slots, held: BTreeSet::new() }
+        PlainIntake { words, roster: roster.to_vec(), slots, held: BTreeSet::new(), last: None }
     }
 
     /// How many triples held come before the triple, with a mistake.
@@ -93,14 +112,13 @@ impl PlainIntake {
             return Err(refusal);
         }
         let place = self.place(mistake, t);
-        if self.held.contains(&pack(&t)) {
-            return Ok((false, place));
-        }
-        if self.held.len() == self.slots {
+        let is_new = !self.held.contains(&pack(&t));
+        if is_new && self.held.len() == self.slots {
             return Err(FULL);
         }
         self.held.insert(pack(&t));
-        Ok((true, place))
+        self.last = Some((t, is_new));
+        Ok((is_new, place))
     }
 
     /// The triples held, in rising order.
@@ -108,31 +126,47 @@ impl PlainIntake {
         self.held.iter().flat_map(|&t| unpack(t)).collect()
     }
 
-    /// The lists and counts that the feeds so far must have left.
-    pub fn state(&self, mistake: Mistake, lists: [&mut [u32]; 3]) -> (usize, usize) {
-        let [triples, summary, map] = lists;
+    /// The summary of what is held, with its weights, by an engine with a mistake.
+    fn weighed(&self, mistake: Mistake, now: Mapped) -> Weighed {
+        let Some((fed, is_new)) = self.last.filter(|_| mistake != Mistake::None) else {
+            return now.weigh();
+        };
+        let earlier = self.held.iter().filter(|&&t| !is_new || t != pack(&fed));
+        let table: Vec<u32> = earlier.flat_map(|&t| unpack(t)).collect();
+        let mut map = vec![ABSENT; self.roster.len()];
+        put_map(mistake, self.words, &table, &self.roster, &mut map);
+        weigh_with(mistake, Mapped { table: &table, map: &map }, now, &fed, is_new)
+    }
+
+    /// Puts what the feeds so far must have left. A list of weights that is too short takes what it can.
+    pub fn put_state(&self, mistake: Mistake, state: State) {
         let table = self.table();
-        put_map(mistake, self.words, &table, &self.roster, map);
-        let mut found: Vec<Packed> = images(&table, map).into_iter().collect();
-        found.sort_unstable();
-        let count = found.len();
-        let flat: Vec<u32> = found.into_iter().flat_map(unpack).collect();
-        for (list, part) in [(triples, &table), (summary, &flat)] {
+        put_map(mistake, self.words, &table, &self.roster, state.map);
+        let weighed = self.weighed(mistake, Mapped { table: &table, map: state.map });
+        (*state.held, *state.summarised) = (self.held.len(), weighed.len());
+        let lines: Vec<u32> = weighed.keys().flat_map(|&t| unpack(t)).collect();
+        for (list, part) in [(state.triples, &table), (state.summary, &lines)] {
             list.fill(0);
             list[..part.len()].copy_from_slice(part);
         }
-        (self.held.len(), count)
+        if mistake != Mistake::StaleWeights {
+            state.weights.fill(0);
+        }
+        for (place, &weight) in state.weights.iter_mut().zip(weighed.values()) {
+            *place = weight;
+        }
     }
 }
 
-/// An intake over flat sorted lists that notes what it needs to keep the map, and makes it and the summary anew only when the
-/// class of a node that it knows changes.
+/// An intake over flat sorted lists that notes what it needs to keep the map, and makes it, the summary and the weights anew only
+/// when the class of a node that it knows changes.
 #[derive(Clone)]
 pub struct FastIntake {
     pub words: Words,
     pub roster: Vec<u8>,
     pub triples: Vec<u32>,
     pub summary: Vec<u32>,
+    pub weights: Vec<u32>,
     pub map: Vec<u32>,
     pub held: usize,
     pub summarised: usize,
@@ -152,6 +186,7 @@ impl FastIntake {
             roster: roster.to_vec(),
             triples: vec![0; 3 * slots],
             summary: vec![0; 3 * slots],
+            weights: vec![0; slots],
             map: vec![ABSENT; n],
             held: 0,
             summarised: 0,
@@ -239,13 +274,15 @@ impl FastIntake {
     fn summarise_anew(&mut self) {
         let table = &self.triples[..3 * self.held];
         put_map(Mistake::None, self.words, table, &self.roster, &mut self.map);
-        let mut found: Vec<Packed> = images(table, &self.map).into_iter().collect();
+        let mut found: Vec<(Packed, u32)> = counted_images(table, &self.map).into_iter().collect();
         found.sort_unstable();
         self.summarised = found.len();
-        for (slot, t) in self.summary.chunks_exact_mut(3).zip(found) {
+        for ((slot, place), (t, weight)) in self.summary.chunks_exact_mut(3).zip(&mut self.weights).zip(found) {
             slot.copy_from_slice(&unpack(t));
+            *place = weight;
         }
         self.summary[3 * self.summarised..].fill(0);
+        self.weights[self.summarised..].fill(0);
         let is_bare = |&c: &usize| self.map[c] != ABSENT && self.roster[c] == 0 && !self.has_data[c];
         self.bare = (0..self.map.len()).find(is_bare).map_or(ABSENT, |c| c as u32);
     }
@@ -292,23 +329,28 @@ pub fn feed_fast(intake: &mut FastIntake, t: [u32; 3]) -> Fed {
         intake.summarise_anew();
         return answer;
     }
-    let image = [intake.map[t[0] as usize], t[1], intake.map[t[2] as usize]];
-    if let Err(j) = place(&intake.summary, intake.summarised, image) {
-        insert(&mut intake.summary, intake.summarised, j, image);
-        intake.summarised += 1;
+    let image = image(&t, &intake.map);
+    match place(&intake.summary, intake.summarised, image) {
+        Ok(j) => intake.weights[j] += 1,
+        Err(j) => {
+            insert(&mut intake.summary, intake.summarised, j, image);
+            intake.weights.copy_within(j..intake.summarised, j + 1);
+            intake.weights[j] = 1;
+            intake.summarised += 1;
+        }
     }
     answer
 }
 
-/// Feeds without the notes: where the image is not in the summary already, map and summary are made anew.
+/// Feeds without the notes: where the image is not in the summary already, map, summary and weights are made anew.
 pub fn feed_lists_only(intake: &mut FastIntake, t: [u32; 3]) -> Fed {
     let answer = take_in(intake, t);
     let Ok((true, _)) = answer else {
         return answer;
     };
-    let image = [intake.map[t[0] as usize], t[1], intake.map[t[2] as usize]];
-    if place(&intake.summary, intake.summarised, image).is_err() {
-        intake.summarise_anew();
+    match place(&intake.summary, intake.summarised, image(&t, &intake.map)) {
+        Ok(j) => intake.weights[j] += 1,
+        Err(_) => intake.summarise_anew(),
     }
     answer
 }

@@ -14,10 +14,11 @@ mod site;
 mod strong;
 mod triples;
 mod weak;
+mod weights;
 mod words;
 
 pub use ask::{ask, ask_with};
-pub use intake::{feed_fast, feed_lists_only, feed_refusal, open, FastIntake, Fed, PlainIntake};
+pub use intake::{feed_fast, feed_lists_only, feed_refusal, open, open_with, FastIntake, Fed, PlainIntake, State};
 pub use mistake::Mistake;
 pub use roster::own_roster;
 pub use saturate::{saturate, saturate_with};

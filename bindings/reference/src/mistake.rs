@@ -1,6 +1,6 @@
 //! The five course mistakes of the scope paper, one that the rules for domains and ranges invite, one that the word table
-//! invites, two that the strong summary invites, four that retired queries invite, two that a limit of the search invites, and
-//! seven that places invite, to show that a comparison with a wrong engine is noticed.
+//! invites, two that the strong summary invites, four that retired queries invite, two that a limit of the search invites, seven
+//! that places invite, and seven that weights invite, to show that a comparison with a wrong engine is noticed.
 
 use crate::{Words, FULL};
 
@@ -52,10 +52,24 @@ pub enum Mistake {
     FullPlace,
     /// The place of a new triple that is fed is the number of triples held.
     PlaceAtEnd,
+    /// A triple that is fed again counts again.
+    RepeatWeighs,
+    /// Where the summary is made anew, the new triple is not counted.
+    WeightsOfOld,
+    /// Where lines become one, its weight is the largest of theirs.
+    WeightLostOnMerge,
+    /// A line that loses triples to another keeps its weight.
+    WeightNeverFalls,
+    /// Past the last line, weights of before are left.
+    StaleWeights,
+    /// Opening leaves the weights as they were.
+    WeightsNotZeroed,
+    /// A list of weights may have any length.
+    WeightsUnchecked,
 }
 
 impl Mistake {
-    pub const ALL: [Mistake; 22] = [
+    pub const ALL: [Mistake; 29] = [
         Mistake::OneRound,
         Mistake::TypedOnlyStays,
         Mistake::ClassLinks,
@@ -78,6 +92,13 @@ impl Mistake {
         Mistake::PlaceLeft,
         Mistake::FullPlace,
         Mistake::PlaceAtEnd,
+        Mistake::RepeatWeighs,
+        Mistake::WeightsOfOld,
+        Mistake::WeightLostOnMerge,
+        Mistake::WeightNeverFalls,
+        Mistake::StaleWeights,
+        Mistake::WeightsNotZeroed,
+        Mistake::WeightsUnchecked,
     ];
 
     pub fn name(self) -> &'static str {
@@ -105,6 +126,13 @@ impl Mistake {
             Mistake::PlaceLeft => "place-left",
             Mistake::FullPlace => "full-place",
             Mistake::PlaceAtEnd => "place-at-end",
+            Mistake::RepeatWeighs => "repeat-weighs",
+            Mistake::WeightsOfOld => "weights-of-old",
+            Mistake::WeightLostOnMerge => "weight-lost-on-merge",
+            Mistake::WeightNeverFalls => "weight-never-falls",
+            Mistake::StaleWeights => "stale-weights",
+            Mistake::WeightsNotZeroed => "weights-not-zeroed",
+            Mistake::WeightsUnchecked => "weights-unchecked",
         }
     }
 

@@ -213,10 +213,14 @@ pub fn put_map(mistake: Mistake, words: Words, table: &[u32], roster: &[u8], map
     }
 }
 
+/// The triple with its ends replaced by their representatives.
+pub fn image(t: &[u32], map: &[u32]) -> [u32; 3] {
+    [map[t[0] as usize], t[1], map[t[2] as usize]]
+}
+
 /// The images of the triples under the map.
-pub fn images(table: &[u32], map: &[u32]) -> PackedSet {
-    let image = |t: &[u32]| pack(&[map[t[0] as usize], t[1], map[t[2] as usize]]);
-    table.chunks_exact(3).map(image).collect()
+fn images(table: &[u32], map: &[u32]) -> PackedSet {
+    table.chunks_exact(3).map(|t| pack(&image(t, map))).collect()
 }
 
 pub fn summarise(

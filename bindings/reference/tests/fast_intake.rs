@@ -1,6 +1,6 @@
 //! That the benchmark's intake, fed in both ways, answers and holds what the plain intake does.
 
-use weak_summary_reference::{feed_fast, feed_lists_only, own_roster, FastIntake, Mistake, PlainIntake, Words};
+use weak_summary_reference::{feed_fast, feed_lists_only, own_roster, FastIntake, Mistake, PlainIntake, State, Words};
 
 /// The next number of a linear congruential generator.
 fn next(state: &mut u64, bound: u64) -> u32 {
@@ -50,13 +50,26 @@ fn random_table(state: &mut u64, n: u64) -> Vec<u32> {
 }
 
 fn compare(plain: &PlainIntake, fast: &FastIntake) {
-    let [mut triples, mut summary] = [(); 2].map(|()| vec![0; 3 * plain.slots]);
-    let mut map = vec![0; plain.roster.len()];
-    let counts = plain.state(Mistake::None, [&mut triples, &mut summary, &mut map]);
-    assert_eq!(counts, (fast.held, fast.summarised));
+    let [mut triples, mut summary] = [(); 2].map(|()| vec![9; 3 * plain.slots]);
+    let (mut weights, mut map) = (vec![9; plain.slots], vec![9; plain.roster.len()]);
+    let [mut held, mut summarised] = [9; 2];
+    plain.put_state(
+        Mistake::None,
+        State {
+            triples: &mut triples,
+            summary: &mut summary,
+            weights: &mut weights,
+            map: &mut map,
+            held: &mut held,
+            summarised: &mut summarised,
+        },
+    );
+    assert_eq!((held, summarised), (fast.held, fast.summarised));
     assert_eq!(triples, fast.triples);
     assert_eq!(map, fast.map);
     assert_eq!(summary, fast.summary);
+    assert_eq!(weights, fast.weights);
+    assert_eq!(weights.iter().sum::<u32>() as usize, held);
 }
 
 #[test]

@@ -128,15 +128,17 @@ pub fn ask(words: &[u32], table: &[u32], map: &[u32], query: &[u32], maybe: &mut
     }
 }
 
-pub fn open(
-    words: &[u32],
-    roster: &[u8],
-    triples: &mut [u32],
-    summary: &mut [u32],
-    map: &mut [u32],
-    held: &mut usize,
-    summarised: &mut usize,
-) -> u32 {
+/// What an intake keeps: opening and each feed borrow it.
+pub struct State<'a> {
+    pub triples: &'a mut [u32],
+    pub summary: &'a mut [u32],
+    pub weights: &'a mut [u32],
+    pub map: &'a mut [u32],
+    pub held: &'a mut usize,
+    pub summarised: &'a mut usize,
+}
+
+pub fn open(words: &[u32], roster: &[u8], state: State) -> u32 {
     // SAFETY: each pointer comes with the length of its slice, or is a reference.
     unsafe {
         ffi::ws_open(
@@ -144,14 +146,16 @@ pub fn open(
             words.len(),
             roster.as_ptr(),
             roster.len(),
-            triples.as_mut_ptr(),
-            triples.len(),
-            summary.as_mut_ptr(),
-            summary.len(),
-            map.as_mut_ptr(),
-            map.len(),
-            held,
-            summarised,
+            state.triples.as_mut_ptr(),
+            state.triples.len(),
+            state.summary.as_mut_ptr(),
+            state.summary.len(),
+            state.weights.as_mut_ptr(),
+            state.weights.len(),
+            state.map.as_mut_ptr(),
+            state.map.len(),
+            state.held,
+            state.summarised,
         )
     }
 }
@@ -160,35 +164,34 @@ pub fn open(
 pub struct Lent<'a> {
     pub words: &'a [u32],
     pub roster: &'a [u8],
-    pub triples: &'a mut [u32],
-    pub summary: &'a mut [u32],
-    pub map: &'a mut [u32],
+    pub state: State<'a>,
     pub work: &'a mut [u32],
-    pub held: &'a mut usize,
-    pub summarised: &'a mut usize,
 }
 
 pub fn feed(lent: Lent, t: [u32; 3], is_new: &mut u32, place: &mut usize) -> u32 {
+    let Lent { words, roster, state, work } = lent;
     // SAFETY: each pointer comes with the length of its slice, or is a reference.
     unsafe {
         ffi::ws_feed(
-            lent.words.as_ptr(),
-            lent.words.len(),
-            lent.roster.as_ptr(),
-            lent.roster.len(),
-            lent.triples.as_mut_ptr(),
-            lent.triples.len(),
-            lent.summary.as_mut_ptr(),
-            lent.summary.len(),
-            lent.map.as_mut_ptr(),
-            lent.map.len(),
-            lent.work.as_mut_ptr(),
-            lent.work.len(),
+            words.as_ptr(),
+            words.len(),
+            roster.as_ptr(),
+            roster.len(),
+            state.triples.as_mut_ptr(),
+            state.triples.len(),
+            state.summary.as_mut_ptr(),
+            state.summary.len(),
+            state.weights.as_mut_ptr(),
+            state.weights.len(),
+            state.map.as_mut_ptr(),
+            state.map.len(),
+            work.as_mut_ptr(),
+            work.len(),
             t[0],
             t[1],
             t[2],
-            lent.held,
-            lent.summarised,
+            state.held,
+            state.summarised,
             is_new,
             place,
         )

@@ -2,7 +2,7 @@
 
 mod common;
 
-use common::{roster_of, RDFS, SIX, SIX_SATURATED};
+use common::{map_with, roster_of, RDFS, SIX, SIX_SATURATED};
 use weak_summary::{calls, look_up, Intake, Refusal, Triple};
 
 /// Five triples that may be fed with the roster of the six, in rising order.
@@ -137,14 +137,14 @@ fn a_full_intake_reports_the_place_of_a_repeat_only() {
 
 /// Feeds a triple to an intake of two slots that holds 11 6 13 and 12 6 13, with junk in both numbers; the status and these numbers.
 fn fed(t: Triple, roster: &[u8], work_length: usize) -> (u32, u32, usize) {
-    let mut lists = [vec![11, 6, 13, 12, 6, 13], vec![11, 6, 13, 0, 0, 0], vec![u32::MAX; 14], vec![7; work_length]];
-    for (code, representative) in [(11, 11), (12, 11), (13, 13)] {
-        lists[2][code] = representative;
-    }
+    let mut lists = [vec![11, 6, 13, 12, 6, 13], vec![11, 6, 13, 0, 0, 0], vec![2, 0]];
+    let mut map = map_with(14, &[(11, 11), (12, 11), (13, 13)]);
+    let mut work = vec![7; work_length];
     let (mut held, mut summarised, mut is_new, mut place) = (2, 1, 7, 7);
-    let [triples, summary, map, work] = &mut lists;
+    let [triples, summary, weights] = &mut lists;
     let (held, summarised) = (&mut held, &mut summarised);
-    let lent = calls::Lent { words: &RDFS.0, roster, triples, summary, map, work, held, summarised };
+    let state = calls::State { triples, summary, weights, map: &mut map, held, summarised };
+    let lent = calls::Lent { words: &RDFS.0, roster, state, work: &mut work };
     let status = calls::feed(lent, t, &mut is_new, &mut place);
     (status, is_new, place)
 }

@@ -142,20 +142,12 @@ fn intake_refuses_in_order() {
 }
 
 /// Feeds 10 5 11 to lists of ones with 12 codes; the status and what the lists then hold.
-fn fed(roster: &[u8], work_length: usize) -> (u32, [Vec<u32>; 4]) {
-    let mut lists = [vec![1; 6], vec![1; 6], vec![1; roster.len()], vec![1; work_length]];
+fn fed(roster: &[u8], work_length: usize) -> (u32, [Vec<u32>; 5]) {
+    let mut lists = [6, 6, 2, roster.len(), work_length].map(|length| vec![1; length]);
     let (mut held, mut summarised, mut is_new, mut place) = (0, 0, 7, 7);
-    let [triples, summary, map, work] = &mut lists;
-    let lent = calls::Lent {
-        words: &RDFS.0,
-        roster,
-        triples,
-        summary,
-        map,
-        work,
-        held: &mut held,
-        summarised: &mut summarised,
-    };
+    let [triples, summary, weights, map, work] = &mut lists;
+    let state = calls::State { triples, summary, weights, map, held: &mut held, summarised: &mut summarised };
+    let lent = calls::Lent { words: &RDFS.0, roster, state, work };
     let status = calls::feed(lent, [10, 5, 11], &mut is_new, &mut place);
     assert_eq!((held, summarised, is_new, place), (0, 0, 7, 0));
     (status, lists)

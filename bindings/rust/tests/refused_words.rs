@@ -20,6 +20,7 @@ struct Lent {
     text: Vec<u8>,
     result: Vec<u32>,
     summary: Vec<u32>,
+    weights: Vec<u32>,
     map: Vec<u32>,
     work: Vec<u32>,
     numbers: [usize; 2],
@@ -35,6 +36,7 @@ impl Lent {
             text: vec![9; 200],
             result: vec![9; 51],
             summary: vec![9; 51],
+            weights: vec![9; 17],
             map: vec![9; map_length],
             work: vec![9; 28],
             numbers: [9, 9],
@@ -52,8 +54,9 @@ impl Lent {
 
 fn feed(words: &[u32], given: &Given, l: &mut Lent) -> u32 {
     let [held, summarised] = &mut l.numbers;
-    let (triples, summary, map, work) = (&mut l.result, &mut l.summary, &mut l.map, &mut l.work);
-    let lent = calls::Lent { words, roster: &given.roster, triples, summary, map, work, held, summarised };
+    let (triples, summary, weights, map) = (&mut l.result, &mut l.summary, &mut l.weights, &mut l.map);
+    let state = calls::State { triples, summary, weights, map, held, summarised };
+    let lent = calls::Lent { words, roster: &given.roster, state, work: &mut l.work };
     let end = given.table.len();
     let t = [given.table[end - 3], given.table[end - 2], given.table[end - 1]];
     calls::feed(lent, t, &mut l.answer, &mut l.place)
@@ -61,7 +64,8 @@ fn feed(words: &[u32], given: &Given, l: &mut Lent) -> u32 {
 
 fn open(words: &[u32], given: &Given, l: &mut Lent) -> u32 {
     let [held, summarised] = &mut l.numbers;
-    calls::open(words, &given.roster, &mut l.result, &mut l.summary, &mut l.map, held, summarised)
+    let (triples, summary, weights, map) = (&mut l.result, &mut l.summary, &mut l.weights, &mut l.map);
+    calls::open(words, &given.roster, calls::State { triples, summary, weights, map, held, summarised })
 }
 
 type Call = fn(&[u32], &Given, &mut Lent) -> u32;

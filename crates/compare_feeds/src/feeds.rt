@@ -110,6 +110,27 @@ fn summary_room(seed: u64, r: usize) -> usize {
     at_most(whole + pick(seed, 83, 3) as usize, 100)
 }
 
+// The length of the weights: the slots; now and then one more, one less, three times as many, or none.
+fn weights_room(seed: u64, r: usize) -> usize {
+    let slots = at_most(r / 3, 33);
+    let x = pick(seed, 85, 96);
+    if x == 0 {
+        return slots + 1;
+    }
+    if x == 1 {
+        if 0 < slots {
+            return slots - 1;
+        }
+    }
+    if x == 2 {
+        return 3 * slots;
+    }
+    if x == 3 {
+        return 0;
+    }
+    slots
+}
+
 fn case_of(seed: u64, n: usize) -> Case {
     let r = room(seed);
     Case {
@@ -118,6 +139,7 @@ fn case_of(seed: u64, n: usize) -> Case {
         feeds: 30,
         triples: r,
         summary: summary_room(seed, r),
+        weights: weights_room(seed, r),
         map: sites::near(seed, 84, n),
     }
 }

@@ -44,6 +44,7 @@ fn run(
         feeds: feeds,
         triples: 6,
         summary: 6,
+        weights: 2,
         map: m,
     };
     compare_small(tally, case, &list, &roster[0..m])

@@ -11,9 +11,9 @@ use Rattle.site_form.proofs.Back.{written-is-read}
 use Rattle.site_form.proofs.Queries.{counts-patterns}
 use Rattle.site_form.proofs.Example.{sign-bytes, prints-example, prints-retired}
 use Rattle.site_form.proofs.Answers.{retired-printed}
-use Rattle.demands.specs.Demands.{GraphsRight, StrongGraphsRight, ClosuresRight, Demand2, Demand3, AtRest, Places, RosterByWords, SiteForms}
+use Rattle.demands.specs.Demands.{GraphsRight, StrongGraphsRight, ClosuresRight, WeightExamplesRight, Demand2, Demand3, AtRest, Places, Weights, RosterByWords, SiteForms}
 use Rattle.demands.proofs.NoneMeansNone.{none-means-none}
-use Rattle.demands.proofs.Feeds.{list-of-calls}
+use Rattle.demands.proofs.Feeds.{list-of-calls, weights-add-up, repeat-alters-no-weight}
 use Rattle.demands.proofs.Routes.{accepted-calls, routes-of-calls, strong-routes-of-calls, shortcut-of-calls, strong-shortcut-of-calls}
 use Rattle.demands.proofs.Routes.{weak-of-strong-calls, at-rest-of-calls, strong-at-rest-of-calls, leaves-saturated, none-of-calls}
 use Rattle.demands.proofs.Printed.{ask-refuses-queries, six-for-wrong, retired-read}
@@ -26,6 +26,9 @@ strong-graphs-right = graphs.strong-graphs-right
 
 pub closures-right : ClosuresRight
 closures-right = graphs.closures-right
+
+pub weight-examples-right : WeightExamplesRight
+weight-examples-right = graphs.weights-right
 
 pub demand-2 : Demand2
 demand-2 =
@@ -80,6 +83,9 @@ at-rest =
 
 pub places : Places
 places = record { places-right = theorems.places-right; fed-stands = theorems.fed-stands }
+
+pub weights : Weights
+weights = record { weights-exact = theorems.weights-exact; weights-add-up = weights-add-up; repeat-alters-no-weight = repeat-alters-no-weight }
 
 pub roster-by-words : RosterByWords
 roster-by-words = record { word-test = word-test-exact }

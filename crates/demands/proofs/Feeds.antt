@@ -1,13 +1,19 @@
 -- A list of feeds after an opening, by their contracts.
 -- Assumes nothing.
-use mathlib.Core.Path.{sym, subst}
+use mathlib.Core.Path.{sym, subst, ap}
 use Rattle.model.specs.declared.Vocabulary.{Vocabulary}
 use Rattle.model.specs.Intake.{State, Run, openLeaves}
 use Rattle.theory.proofs.Theorems as theorems
-use Rattle.demands.specs.Feeds.{ListOfCalls}
+use Rattle.demands.specs.Feeds.{ListOfCalls, WeightsAddUp, RepeatAltersNoWeight}
 
 module _ (v : Vocabulary) where
   pub list-of-calls : ListOfCalls v
   unfolding openLeaves
   list-of-calls roster before empty end fs os o feeds =
       theorems.whole-list v roster before end fs os (sym (o .answer)) (subst (λ (s : State). Run v roster s fs os end) (o .leaves) feeds)
+
+  pub weights-add-up : WeightsAddUp v
+  weights-add-up roster before empty end fs os o feeds = list-of-calls roster before empty end fs os o feeds .weighed
+
+  pub repeat-alters-no-weight : RepeatAltersNoWeight v
+  repeat-alters-no-weight roster s after work work-after t outcome f n = ap (λ (x : State). x .weights) (f .in-any-state .unaltered n)

@@ -214,15 +214,16 @@ module _ (v : Vocabulary) where
       ∙ decided-passes (tableChecks v false table roster) (accepted tt) h
 
   accepts-open : (table roster : List ℕ) (s : State) → Accepted v table roster → length (s .map) ≡ length roster
-      → slots (s .triples) ≡ slots (s .summary) → slots (s .triples) ≤ mostTriples → openOutcome v roster s ≡ accepted tt
+      → slots (s .triples) ≡ slots (s .summary) → slots (s .triples) ≤ mostTriples → length (s .weights) ≡ slots (s .triples) → openOutcome v roster s ≡ accepted tt
   unfolding openOutcome wrongLists
-  accepts-open table roster s h a b c =
+  accepts-open table roster s h a b c d =
       let R = accepted-right v table roster h in
       decided-passes _ (accepted tt)
       (first-passes _ _
       (or-neither (wrongSize (length roster)) _ (R .size)
       (or-neither (not (eqb (length (s .map)) (length roster))) _ (ap not (eq-eqb _ _ a))
-      (or-neither (not (eqb (slots (s .triples)) (slots (s .summary)))) _ (ap not (eq-eqb _ _ b)) (le-ltb _ _ c))))
+      (or-neither (not (eqb (slots (s .triples)) (slots (s .summary)))) _ (ap not (eq-eqb _ _ b))
+      (or-neither (ltb mostTriples (slots (s .triples))) _ (le-ltb _ _ c) (ap not (eq-eqb _ _ d))))))
       (first-passes _ _ (R .words) (first-passes _ _ (R .marks) no-checks)))
 
   pub accepted-calls : AcceptedCalls v
@@ -233,7 +234,7 @@ module _ (v : Vocabulary) where
         summarises = accepts-summarise (mapOf v) table roster h;
         strongly-summarises = accepts-summarise (strongMapOf v) table roster h;
         cliques = λ sources targets a b. accepts-cliques table roster sources targets h a b;
-        opens = λ s a b c. accepts-open table roster s h a b c;
+        opens = λ s a b c d. accepts-open table roster s h a b c d;
         asks = asks-of _ _ roster (routes-accepted v table roster h .summary-accepted) (length-map-of v roster (triples table));
         asks-strong = asks-of _ _ roster (strong-routes-accepted v table roster h .summary-accepted) (length-strong-map v roster (triples table));
       }

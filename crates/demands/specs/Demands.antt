@@ -10,7 +10,7 @@ use mathlib.Core.Option.{none}
 use Rattle.model.specs.declared.Vocabulary.{Vocabulary}
 use Rattle.model.specs.Codes.{rdfs, codes, kind, reserved, wrongWords}
 use Rattle.model.specs.Outcomes.{Outcome, Check, check, decided, wrongSize}
-use Rattle.model.specs.Graphs.{graphs, allRight, closures, allClosed, strongGraphs, allStrongRight}
+use Rattle.model.specs.Graphs.{graphs, allRight, closures, allClosed, strongGraphs, allStrongRight, weightExamples, allWeightsRight}
 use Rattle.query.specs.Match.{AskExact, RetiredExact}
 use Rattle.roster_values.specs.Bytes.{WordTest}
 use Rattle.site_form.specs.Reading.{ReadsExactly, CountsPatterns, loaded}
@@ -20,9 +20,9 @@ use Rattle.site_form.specs.Answers.{RetiredPrinted}
 use Rattle.theory.specs.Theorems.{SaturationExact, ConstraintsFollow, CliquesExact, RepresentativesExact, SummaryExact, StrongRepresentativesExact}
 use Rattle.theory.specs.Theorems.{StrongSummaryExact, OwnRosterLeast, ShortcutHolds, RoutesAccepted, StrongShortcutHolds, StrongRoutesAccepted}
 use Rattle.theory.specs.Theorems.{WeakOfStrongHolds, AtRestHolds, StrongAtRestHolds, AgainTheSame, StrongAgainTheSame, AnyOrder, FedInAnyOrder}
-use Rattle.theory.specs.Theorems.{WholeList, PlacesRight, FedStands}
+use Rattle.theory.specs.Theorems.{WholeList, PlacesRight, FedStands, WeightsExact}
 use Rattle.demands.specs.NoneMeansNone.{NoneMeansNone, StrongNoneMeansNone}
-use Rattle.demands.specs.Feeds.{ListOfCalls}
+use Rattle.demands.specs.Feeds.{ListOfCalls, WeightsAddUp, RepeatAltersNoWeight}
 use Rattle.demands.specs.Routes.{AcceptedCalls, RoutesOfCalls, StrongRoutesOfCalls, ShortcutOfCalls, StrongShortcutOfCalls, WeakOfStrongCalls}
 use Rattle.demands.specs.Routes.{AtRestOfCalls, StrongAtRestOfCalls, LeavesSaturated, NoneOfCalls, StrongNoneOfCalls}
 use Rattle.demands.specs.Printed.{AskRefusesQueries, SixForWrong, RetiredRead}
@@ -38,6 +38,10 @@ StrongGraphsRight = T (allStrongRight strongGraphs)
 -- small schemas, for the rules of 02, computed
 abbrev pub ClosuresRight : Type 0
 ClosuresRight = T (allClosed closures)
+
+-- small intakes with the lines of their summary and how many triples each stands for, computed
+abbrev pub WeightExamplesRight : Type 0
+WeightExamplesRight = T (allWeightsRight weightExamples)
 
 pub record Demand2 : Type 0 where
   pub saturation : (v : Vocabulary) → SaturationExact v
@@ -92,6 +96,14 @@ pub record Places : Type 0 where
   pub places-right : PlacesRight
   -- after an accepted feed, new or not, the triple stands there
   pub fed-stands : (v : Vocabulary) → FedStands v
+
+-- 02: "Planners judge a summary line by its weight." The contracts of opening and feeding say what the further list holds after each call, and
+-- `WholeList` says it of every list of feeds: `stateOf` carries the weights.
+pub record Weights : Type 0 where
+  -- beside each line of the summary the number of held triples whose image it is, never 0, and together as many as are held
+  pub weights-exact : (v : Vocabulary) → WeightsExact v
+  pub weights-add-up : (v : Vocabulary) → WeightsAddUp v
+  pub repeat-alters-no-weight : (v : Vocabulary) → RepeatAltersNoWeight v
 
 -- 02: "The check should take eight roster bytes as one u64 word at a time; show for every u64 that one test of the word passes exactly if
 -- none of its eight bytes is over 3." The code has the test in roster_values' `word_over_three`, which is called for each word; that rosters of

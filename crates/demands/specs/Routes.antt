@@ -89,7 +89,8 @@ module _ (v : Vocabulary) where
     pub strongly-summarises : AcceptsSummarise (strongMapOf v) table roster
     pub cliques : (sources targets : List ℕ) → length sources ≡ length roster → length targets ≡ length roster → cliquesOutcome v table roster sources targets ≡ accepted tt
     -- an opening with the table's roster
-    pub opens : (s : State) → length (s .map) ≡ length roster → slots (s .triples) ≡ slots (s .summary) → slots (s .triples) ≤ mostTriples → openOutcome v roster s ≡ accepted tt
+    pub opens : (s : State) → length (s .map) ≡ length roster → slots (s .triples) ≡ slots (s .summary) → slots (s .triples) ≤ mostTriples
+        → length (s .weights) ≡ slots (s .triples) → openOutcome v roster s ≡ accepted tt
     -- an ask on the table's summary
     pub asks : Asks (flat (summary v roster (triples table))) (mapOf v roster (triples table))
     pub asks-strong : Asks (flat (strongSummary v roster (triples table))) (strongMapOf v roster (triples table))

@@ -11,6 +11,7 @@ use comparison_report::report::FEED;
 use comparison_report::report::OPEN;
 use comparison_report::report::TALLY;
 use comparison_report::report::YES;
+use comparison_report::report::check;
 use comparison_report::report::differs;
 use comparison_report::report::record;
 use libc::STDOUT_FILENO;
@@ -75,7 +76,18 @@ fn explain<'a>(
     }
 }
 
-// Runs both engines and compares their digests; what the engine left.
+// Whether the weights of an opened intake add up to the number of feeds that were new.
+fn adds_up(opens: bool, state: State) -> bool {
+    if !opens {
+        return true;
+    }
+    if state.opened != 0 {
+        return true;
+    }
+    state.weight_sum == state.answers[15]
+}
+
+// Runs both engines and compares their digests, and the engine's weights with its answers; what the engine left.
 pub fn compare<'a>(
     tally: &mut [u64; TALLY],
     seed: u64,
@@ -86,6 +98,8 @@ pub fn compare<'a>(
 ) -> State {
     let got = all_calls(run_of(false, false), case, feeds, roster, spoilt);
     let want = all_calls(run_of(true, false), case, feeds, roster, spoilt);
+    let ok = adds_up(case.opens, got);
+    check(tally, FEED, seed, b"sum of the weights", ok);
     if !same(got.seen, want.seen) {
         explain(tally, seed, case, feeds, roster, spoilt);
     }

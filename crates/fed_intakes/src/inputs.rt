@@ -5,14 +5,15 @@ use random_sites::random::get;
 use random_sites::random::set;
 use random_sites::words::table_of;
 
-// The words of the opening, whether there is one, how many feeds there are, and the lengths of triples, summary and map. The lists
-// of an intake that is not opened are junk, its counts 1.
+// The words of the opening, whether there is one, how many feeds there are, and the lengths of triples, summary, weights and map. The
+// lists of an intake that is not opened are junk, its counts 1.
 pub struct Case {
     pub words: Vocabulary,
     pub opens: bool,
     pub feeds: usize,
     pub triples: usize,
     pub summary: usize,
+    pub weights: usize,
     pub map: usize,
 }
 

@@ -3,7 +3,6 @@ use super::inputs::Case;
 use super::inputs::Feed;
 use super::inputs::MOST_FEEDS;
 use super::inputs::feed_at;
-ghost use Prim.Native.Nat.{_≤_};
 use comparison::answers::of_done;
 use comparison::answers::of_reply;
 use comparison::engines::junk;
@@ -15,6 +14,7 @@ use comparison_report::digest::fold_list;
 use comparison_report::digest::fold_place;
 use comparison_report::report::show_answer;
 use comparison_report::report::show_list;
+use comparison_report::report::wide;
 use intake_adding::FedCounts;
 use intake_opening::Counts;
 use intake_opening::OpenedCounts;
@@ -33,11 +33,19 @@ struct Step {
     summarised: usize,
 }
 
-// The digest of all calls so far with the last answer, the last place, the answer of the opening, the record's two counts, and how many
-// feeds had each answer.
+// Of a list of weights: the sum, and a number that has the last twelve as its digits; in a small case none is over 9.
+struct Weighed {
+    sum: u64,
+    digits: u64,
+}
+
+// The digest of all calls so far with the last answer, the last place, the last weights' sum and digits, the answer of the opening, the
+// record's two counts, and how many feeds had each answer.
 pub struct State {
     pub seen: Seen,
     pub place: usize,
+    pub weight_sum: u64,
+    pub weight_digits: u64,
     pub opened: u32,
     pub held: usize,
     pub summarised: usize,
@@ -82,16 +90,32 @@ fn open(
     roster: &[u8],
     triples: &mut [u32],
     summary: &mut [u32],
+    weights: &mut [u32],
     map: &mut [u32],
 ) -> Step {
     if run.plain {
-        return plain_opened(naive_intake::open(plain_words(words), roster, triples, summary, map));
+        return plain_opened(naive_intake::open(
+            plain_words(words),
+            roster,
+            triples,
+            summary,
+            weights,
+            map,
+        ));
     }
     let counts = Counts {
         held: 70,
         summarised: 71,
     };
-    engine_opened(intake_by_value::open_by_value(counts, words, roster, triples, summary, map))
+    engine_opened(intake_by_value::open_by_value(
+        counts,
+        words,
+        roster,
+        triples,
+        summary,
+        weights,
+        map,
+    ))
 }
 
 fn engine_fed(left: FedCounts) -> Step {
@@ -129,6 +153,7 @@ fn feed_plain(
     roster: &[u8],
     triples: &mut [u32],
     summary: &mut [u32],
+    weights: &mut [u32],
     map: &mut [u32],
     work: &mut [u32],
 ) -> Step {
@@ -139,6 +164,7 @@ fn feed_plain(
         roster,
         triples,
         summary,
+        weights,
         map,
         work,
         feed.subject,
@@ -155,13 +181,14 @@ fn feed_one(
     roster: &[u8],
     triples: &mut [u32],
     summary: &mut [u32],
+    weights: &mut [u32],
     map: &mut [u32],
     work: &mut [u32],
 ) -> Step {
     junk(work);
     let words = feed.words;
     if run.plain {
-        return feed_plain(counts, feed, roster, triples, summary, map, work);
+        return feed_plain(counts, feed, roster, triples, summary, weights, map, work);
     }
     engine_fed(intake_by_value::feed_by_value(
         counts,
@@ -169,6 +196,7 @@ fn feed_one(
         roster,
         triples,
         summary,
+        weights,
         map,
         work,
         feed.subject,
@@ -205,10 +233,34 @@ fn fold_step(run: Run, seen: Seen, step: Step) -> Seen {
     fold_count(d, step.summarised)
 }
 
-fn fold_lists(run: Run, seen: Seen, triples: &[u32], summary: &[u32], map: &[u32]) -> Seen {
+fn fold_lists(
+    run: Run,
+    seen: Seen,
+    triples: &[u32],
+    summary: &[u32],
+    weights: &[u32],
+    map: &[u32],
+) -> Seen {
     let a = fold_list(run, seen, b"triples", triples);
     let b = fold_list(run, a, b"summary", summary);
-    fold_list(run, b, b"map", map)
+    let c = fold_list(run, b, b"weights", weights);
+    fold_list(run, c, b"map", map)
+}
+
+fn weigh(weights: &[u32]) -> Weighed {
+    let mut sum = 0;
+    let mut digits = 0;
+    let mut i = 0;
+    while i < weights.len() {
+        let weight = wide(weights[i]);
+        sum = std::num::wrapping_add_u64(sum, weight);
+        digits = std::num::wrapping_add_u64(digits % 100000000000 * 10, weight);
+        i += 1;
+    }
+    Weighed {
+        sum: sum,
+        digits: digits,
+    }
 }
 
 // The answers with one more: by the refusal's number, 15 for new.
@@ -229,6 +281,8 @@ fn start() -> State {
             two: 1,
         },
         place: 0,
+        weight_sum: 0,
+        weight_digits: 0,
         opened: 0,
         held: 1,
         summarised: 1,
@@ -237,12 +291,22 @@ fn start() -> State {
 }
 
 // Folds what an opening leaves.
-fn fold_opened(run: Run, step: Step, triples: &[u32], summary: &[u32], map: &[u32]) -> State {
+fn fold_opened(
+    run: Run,
+    step: Step,
+    triples: &[u32],
+    summary: &[u32],
+    weights: &[u32],
+    map: &[u32],
+) -> State {
     let state = start();
     let seen = fold_step(run, state.seen, step);
+    let weighed = weigh(weights);
     State {
-        seen: fold_lists(run, seen, triples, summary, map),
+        seen: fold_lists(run, seen, triples, summary, weights, map),
         place: step.place,
+        weight_sum: weighed.sum,
+        weight_digits: weighed.digits,
         opened: step.refused,
         held: step.held,
         summarised: step.summarised,
@@ -256,15 +320,17 @@ fn opened(
     roster: &[u8],
     triples: &mut [u32],
     summary: &mut [u32],
+    weights: &mut [u32],
     map: &mut [u32],
 ) -> State {
-    let step = open(run, words, roster, triples, summary, map);
-    fold_opened(run, step, triples, summary, map)
+    let step = open(run, words, roster, triples, summary, weights, map);
+    fold_opened(run, step, triples, summary, weights, map)
 }
 
-fn junk_three(triples: &mut [u32], summary: &mut [u32], map: &mut [u32]) {
+fn junk_all(triples: &mut [u32], summary: &mut [u32], weights: &mut [u32], map: &mut [u32]) {
     junk(triples);
     junk(summary);
+    junk(weights);
     junk(map);
 }
 
@@ -275,9 +341,10 @@ fn begin(
     roster: &[u8],
     triples: &mut [u32],
     summary: &mut [u32],
+    weights: &mut [u32],
     map: &mut [u32],
 ) -> State {
-    junk_three(triples, summary, map);
+    junk_all(triples, summary, weights, map);
     if case.opens {
         return opened(
             shown_at(run, 0, case.feeds),
@@ -285,6 +352,7 @@ fn begin(
             roster,
             triples,
             summary,
+            weights,
             map,
         );
     }
@@ -306,16 +374,20 @@ fn fold_fed(
     step: Step,
     triples: &[u32],
     summary: &[u32],
+    weights: &[u32],
     map: &[u32],
     work: &[u32],
 ) -> State {
     let seen = fold_step(run, state.seen, step);
-    let next = fold_lists(run, seen, triples, summary, map);
+    let next = fold_lists(run, seen, triples, summary, weights, map);
     let before = state.answers;
     let answers = with_answer(before, step);
+    let weighed = weigh(weights);
     State {
         seen: fold_list(run, next, b"work", work),
         place: step.place,
+        weight_sum: weighed.sum,
+        weight_digits: weighed.digits,
         opened: state.opened,
         held: step.held,
         summarised: step.summarised,
@@ -330,6 +402,7 @@ fn fed(
     roster: &[u8],
     triples: &mut [u32],
     summary: &mut [u32],
+    weights: &mut [u32],
     map: &mut [u32],
     work: &mut [u32],
 ) -> State {
@@ -337,8 +410,18 @@ fn fed(
         held: state.held,
         summarised: state.summarised,
     };
-    let step = feed_one(run, counts, feed, roster, triples, summary, map, work);
-    fold_fed(run, state, step, triples, summary, map, work)
+    let step = feed_one(
+        run,
+        counts,
+        feed,
+        roster,
+        triples,
+        summary,
+        weights,
+        map,
+        work,
+    );
+    fold_fed(run, state, step, triples, summary, weights, map, work)
 }
 
 // The roster of the opening, or the spoilt one.
@@ -349,14 +432,16 @@ fn lent<'a>(yes: bool, roster: &'a [u8], spoilt: &'a [u8]) -> &'a [u8] {
     roster
 }
 
-// A feed with a work list of its length.
-fn fed_at(
+// A feed with its roster and a work list of its length.
+fn fed_at<'a>(
     run: Run,
     state: State,
     feed: Feed,
-    roster: &[u8],
+    roster: &'a [u8],
+    spoilt: &'a [u8],
     triples: &mut [u32],
     summary: &mut [u32],
+    weights: &mut [u32],
     map: &mut [u32],
     work: &mut [u32],
 ) -> State {
@@ -365,22 +450,56 @@ fn fed_at(
         run,
         state,
         feed,
-        roster,
+        lent(feed.spoilt, roster, spoilt),
         triples,
         summary,
+        weights,
         map,
         &mut work[0..w],
     )
 }
 
 // No feed follows a refused opening.
-fn feeds_after(opened: u32, feeds: usize) -> usize
-    ensures { λ r. ⌜ r ≤ 30 ⌝ }
-{
+fn feeds_after(opened: u32, feeds: usize) -> usize {
     if opened != 0 {
         return 0;
     }
     at_most(feeds, MOST_FEEDS)
+}
+
+// So many feeds, one after the other.
+fn feed_all<'a>(
+    run: Run,
+    state: State,
+    last: usize,
+    feeds: &[u32],
+    roster: &'a [u8],
+    spoilt: &'a [u8],
+    triples: &mut [u32],
+    summary: &mut [u32],
+    weights: &mut [u32],
+    map: &mut [u32],
+    work: &mut [u32],
+) -> State {
+    let mut next = state;
+    let mut i = 0;
+    while i < last {
+        let calls = i + 1;
+        next = fed_at(
+            shown_at(run, calls, last),
+            next,
+            feed_at(feeds, i),
+            roster,
+            spoilt,
+            triples,
+            summary,
+            weights,
+            map,
+            work,
+        );
+        i = calls;
+    }
+    next
 }
 
 // The whole of a case over lent lists.
@@ -392,36 +511,35 @@ fn over<'a>(
     spoilt: &'a [u8],
     triples: &mut [u32],
     summary: &mut [u32],
+    weights: &mut [u32],
     map: &mut [u32],
     work: &mut [u32],
 ) -> State {
-    let mut state = begin(run, case, roster, triples, summary, map);
-    let last = feeds_after(state.opened, case.feeds);
-    let mut i = 0;
-    while i < last {
-        let feed = feed_at(feeds, i);
-        state = fed_at(
-            shown_at(run, i + 1, last),
-            state,
-            feed,
-            lent(feed.spoilt, roster, spoilt),
-            triples,
-            summary,
-            map,
-            work,
-        );
-        i += 1;
-    }
-    state
+    let state = begin(run, case, roster, triples, summary, weights, map);
+    feed_all(
+        run,
+        state,
+        feeds_after(state.opened, case.feeds),
+        feeds,
+        roster,
+        spoilt,
+        triples,
+        summary,
+        weights,
+        map,
+        work,
+    )
 }
 
 fn small<'a>(run: Run, case: Case, feeds: &[u32], roster: &'a [u8], spoilt: &'a [u8]) -> State {
     let mut triples = [0u32; 100];
     let mut summary = [0u32; 100];
+    let mut weights = [0u32; 100];
     let mut map = [0u32; 50];
     let mut work = [0u32; 50];
     let t = at_most(case.triples, 100);
     let s = at_most(case.summary, 100);
+    let w = at_most(case.weights, 100);
     let m = at_most(case.map, 50);
     over(
         run,
@@ -431,6 +549,7 @@ fn small<'a>(run: Run, case: Case, feeds: &[u32], roster: &'a [u8], spoilt: &'a 
         spoilt,
         &mut triples[0..t],
         &mut summary[0..s],
+        &mut weights[0..w],
         &mut map[0..m],
         &mut work,
     )
@@ -439,6 +558,7 @@ fn small<'a>(run: Run, case: Case, feeds: &[u32], roster: &'a [u8], spoilt: &'a 
 fn large<'a>(run: Run, case: Case, feeds: &[u32], roster: &'a [u8], spoilt: &'a [u8]) -> State {
     let mut triples = [0u32; 6];
     let mut summary = [0u32; 6];
+    let mut weights = [0u32; 2];
     let mut map = [0u32; 65537];
     let mut work = [0u32; 131074];
     let m = at_most(case.map, 65537);
@@ -450,6 +570,7 @@ fn large<'a>(run: Run, case: Case, feeds: &[u32], roster: &'a [u8], spoilt: &'a 
         spoilt,
         &mut triples,
         &mut summary,
+        &mut weights,
         &mut map[0..m],
         &mut work,
     )

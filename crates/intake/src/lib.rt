@@ -18,11 +18,12 @@ pub fn open(
     roster: &[u8],
     triples: &mut [u32],
     summary: &mut [u32],
+    weights: &mut [u32],
     map: &mut [u32],
 ) -> Done
     ensures { λ r. ⌜ Opens words (now (roster .entry))
-        (atEntry triples summary map (now (counts .entry) .held) (now (counts .entry) .summarised)) (done r)
-        (atExit triples summary map (now (counts .exit) .held) (now (counts .exit) .summarised)) ⌝ }
+        (atEntry triples summary weights map (now (counts .entry) .held) (now (counts .entry) .summarised)) (done r)
+        (atExit triples summary weights map (now (counts .exit) .held) (now (counts .exit) .summarised)) ⌝ }
 {
     let opened = open_counts(
         counts.held,
@@ -31,6 +32,7 @@ pub fn open(
         roster,
         triples,
         summary,
+        weights,
         map,
     );
     counts.held = opened.counts.held;
@@ -45,6 +47,7 @@ pub fn feed(
     roster: &[u8],
     triples: &mut [u32],
     summary: &mut [u32],
+    weights: &mut [u32],
     map: &mut [u32],
     work: &mut [u32],
     s: u32,
@@ -52,8 +55,8 @@ pub fn feed(
     o: u32,
 ) -> Reply
     ensures { λ r. ⌜ Fed words (now (roster .entry))
-        (atEntry triples summary map (now (counts .entry) .held) (now (counts .entry) .summarised)) (now (work .entry)) (triple s p o) (replied r)
-        (atExit triples summary map (now (counts .exit) .held) (now (counts .exit) .summarised)) (now (work .exit)) ⌝ }
+        (atEntry triples summary weights map (now (counts .entry) .held) (now (counts .entry) .summarised)) (now (work .entry)) (triple s p o) (replied r)
+        (atExit triples summary weights map (now (counts .exit) .held) (now (counts .exit) .summarised)) (now (work .exit)) ⌝ }
 {
     let fed = feed_lists(
         counts.held,
@@ -62,6 +65,7 @@ pub fn feed(
         roster,
         triples,
         summary,
+        weights,
         map,
         work,
         s,

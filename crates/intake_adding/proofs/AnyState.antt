@@ -14,7 +14,7 @@ use Rattle.table_checks.proofs.Laws.{left-kept}
 
 module _ (s : State) (work : List ℕ) where
   all-kept : Kept s s
-  all-kept = record { in-triples = refl; in-summary = refl; in-map = refl }
+  all-kept = record { in-triples = refl; in-summary = refl; in-weights = refl; in-map = refl }
 
   -- a refusal
   pub alters-nothing : (r : ℕ) → zeroed r ≡ false → InAnyState s work (refused r) s work

@@ -1,25 +1,27 @@
--- A triple that changes nothing: its ends are nodes, and its image is in the summary already. Then the map and the summary stay.
+-- A triple that changes no class: its ends are nodes, and its image is in the summary already. Then the map and the summary stay, and the line that
+-- is its image weighs one more.
 -- Assumes nothing.
-use Prim.Native.Nat.{ℕ, _≤_}
+use Prim.Native.Nat.{ℕ, _+_, _<_, _≤_}
 use mathlib.Core.Path.{_≡_, refl, sym, subst, _∙_, ap}
 use mathlib.Core.Logic.{_⊎_, inl, inr, ⊎-elim}
-use mathlib.Core.Bool.{true, true≢false}
-use mathlib.Core.List.{List, List·Memᴰ as Mem}
-use lib.ListN.{length}
+use mathlib.Core.Bool.{true, false, true≢false}
+use mathlib.Core.List.{List, map, List·Memᴰ as Mem}
+use lib.ListN.{length, getD, set}
 use Rattle.model.specs.declared.Triple.{Triple}
 use Rattle.model.specs.declared.Vocabulary.{Vocabulary}
 use Rattle.model.specs.Codes.{absent, kind}
-use Rattle.model.specs.Triples.{isData, insert}
+use Rattle.model.specs.Triples.{isData, holds, insert}
 use Rattle.model.specs.Roster.{unmarked}
 use Rattle.model.specs.Partition.{label}
 use Rattle.model.specs.Cliques.{Graph, Side, source, target, end, Node, Has}
 use Rattle.model.specs.Classes.{DataNode, mapOf}
-use Rattle.model.specs.Summary.{moved, Image, summary}
+use Rattle.model.specs.Summary.{moved, Image, summary, weight, weightsBy, weights}
 use Rattle.theory.proofs.Order.{insert-keeps, insert-mem}
 use Rattle.theory.specs.Tables.{Below, AllBelow, In, HasData, Weak, by-side, by-none, itself, turned, chained}
 use Rattle.theory.proofs.Covered.{Marked, Plain, by-mark}
 use Rattle.theory.proofs.Weak.{node-map, data-map, weak-nodes, weak-data, weak-map, has-node, Reps}
 use Rattle.theory.proofs.Mapped.{map-reps, map-absent, length-map-of}
+use Rattle.theory.proofs.Weights.{weights-more}
 use Rattle.theory.proofs.Summaries.{condensed-rising, condensed-exact, condensed-unique, map-unique}
 
 module _ (v : Vocabulary) (roster : List ℕ) (ts : List Triple) (t : Triple) (below : AllBelow (length roster) ts) (right : Below (length roster) t) (room : length roster ≤ absent)
@@ -168,3 +170,11 @@ module _ (v : Vocabulary) (roster : List ℕ) (ts : List Triple) (t : Triple) (b
       let s = condensed-exact _ ts x in
       subst (λ (m : List ℕ). mathlib.Core.Logic._↔_ (Mem x (summary v roster ts)) (Image (label m) H x)) quick-map
       (λ m. let w = s .0 m in (w .0, kept (w .0) (w .1), w .2), λ w. s .1 (images x w)))
+
+  -- the image stands at place j
+  pub quick-weights : (j : ℕ) (d : Triple) → holds t ts ≡ false → j < length (summary v roster ts) → getD (summary v roster ts) j d ≡ moved f t
+      → weights v roster (insert t ts) ≡ set (weights v roster ts) j (getD (weights v roster ts) j 0 + 1)
+  unfolding weightsBy
+  quick-weights j d new h e =
+      sym (λ i. map (weight (label (quick-map i)) (insert t ts)) (quick-summary i))
+      ∙ weights-more f t ts new (summary v roster ts) j d (condensed-rising _ ts) h e

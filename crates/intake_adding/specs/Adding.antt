@@ -1,15 +1,14 @@
 -- What taking in a triple that is not held promises.
 -- Assumes nothing.
-use Prim.Native.Nat.{ℕ, _*_, _/_}
+use Prim.Native.Nat.{ℕ, _*_, _/_, _≤_}
 use mathlib.Core.Path.{_≡_}
 use mathlib.Core.Bool.{true, false}
 use mathlib.Core.List.{List}
 use lib.ListN.{length}
 use Rattle.model.specs.declared.Triple.{Triple}
-use Rattle.model.specs.declared.Refusal.{Refusal}
-use Rattle.model.specs.declared.Reply.the-variants.{New, NotNew, Refused}
+use Rattle.model.specs.declared.Reply.{Reply}
 use Rattle.model.specs.declared.Vocabulary.{Vocabulary}
-use Rattle.model.specs.Codes.{wrongWords}
+use Rattle.model.specs.Codes.{wrongWords, mostTriples}
 use Rattle.model.specs.Triples.{holds, insert}
 use Rattle.model.specs.Roster.{coversTriple, wrongRoster, wrongTriple}
 use Rattle.model.specs.Outcomes.{Outcome, accepted, Answer, answer, Said, new, wrongSize}
@@ -17,21 +16,13 @@ use Rattle.model.specs.Intake.{State, SevenOrAccepted, stateOf, Valid, InAnySta
 use Rattle.lists.specs.Flat.{at, Bound}
 use Rattle.intake_adding.specs.declared.FedCounts.{FedCounts}
 
--- a refusal with the counts as they were
-abbrev pub refusal : Refusal → ℕ → ℕ → FedCounts
-refusal r held summarised = record { answer = Refused r; counts = record { held = held; summarised = summarised } }
-
--- a triple that is held at place i, with the counts as they were
-abbrev pub notNew : ℕ → ℕ → ℕ → FedCounts
-notNew i held summarised = record { answer = NotNew i; counts = record { held = held; summarised = summarised } }
-
--- a new triple, put in at place i, with the counts as they are now
-abbrev pub newHeld : ℕ → ℕ → ℕ → FedCounts
-newHeld i held summarised = record { answer = New i; counts = record { held = held; summarised = summarised } }
+-- an answer with the counts after it
+abbrev pub withCounts : Reply → ℕ → ℕ → FedCounts
+withCounts answer held summarised = record { answer = answer; counts = record { held = held; summarised = summarised } }
 
 module _ (v : Vocabulary) where
   -- the checks 1, 10 and 2 to 4 of a feed pass
-  pub record FeedReady (roster triples summary map work : List ℕ) (t : Triple) : Type 0 where
+  pub record FeedReady (roster triples summary weights map work : List ℕ) (t : Triple) : Type 0 where
     pub size : wrongSize (length roster) ≡ false
     pub words : wrongWords v (length roster) ≡ false
     pub marks : wrongRoster v roster ≡ false
@@ -39,6 +30,8 @@ module _ (v : Vocabulary) where
     pub cover : coversTriple v roster t ≡ true
     pub map-size : length map ≡ length roster
     pub equal : length triples / 3 ≡ length summary / 3
+    pub most : length triples / 3 ≤ mostTriples
+    pub weights-size : length weights ≡ length triples / 3
     pub work-size : length work ≡ 2 * length roster
 
   module _ (roster : List ℕ) (s : State) (work : List ℕ) (t : Triple) where

@@ -18,14 +18,15 @@ pub fn open_by_value(
     roster: &[u8],
     triples: &mut [u32],
     summary: &mut [u32],
+    weights: &mut [u32],
     map: &mut [u32],
 ) -> OpenedCounts
     ensures { λ r. ⌜ Opens words (now (roster .entry))
-        (atEntry triples summary map (counts .held) (counts .summarised)) (done (r .answer))
-        (atExit triples summary map (r .counts .held) (r .counts .summarised)) ⌝ }
+        (atEntry triples summary weights map (counts .held) (counts .summarised)) (done (r .answer))
+        (atExit triples summary weights map (r .counts .held) (r .counts .summarised)) ⌝ }
 {
     let mut record = counts;
-    let answer = intake::open(&mut record, words, roster, triples, summary, map);
+    let answer = intake::open(&mut record, words, roster, triples, summary, weights, map);
     OpenedCounts {
         answer,
         counts: record,
@@ -39,6 +40,7 @@ pub fn feed_by_value(
     roster: &[u8],
     triples: &mut [u32],
     summary: &mut [u32],
+    weights: &mut [u32],
     map: &mut [u32],
     work: &mut [u32],
     s: u32,
@@ -46,8 +48,8 @@ pub fn feed_by_value(
     o: u32,
 ) -> FedCounts
     ensures { λ r. ⌜ Fed words (now (roster .entry))
-        (atEntry triples summary map (counts .held) (counts .summarised)) (now (work .entry)) (triple s p o) (replied (r .answer))
-        (atExit triples summary map (r .counts .held) (r .counts .summarised)) (now (work .exit)) ⌝ }
+        (atEntry triples summary weights map (counts .held) (counts .summarised)) (now (work .entry)) (triple s p o) (replied (r .answer))
+        (atExit triples summary weights map (r .counts .held) (r .counts .summarised)) (now (work .exit)) ⌝ }
 {
     let mut record = counts;
     let answer = intake::feed(
@@ -56,6 +58,7 @@ pub fn feed_by_value(
         roster,
         triples,
         summary,
+        weights,
         map,
         work,
         s,

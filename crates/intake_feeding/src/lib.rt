@@ -9,10 +9,11 @@ use checks::triple_wrong;
 use checks::words_wrong;
 use checks::work_wrong;
 use intake_adding::FedCounts;
-use intake_adding::refuse;
+use intake_adding::with_counts;
 use intake_opening::lengths_wrong;
 use intake_taking::take_in;
 use model::Refusal;
+use model::Reply;
 use model::Triple;
 use model::Vocabulary;
 use roster_checks::covers_triple;
@@ -25,15 +26,16 @@ fn feed_refusal(
     roster: &[u8],
     triples: &[u32],
     summary: &[u32],
+    weights: &[u32],
     map: &[u32],
     work: &[u32],
     t: Triple,
 ) -> Verdict
     ensures { λ r. ⌜ FeedVerdict words (now (roster .entry))
-        (now (triples .entry)) (now (summary .entry)) (now (map .entry)) (now (work .entry)) t r ⌝ }
+        (now (triples .entry)) (now (summary .entry)) (now (weights .entry)) (now (map .entry)) (now (work .entry)) t r ⌝ }
 {
     let n = roster.len();
-    if lengths_wrong(n, triples.len(), summary.len(), map.len()) {
+    if lengths_wrong(n, triples.len(), summary.len(), weights.len(), map.len()) {
         return Verdict::Refused(Refusal::Length);
     }
     if work_wrong(n, work.len()) {
@@ -62,6 +64,7 @@ pub fn feed_lists(
     roster: &[u8],
     triples: &mut [u32],
     summary: &mut [u32],
+    weights: &mut [u32],
     map: &mut [u32],
     work: &mut [u32],
     s: u32,
@@ -69,16 +72,16 @@ pub fn feed_lists(
     o: u32,
 ) -> FedCounts
     ensures { λ r. ⌜ Fed words (now (roster .entry))
-        (atEntry triples summary map held summarised) (now (work .entry)) (triple s p o) (replied (r .answer))
-        (atExit triples summary map (r .counts .held) (r .counts .summarised)) (now (work .exit)) ⌝ }
+        (atEntry triples summary weights map held summarised) (now (work .entry)) (triple s p o) (replied (r .answer))
+        (atExit triples summary weights map (r .counts .held) (r .counts .summarised)) (now (work .exit)) ⌝ }
 {
     let t = Triple {
         subject: s,
         property: p,
         object: o,
     };
-    match feed_refusal(words, roster, triples, summary, map, work, t) {
-        Verdict::Refused(r) => refuse(r, held, summarised),
+    match feed_refusal(words, roster, triples, summary, weights, map, work, t) {
+        Verdict::Refused(r) => with_counts(Reply::Refused(r), held, summarised),
         Verdict::Passed => take_in(
             held,
             summarised,
@@ -86,6 +89,7 @@ pub fn feed_lists(
             roster,
             triples,
             summary,
+            weights,
             map,
             work,
             t,

@@ -3,7 +3,7 @@
 use Prim.Native.Nat.{ℕ, _-_, _/_, _<_, _≤_}
 use mathlib.Core.Path.{_≡_, sym, _∙_, ap, subst}
 use mathlib.Core.Bool.{Bool, true, false, not, true≢false}
-use mathlib.Core.List.{List, List·Memᴰ as Mem}
+use mathlib.Core.List.{List}
 use native.Mathlib.Omega.{arith}
 use native.Mathlib.Nat.{sub-zero}
 use lib.Dec.{eqb}
@@ -18,7 +18,6 @@ use Rattle.model.specs.Roster.{coversTriple, wrongTriple}
 use Rattle.model.specs.Partition.{label}
 use Rattle.model.specs.Summary.{moved}
 use Rattle.theory.proofs.Tests.{or-left, or-right, or-neither}
-use Rattle.theory.proofs.Lists.{mem-tabulate}
 use Rattle.theory.proofs.Order.{same-eq}
 use Rattle.theory.specs.Tables.{Below}
 use Rattle.theory.proofs.Covered.{codes-right}
@@ -26,7 +25,9 @@ use Rattle.lists.specs.Flat.{at}
 use Rattle.lists.proofs.Places.{same-default}
 use Rattle.lists.proofs.Search.{bound-here, bound-past}
 use Rattle.builder.specs.Builder.{first}
-use Rattle.intake_insertion.specs.Places.{StandsAt, Known, bad}
+use Rattle.intake_insertion.specs.declared.ImageAt.{ImageAt}
+use Rattle.intake_insertion.specs.declared.ImageAt.the-variants.{Unknown, At}
+use Rattle.intake_insertion.specs.Places.{StandsAt, KnownAt, ImageFound, bad}
 
 -- ── a triple at a place ──
 module _ (l : List ℕ) (n i : ℕ) (t : Triple) where
@@ -36,29 +37,37 @@ module _ (l : List ℕ) (n i : ℕ) (t : Triple) where
   pub stands-here : i < n → (r : Bool) → r ≡ same t (at l i) → StandsAt l n i t r
   stands-here h r e =
       record {
-        held = λ q. subst (λ (z : Triple). Mem z (first l n)) (sym (same-eq t (at l i) (sym e ∙ q))) (mem-tabulate (at l) 0 n i (omega arith) (omega arith));
+        here = λ q. (h, sym (same-eq t (at l i) (sym e ∙ q)));
         exact = λ w b. e ∙ bound-here (at l) 0 n t i w b h ∙ ap (holds t) all;
       }
 
   pub stands-past : n ≤ i → StandsAt l n i t false
-  stands-past h = record { held = λ q. absurd (true≢false (sym q)); exact = λ w b. bound-past (at l) 0 n t i w b h ∙ ap (holds t) all }
+  stands-past h = record { here = λ q. absurd (true≢false (sym q)); exact = λ w b. bound-past (at l) 0 n t i w b h ∙ ap (holds t) all }
 
 -- ── the image of a triple ──
-pub known-false : {P : Type 0} → false ≡ true → P
-known-false e = absurd (true≢false (sym e))
+module _ (summary : List ℕ) (n : ℕ) (map : List ℕ) (t : Triple) where
+  pub not-found : ImageFound summary n map t Unknown
+  unfolding ImageFound
+  not-found = tt
+
+  pub found-at : (r : ImageAt) (j : ℕ) → ImageFound summary n map t r → r ≡ At j → KnownAt summary n map t j
+  unfolding ImageFound
+  found-at r j f e = subst (ImageFound summary n map t) e f
 
 module _ (summary : List ℕ) (n : ℕ) (map : List ℕ) (t : Triple) (below : Below (length map) t) (fits : n ≤ length summary / 3) where
   pub known-is : (a b : ℕ) → a ≡ t .subject → b ≡ t .object → eqb (getD map a 0) absent ≡ false → eqb (getD map b 0) absent ≡ false
-      → (i : ℕ) (r : Bool) → StandsAt summary n i (triple (getD map a 0) (t .property) (getD map b 0)) r → r ≡ true → Known summary n map t
+      → (i : ℕ) (r : Bool) → StandsAt summary n i (triple (getD map a 0) (t .property) (getD map b 0)) r → r ≡ true → ImageFound summary n map t (At i)
+  unfolding ImageFound
   known-is a b p q x y i r w h =
       let s : getD map a 0 ≡ label map (t .subject) = ap (λ (z : ℕ). getD map z 0) p ∙ same-default map (t .subject) 0 absent (below .subject) in
       let o : getD map b 0 ≡ label map (t .object) = ap (λ (z : ℕ). getD map z 0) q ∙ same-default map (t .object) 0 absent (below .object) in
       let e : triple (getD map a 0) (t .property) (getD map b 0) ≡ moved (label map) t = λ k. triple (s k) (t .property) (o k) in
       record {
-        subject = λ z. eqb-false (getD map a 0) absent x (s ∙ z);
-        object = λ z. eqb-false (getD map b 0) absent y (o ∙ z);
+        subject = λ u. eqb-false (getD map a 0) absent x (s ∙ u);
+        object = λ u. eqb-false (getD map b 0) absent y (o ∙ u);
         fits = omega arith;
-        image = subst (λ (z : Triple). Mem z (first summary n)) e (w .held h);
+        inside = w .here h .0;
+        image = w .here h .1 ∙ e;
       }
 
 module _ (v : Vocabulary) where

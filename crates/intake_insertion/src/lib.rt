@@ -1,6 +1,5 @@
 // A triple searched and put between the triples of a list, its image looked for, and triples with wrong codes or roles.
 
-ghost use mathlib.Core.Bool.{true};
 ghost use mathlib.Core.Path.{_≡_};
 ghost use Prim.Native.Nat.{_+_, _*_, _<_, _≤_};
 ghost use lib.ListN.{length};
@@ -8,7 +7,7 @@ ghost use Rattle.model.specs.Lists.{any};
 ghost use Rattle.theory.specs.Tables.{Below};
 ghost use Rattle.builder.specs.Builder.{first};
 ghost use Rattle.intake_insertion.specs.Insertion.{Inserted};
-ghost use Rattle.intake_insertion.specs.Places.{StandsAt, Known, bad};
+ghost use Rattle.intake_insertion.specs.Places.{StandsAt, ImageFound, bad};
 use checks::triple_wrong;
 use lists::Code;
 use lists::lower_bound;
@@ -45,21 +44,27 @@ pub fn stands_at(list: &[u32], count: usize, i: usize, t: Triple) -> bool
     false
 }
 
-// Whether the ends of t are nodes and its image stands in the summary: then neither the map nor the summary changes with t.
-pub fn image_known(summary: &[u32], summarised: usize, map: &[u32], t: Triple) -> bool
+// Where the image of a triple stands in the summary; unknown where an end is no node or the image is not there.
+pub enum ImageAt {
+    Unknown,
+    At(usize),
+}
+
+// The place of t's image. Where it is known, neither the map nor the summary changes with t.
+pub fn image_place(summary: &[u32], summarised: usize, map: &[u32], t: Triple) -> ImageAt
     requires { ⌜ Below (length (now map)) t ⌝ }
-    ensures { λ r. ⌜ (r ≡ true → Known (now (summary .entry)) summarised (now (map .entry)) t) ⌝ }
+    ensures { λ r. ⌜ ImageFound (now (summary .entry)) summarised (now (map .entry)) t r ⌝ }
 {
     if summary.len() / 3 < summarised {
-        return false;
+        return ImageAt::Unknown;
     }
     let subject = map[wide(t.subject)];
     if Code(subject).is_absent() {
-        return false;
+        return ImageAt::Unknown;
     }
     let object = map[wide(t.object)];
     if Code(object).is_absent() {
-        return false;
+        return ImageAt::Unknown;
     }
     let image = Triple {
         subject: subject,
@@ -67,7 +72,10 @@ pub fn image_known(summary: &[u32], summarised: usize, map: &[u32], t: Triple) -
         object: object,
     };
     let i = lower_bound(summary, 0, summarised, image);
-    stands_at(summary, summarised, i, image)
+    if stands_at(summary, summarised, i, image) {
+        return ImageAt::At(i);
+    }
+    ImageAt::Unknown
 }
 
 // Whether one of the first `count` triples has a wrong code or is not covered.

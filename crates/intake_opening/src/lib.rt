@@ -14,8 +14,8 @@ use model::Vocabulary;
 use roster_checks::roster_wrong;
 
 // Whether the lengths of an intake's lists are wrong with n codes.
-pub fn lengths_wrong(n: usize, triples: usize, summary: usize, map: usize) -> bool
-    ensures { λ r. ⌜ r ≡ wrongLengths n triples summary map ⌝ }
+pub fn lengths_wrong(n: usize, triples: usize, summary: usize, weights: usize, map: usize) -> bool
+    ensures { λ r. ⌜ r ≡ wrongLengths n triples summary weights map ⌝ }
 {
     if size_wrong(n) {
         return true;
@@ -26,24 +26,30 @@ pub fn lengths_wrong(n: usize, triples: usize, summary: usize, map: usize) -> bo
     if triples / 3 != summary / 3 {
         return true;
     }
-    MOST_TRIPLES < triples / 3
+    if MOST_TRIPLES < triples / 3 {
+        return true;
+    }
+    weights != triples / 3
 }
 
-// Opens an intake: both lists zero, the map absent.
+// Opens an intake: both triple lists and the weights zero, the map absent.
 fn open_lists(
     words: Vocabulary,
     roster: &[u8],
     triples: &mut [u32],
     summary: &mut [u32],
+    weights: &mut [u32],
     map: &mut [u32],
 ) -> Done
     ensures { λ r. ⌜ OpenCall words (now (roster .entry))
-        (now (triples .entry)) (now (summary .entry)) (now (map .entry)) r (now (triples .exit)) (now (summary .exit)) (now (map .exit)) ⌝ }
+        (now (triples .entry)) (now (summary .entry)) (now (weights .entry)) (now (map .entry)) r
+        (now (triples .exit)) (now (summary .exit)) (now (weights .exit)) (now (map .exit)) ⌝ }
 {
-    if lengths_wrong(roster.len(), triples.len(), summary.len(), map.len()) {
+    let n = roster.len();
+    if lengths_wrong(n, triples.len(), summary.len(), weights.len(), map.len()) {
         return Done::Refused(Refusal::Length);
     }
-    if words_wrong(words, roster.len()) {
+    if words_wrong(words, n) {
         return Done::Refused(Refusal::Words);
     }
     if roster_wrong(words, roster) {
@@ -51,6 +57,7 @@ fn open_lists(
     }
     clear(triples, 0, triples.len());
     clear(summary, 0, summary.len());
+    clear(weights, 0, weights.len());
     empty(map);
     Done::Accepted
 }
@@ -75,13 +82,14 @@ pub fn open_counts(
     roster: &[u8],
     triples: &mut [u32],
     summary: &mut [u32],
+    weights: &mut [u32],
     map: &mut [u32],
 ) -> OpenedCounts
     ensures { λ r. ⌜ Opens words (now (roster .entry))
-        (atEntry triples summary map held summarised) (done (r .answer))
-        (atExit triples summary map (r .counts .held) (r .counts .summarised)) ⌝ }
+        (atEntry triples summary weights map held summarised) (done (r .answer))
+        (atExit triples summary weights map (r .counts .held) (r .counts .summarised)) ⌝ }
 {
-    match open_lists(words, roster, triples, summary, map) {
+    match open_lists(words, roster, triples, summary, weights, map) {
         Done::Refused(r) => OpenedCounts {
             answer: Done::Refused(r),
             counts: Counts { held, summarised },

@@ -6,12 +6,13 @@ use mathlib.Core.Logic.{inl, inr}
 use mathlib.Core.Bool.{Bool, true, false, cond, not, _||_, true≢false}
 use mathlib.Core.List.{List, []}
 use native.Mathlib.Omega.{arith}
-use lib.Dec.{eqb, leb}
+use lib.Dec.{eqb, leb, ltb}
 use lib.ListN.{length}
-use borrow.Author.Tests.{le-leb, lt-leb, eqb-true, not-false}
+use borrow.Author.Tests.{le-leb, lt-leb, ltb-false, eqb-true, not-false}
 use Rattle.model.specs.declared.Triple.{Triple}
 use Rattle.model.specs.declared.Refusal.{Refusal}
 use Rattle.model.specs.declared.Refusal.the-variants.{Length, Words, Roster, Code, Cover, Full}
+use Rattle.model.specs.declared.Reply.{Reply}
 use Rattle.model.specs.declared.Reply.the-variants.{NotNew, Refused as reply-refused}
 use Rattle.model.specs.declared.Vocabulary.{Vocabulary}
 use Rattle.model.specs.Codes.{wrongWords}
@@ -31,22 +32,22 @@ use Rattle.lists.proofs.Search.{cleared-all, place-bound}
 use Rattle.intake_adding.specs.declared.FedCounts.{FedCounts}
 use Rattle.intake_opening.specs.Opening.{wrongLengths, stateWith}
 use Rattle.intake_insertion.specs.Places.{StandsAt}
-use Rattle.intake_adding.specs.Adding.{FeedReady, AddCall, refusal}
+use Rattle.intake_adding.specs.Adding.{FeedReady, AddCall, withCounts}
 use Rattle.intake_taking.specs.Feeding.{FeedVerdict, Taken}
 use Rattle.intake_adding.proofs.AnyState.{alters-nothing, alters-work}
 use Rattle.intake_adding.proofs.Adding.{held-is, first-is, rising}
 
 module _ (v : Vocabulary) where
   -- ── the checks ──
-  module _ (roster triples sums map₀ work : List ℕ) (t : Triple) where
+  module _ (roster triples sums weighed map₀ work : List ℕ) (t : Triple) where
     abbrev lengths : Bool
-    lengths = wrongLengths (length roster) (length triples) (length sums) (length map₀)
+    lengths = wrongLengths (length roster) (length triples) (length sums) (length weighed) (length map₀)
 
     abbrev tests : ℕ → ℕ → List Check
-    tests held summarised = intakeChecks v roster (stateWith triples sums map₀ held summarised) t (length work)
+    tests held summarised = intakeChecks v roster (stateWith triples sums weighed map₀ held summarised) t (length work)
 
     abbrev Is : Verdict → Type 0
-    Is = FeedVerdict v roster triples sums map₀ work t
+    Is = FeedVerdict v roster triples sums weighed map₀ work t
 
     outcome-is : {a w b c d : Bool} → (lengths || wrongWork (length roster) (length work)) ≡ a → wrongWords v (length roster) ≡ w
         → wrongRoster v roster ≡ b → wrongTriple v (length roster) t ≡ c → not (coversTriple v roster t) ≡ d
@@ -88,9 +89,9 @@ module _ (v : Vocabulary) where
       unfolding verdict
       by-none w a b d held summarised = sym (outcome-is sizes w a b (ap not d) held summarised)
 
-  module _ (roster triples sums map₀ work : List ℕ) (held summarised : ℕ) (t : Triple) where
+  module _ (roster triples sums weighed map₀ work : List ℕ) (held summarised : ℕ) (t : Triple) where
     abbrev s : State
-    s = stateWith triples sums map₀ held summarised
+    s = stateWith triples sums weighed map₀ held summarised
 
     abbrev Takes : Outcome (Answer Said) → State → List ℕ → Type 0
     Takes = Taken v roster s work t
@@ -108,11 +109,10 @@ module _ (v : Vocabulary) where
     unfolding joins afterSaying
     joins-new H i = refl
 
-    -- an answer with the counts as they were is what `refuse` and `not_new` give
-    pub taken-is : (y z : FedCounts) → y ≡ z → (w : List ℕ)
-        → Takes (replied (z .answer)) (stateWith triples sums map₀ (z .counts .held) (z .counts .summarised)) w
-        → Takes (replied (y .answer)) (stateWith triples sums map₀ (y .counts .held) (y .counts .summarised)) w
-    taken-is y z e w T = subst (λ (x : FedCounts). Takes (replied (x .answer)) (stateWith triples sums map₀ (x .counts .held) (x .counts .summarised)) w) (sym e) T
+    -- an answer as `with_counts` gives it
+    pub as-counted : (y : FedCounts) (x : Reply) → y ≡ withCounts x held summarised → (w : List ℕ) → Takes (replied x) s w
+        → Takes (replied (y .answer)) (stateWith triples sums weighed map₀ (y .counts .held) (y .counts .summarised)) w
+    as-counted y x e w T = subst (λ (x : FedCounts). Takes (replied (x .answer)) (stateWith triples sums weighed map₀ (x .counts .held) (x .counts .summarised)) w) (sym e) T
 
     -- more triples than slots: an intake altered by hand
     pub taken-over : length triples / 3 < held → Takes (replied (reply-refused Full)) s work
@@ -121,20 +121,20 @@ module _ (v : Vocabulary) where
         record {
           passes = inl refl;
           in-any-state = full;
-          steps = λ H W. absurd (omega (arith, W .fits, held-is v roster triples sums map₀ work held summarised t H W));
+          steps = λ H W. absurd (omega (arith, W .fits, held-is v roster triples sums weighed map₀ work held summarised t H W));
         }
 
     module _ (i : ℕ) (P : Place (at triples) 0 held t i) (r : Bool) (S : StandsAt triples held i t r) where
       holds-is : (b : Bool) → r ≡ b → (H : List Triple) → Valid v roster s H → holds t H ≡ b
       holds-is b e H W =
-          let up = rising v roster triples sums map₀ work held summarised t H W in
-          ap (holds t) (sym (first-is v roster triples sums map₀ work held summarised t H W)) ∙ sym (S .exact up (P .bound up)) ∙ e
+          let up = rising v roster triples sums weighed map₀ work held summarised t H W in
+          ap (holds t) (sym (first-is v roster triples sums weighed map₀ work held summarised t H W)) ∙ sym (S .exact up (P .bound up)) ∙ e
 
       -- the place that was found is the number of held triples that come before t
       place-is : (H : List Triple) → Valid v roster s H → place t H ≡ i
       place-is H W =
-          ap (place t) (sym (first-is v roster triples sums map₀ work held summarised t H W))
-          ∙ place-bound (at triples) held i t (P .bound (rising v roster triples sums map₀ work held summarised t H W))
+          ap (place t) (sym (first-is v roster triples sums weighed map₀ work held summarised t H W))
+          ∙ place-bound (at triples) held i t (P .bound (rising v roster triples sums weighed map₀ work held summarised t H W))
 
       answered : (x : Said) (H : List Triple) → Valid v roster s H → _≡_ {A = Outcome (Answer Said)} (accepted (answer x i)) (accepted (answer x (place t H)))
       answered x H W = λ j. accepted (answer x (sym (place-is H W) j))
@@ -157,7 +157,7 @@ module _ (v : Vocabulary) where
             passes = inl refl;
             in-any-state = full;
             steps = λ H W. (
-              sym (judged-is false true H (holds-is false e H W) (le-leb (length triples / 3) (length H) (omega (arith, held-is v roster triples sums map₀ work held summarised t H W)))),
+              sym (judged-is false true H (holds-is false e H W) (le-leb (length triples / 3) (length H) (omega (arith, held-is v roster triples sums weighed map₀ work held summarised t H W)))),
               W .is-state,
             );
           }
@@ -171,16 +171,16 @@ module _ (v : Vocabulary) where
               → (o ≡ judged (slots triples) H t) × (after ≡ stateOf v roster s (joins o t H))
           steps H W =
               let q = holds-is false e H W in
-              let z = A .steps H W (P .bound (rising v roster triples sums map₀ work held summarised t H W)) q in (
-                z .0 ∙ answered new H W ∙ sym (judged-is false false H q (lt-leb (length triples / 3) (length H) (omega (arith, held-is v roster triples sums map₀ work held summarised t H W)))),
+              let z = A .steps H W (P .bound (rising v roster triples sums weighed map₀ work held summarised t H W)) q in (
+                z .0 ∙ answered new H W ∙ sym (judged-is false false H q (lt-leb (length triples / 3) (length H) (omega (arith, held-is v roster triples sums weighed map₀ work held summarised t H W)))),
                 z .1 ∙ ap (stateOf v roster s) (joins-new H i ∙ ap (λ (x : Outcome (Answer Said)). joins x t H) (sym (z .0))),
               )
 
     -- ── the whole feed ──
     abbrev cs : List Check
-    cs = tests roster triples sums map₀ work t held summarised
+    cs = tests roster triples sums weighed map₀ work t held summarised
 
-    module _ (x : Verdict) (J : FeedVerdict v roster triples sums map₀ work t x) where
+    module _ (x : Verdict) (J : FeedVerdict v roster triples sums weighed map₀ work t x) where
       -- a check refuses
       module _ (r : Refusal) (e : x ≡ Refused r) where
         decides : checked cs (tt {0}) ≡ refused (refusalNumber r)
@@ -196,9 +196,9 @@ module _ (v : Vocabulary) where
 
         keeps : zeroed (refusalNumber r) ≡ false
         keeps =
-            kept-by (lengths roster triples sums map₀ work t || wrongWork (length roster) (length work)) (wrongWords v (length roster))
+            kept-by (lengths roster triples sums weighed map₀ work t || wrongWork (length roster) (length work)) (wrongWords v (length roster))
             (wrongRoster v roster) (wrongTriple v (length roster) t) (not (coversTriple v roster t)) (refusalNumber r)
-            (sym decides ∙ outcome-is roster triples sums map₀ work t refl refl refl refl refl held summarised)
+            (sym decides ∙ outcome-is roster triples sums weighed map₀ work t refl refl refl refl refl held summarised)
 
         refused-feed : Fed v roster s work t (replied (reply-refused r)) s work
         unfolding replied joins
@@ -210,8 +210,8 @@ module _ (v : Vocabulary) where
               steps = λ H W. (sym (refuses-any (judged (slots triples) H t)), W .is-state);
             }
 
-        pub by-refusal : (y : FedCounts) → y ≡ refusal r held summarised → Fed v roster s work t (replied (y .answer)) (stateWith triples sums map₀ (y .counts .held) (y .counts .summarised)) work
-        by-refusal y q = subst (λ (y : FedCounts). Fed v roster s work t (replied (y .answer)) (stateWith triples sums map₀ (y .counts .held) (y .counts .summarised)) work) (sym q) refused-feed
+        pub by-refusal : (y : FedCounts) → y ≡ withCounts (reply-refused r) held summarised → Fed v roster s work t (replied (y .answer)) (stateWith triples sums weighed map₀ (y .counts .held) (y .counts .summarised)) work
+        by-refusal y q = subst (λ (y : FedCounts). Fed v roster s work t (replied (y .answer)) (stateWith triples sums weighed map₀ (y .counts .held) (y .counts .summarised)) work) (sym q) refused-feed
 
       -- no check fails
       module _ (e : x ≡ Passed) where
@@ -219,7 +219,7 @@ module _ (v : Vocabulary) where
         unfolding verdict
         passes = accepted-passes cs tt tt (sym (J held summarised) ∙ ap verdict e)
 
-        pub ready : FeedReady v roster triples sums map₀ work t
+        pub ready : FeedReady v roster triples sums weighed map₀ work t
         unfolding intakeChecks wrongLists wrongWork slots
         ready =
             let p = passes-first _ _ passes in
@@ -230,6 +230,7 @@ module _ (v : Vocabulary) where
             let a = or-false (wrongSize (length roster)) _ (l .0) in
             let b = or-false (not (eqb (length map₀) (length roster))) _ (a .1) in
             let d = or-false (not (eqb (length triples / 3) (length sums / 3))) _ (b .1) in
+            let g = or-false (ltb 1048576 (length triples / 3)) _ (d .1) in
             record {
               size = a .0;
               words = q .0;
@@ -238,6 +239,8 @@ module _ (v : Vocabulary) where
               cover = not-false _ ((passes-first _ _ (c .1)) .0);
               map-size = eqb-true _ _ (not-false _ (b .0));
               equal = eqb-true _ _ (not-false _ (d .0));
+              most = ltb-false _ _ (g .0);
+              weights-size = eqb-true _ _ (not-false _ (g .1));
               work-size = eqb-true _ _ (not-false _ (l .1));
             }
 

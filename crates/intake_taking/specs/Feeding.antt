@@ -15,9 +15,9 @@ use Rattle.intake_opening.specs.Opening.{stateWith}
 
 module _ (v : Vocabulary) where
   -- what the checks 1, 10, 2, 3, 4 of a feed decide, whatever the counts are
-  abbrev pub FeedVerdict : (roster triples summary map work : List ℕ) → Triple → Verdict → Type 0
-  FeedVerdict roster triples summary map work t r =
-      (held summarised : ℕ) → verdict r ≡ checked (intakeChecks v roster (stateWith triples summary map held summarised) t (length work)) tt
+  abbrev pub FeedVerdict : (roster triples summary weights map work : List ℕ) → Triple → Verdict → Type 0
+  FeedVerdict roster triples summary weights map work t r =
+      (held summarised : ℕ) → verdict r ≡ checked (intakeChecks v roster (stateWith triples summary weights map held summarised) t (length work)) tt
 
   module _ (roster : List ℕ) (s : State) (work : List ℕ) (t : Triple) where
     -- a feed that no check refuses

@@ -6,12 +6,12 @@ ghost use Rattle.intake_adding.specs.Adding.{FeedReady};
 ghost use Rattle.intake_taking.specs.Feeding.{Taken};
 use intake_adding::FedCounts;
 use intake_adding::add;
-use intake_adding::not_new;
-use intake_adding::refuse;
+use intake_adding::with_counts;
 use intake_insertion::stands_at;
 use lists::clear;
 use lists::lower_bound;
 use model::Refusal;
+use model::Reply;
 use model::Triple;
 use model::Vocabulary;
 
@@ -23,23 +23,24 @@ pub fn take_in(
     roster: &[u8],
     triples: &mut [u32],
     summary: &mut [u32],
+    weights: &mut [u32],
     map: &mut [u32],
     work: &mut [u32],
     t: Triple,
 ) -> FedCounts
-    requires { ⌜ FeedReady words (now roster) (now triples) (now summary) (now map) (now work) t ⌝ }
+    requires { ⌜ FeedReady words (now roster) (now triples) (now summary) (now weights) (now map) (now work) t ⌝ }
     ensures { λ r. ⌜ Taken words (now (roster .entry))
-        (atEntry triples summary map held summarised) (now (work .entry)) t (replied (r .answer))
-        (atExit triples summary map (r .counts .held) (r .counts .summarised)) (now (work .exit)) ⌝ }
+        (atEntry triples summary weights map held summarised) (now (work .entry)) t (replied (r .answer))
+        (atExit triples summary weights map (r .counts .held) (r .counts .summarised)) (now (work .exit)) ⌝ }
 {
     let slots = triples.len() / 3;
     if slots < held {
-        return refuse(Refusal::Full, held, summarised); // only where the record was altered by hand
+        return with_counts(Reply::Refused(Refusal::Full), held, summarised); // only where the record was altered by hand
     }
     let i = lower_bound(triples, 0, held, t);
     if stands_at(triples, held, i, t) {
         clear(work, 0, work.len());
-        return not_new(i, held, summarised);
+        return with_counts(Reply::NotNew(i), held, summarised);
     }
     if held < slots {
         return add(
@@ -49,11 +50,12 @@ pub fn take_in(
             roster,
             triples,
             summary,
+            weights,
             map,
             work,
             t,
             i,
         );
     }
-    refuse(Refusal::Full, held, summarised)
+    with_counts(Reply::Refused(Refusal::Full), held, summarised)
 }

@@ -1,9 +1,10 @@
--- Each graph, each schema and each strong summary comes out as its table says, by computation.
+-- Each graph, each schema, each strong summary and each list of weights comes out as its table says, by computation.
 -- Assumes nothing.
 use lib.Dec.{T}
 use Rattle.model.specs.Graphs.{graphs, allRight, right, equal, closures, allClosed, closed, strongGraphs, allStrongRight, strongRight}
+use Rattle.model.specs.Graphs.{weightExamples, allWeightsRight, weightsRight}
 use Rattle.model.specs.Codes.{kind, reserved, repeated, wrongWords}
-use Rattle.model.specs.Lists.{any, all, collect, among, tabulate}
+use Rattle.model.specs.Lists.{any, all, howMany, collect, among, tabulate}
 use Rattle.model.specs.Triples.{triples, flat, isData, before, same, insert, sorted}
 use Rattle.model.specs.Roster.{isClass, isProperty, unmarked, classRoles, propertyRoles, classIn, propertyIn, coversTriple, covers, ownRoster}
 use Rattle.model.specs.Roster.{wrongRoster, wrongEnd, wrongTriple, wrongCodes, isNode}
@@ -12,7 +13,7 @@ use Rattle.model.specs.Saturation.{conclusions, round, rounds, saturatio
 use Rattle.model.specs.Partition.{union, merged, pairs}
 use Rattle.model.specs.Cliques.{links, shares, hasClique, cliques}
 use Rattle.model.specs.Classes.{together, alike, cliqueOf, placed, mapBy, mapOf, strongMapOf}
-use Rattle.model.specs.Summary.{condensed}
+use Rattle.model.specs.Summary.{condensed, weight, weightsBy}
 use Rattle.model.specs.Outcomes.{wrongSize, wrongLength}
 use Rattle.model.specs.Calls.{tableChecks}
 
@@ -27,3 +28,7 @@ closures-right = tt
 pub strong-graphs-right : T (allStrongRight strongGraphs)
 unfolding tableChecks wrongWords repeated wrongSize wrongLength wrongRoster wrongCodes wrongTriple wrongEnd covers coversTriple kind reserved any all collect among tabulate triples flat isData before same insert sorted isClass isProperty unmarked classRoles propertyRoles classIn propertyIn ownRoster isNode union merged pairs links shares hasClique cliques together alike cliqueOf placed mapBy mapOf strongMapOf condensed equal strongRight allStrongRight
 strong-graphs-right = tt
+
+pub weights-right : T (allWeightsRight weightExamples)
+unfolding tableChecks wrongWords repeated wrongSize wrongLength wrongRoster wrongCodes wrongTriple wrongEnd covers coversTriple kind reserved any all howMany collect among tabulate triples flat isData before same insert sorted isClass isProperty unmarked classRoles propertyRoles classIn propertyIn ownRoster isNode union merged pairs links shares hasClique cliques together cliqueOf placed mapBy mapOf condensed weight weightsBy equal weightsRight allWeightsRight
+weights-right = tt

@@ -1,6 +1,6 @@
 -- The small graphs of 01 that are marked to be proved, as one table: with the own roster, the saturation, the plain summary, the map and
 -- both clique lists of each; the last two have reserved codes of their own (02). Behind it, the saturations of small schemas, for the rules of 02,
--- and the strong summaries of small graphs.
+-- the strong summaries of small graphs, and the weights of what an intake holds.
 -- Assumes nothing.
 use Prim.Native.Nat.{ℕ}
 use mathlib.Core.Bool.{Bool, true, false, not, _&&_}
@@ -9,12 +9,12 @@ use lib.Dec.{eqb}
 use Rattle.model.specs.declared.Vocabulary.{Vocabulary}
 use Rattle.model.specs.Codes.{absent, rdfs, vocabulary}
 use Rattle.model.specs.Lists.{any, all}
-use Rattle.model.specs.Triples.{triples, flat}
+use Rattle.model.specs.Triples.{triples, flat, sorted}
 use Rattle.model.specs.Roster.{ownRoster}
 use Rattle.model.specs.Saturation.{saturation}
 use Rattle.model.specs.Cliques.{source, target, cliques}
 use Rattle.model.specs.Classes.{mapOf, strongMapOf}
-use Rattle.model.specs.Summary.{summary, strongSummary}
+use Rattle.model.specs.Summary.{summary, weights, strongSummary}
 use Rattle.model.specs.Outcomes.{Check}
 use Rattle.model.specs.Calls.{tableChecks}
 
@@ -274,4 +274,65 @@ strongGraphs =
     (0 ∷ 2 ∷ 3 ∷ 0 ∷ 9 ∷ 1 ∷ 3 ∷ 9 ∷ 1 ∷ [])
     (0 ∷ 1 ∷ absent ∷ 3 ∷ 0 ∷ absent ∷ absent ∷ absent ∷ absent ∷ absent ∷ [])
     (0 ∷ 2 ∷ 3 ∷ 0 ∷ 9 ∷ 1 ∷ 3 ∷ 9 ∷ 1 ∷ [])
+    ∷ []
+
+-- triples in rising order, as an intake holds them, with their own roster: the lines of the summary, and how many triples each stands for
+pub record WeightExample : Type 0 where
+  pub words : Vocabulary
+  pub size : ℕ
+  pub held : List ℕ
+  pub lines : List ℕ
+  pub counts : List ℕ
+
+unfoldable pub weightsRight : WeightExample → Bool
+weightsRight g =
+    let v = g .words in
+    let ts = triples (g .held) in
+    let own = ownRoster v (g .size) ts in
+    not (any (λ (c : Check). c .fails) (tableChecks v false (g .held) own))
+    && (equal (flat (sorted ts)) (g .held)
+    && (equal (flat (summary v own ts)) (g .lines)
+    && equal (weights v own ts) (g .counts)))
+
+unfoldable pub allWeightsRight : List WeightExample → Bool
+allWeightsRight gs = all weightsRight gs
+
+abbrev pub weightExample : Vocabulary → ℕ → List ℕ → List ℕ → List ℕ → WeightExample
+weightExample v n h l w = record { words = v; size = n; held = h; lines = l; counts = w }
+
+abbrev pub weightExamples : List WeightExample
+weightExamples =
+    {- no triples -}
+    weightExample rdfs 5 []
+    [] []
+    ∷ {- a chain -}
+    weightExample rdfs 13 (10 ∷ 5 ∷ 11 ∷ 11 ∷ 5 ∷ 12 ∷ [])
+    (10 ∷ 5 ∷ 10 ∷ []) (2 ∷ [])
+    ∷ {- two sources apart -}
+    weightExample rdfs 22 (10 ∷ 5 ∷ 20 ∷ 11 ∷ 6 ∷ 21 ∷ [])
+    (10 ∷ 5 ∷ 20 ∷ 11 ∷ 6 ∷ 21 ∷ []) (1 ∷ 1 ∷ [])
+    ∷ {- and with one triple more together -}
+    weightExample rdfs 23 (10 ∷ 5 ∷ 20 ∷ 10 ∷ 6 ∷ 22 ∷ 11 ∷ 6 ∷ 21 ∷ [])
+    (10 ∷ 5 ∷ 20 ∷ 10 ∷ 6 ∷ 21 ∷ []) (1 ∷ 2 ∷ [])
+    ∷ {- two sources apart, with types: four lines -}
+    weightExample rdfs 22 (10 ∷ 0 ∷ 8 ∷ 10 ∷ 5 ∷ 20 ∷ 11 ∷ 0 ∷ 8 ∷ 11 ∷ 6 ∷ 21 ∷ [])
+    (10 ∷ 0 ∷ 8 ∷ 10 ∷ 5 ∷ 20 ∷ 11 ∷ 0 ∷ 8 ∷ 11 ∷ 6 ∷ 21 ∷ []) (1 ∷ 1 ∷ 1 ∷ 1 ∷ [])
+    ∷ {- and with one triple more together: three -}
+    weightExample rdfs 23 (10 ∷ 0 ∷ 8 ∷ 10 ∷ 5 ∷ 20 ∷ 10 ∷ 6 ∷ 22 ∷ 11 ∷ 0 ∷ 8 ∷ 11 ∷ 6 ∷ 21 ∷ [])
+    (10 ∷ 0 ∷ 8 ∷ 10 ∷ 5 ∷ 20 ∷ 10 ∷ 6 ∷ 21 ∷ []) (2 ∷ 1 ∷ 2 ∷ [])
+    ∷ {- types only -}
+    weightExample rdfs 12 (10 ∷ 0 ∷ 8 ∷ 11 ∷ 0 ∷ 8 ∷ [])
+    (10 ∷ 0 ∷ 8 ∷ []) (2 ∷ [])
+    ∷ {- types with a data triple -}
+    weightExample rdfs 13 (10 ∷ 0 ∷ 8 ∷ 10 ∷ 5 ∷ 12 ∷ 11 ∷ 0 ∷ 8 ∷ [])
+    (10 ∷ 0 ∷ 8 ∷ 10 ∷ 5 ∷ 12 ∷ 11 ∷ 0 ∷ 8 ∷ []) (1 ∷ 1 ∷ 1 ∷ [])
+    ∷ {- a class at an end -}
+    weightExample rdfs 21 (10 ∷ 0 ∷ 8 ∷ 10 ∷ 5 ∷ 8 ∷ 11 ∷ 5 ∷ 8 ∷ 12 ∷ 5 ∷ 20 ∷ [])
+    (10 ∷ 0 ∷ 8 ∷ 10 ∷ 5 ∷ 8 ∷ 10 ∷ 5 ∷ 20 ∷ []) (1 ∷ 2 ∷ 1 ∷ [])
+    ∷ {- a class at a subject, and a schema triple -}
+    weightExample rdfs 14 (8 ∷ 1 ∷ 9 ∷ 8 ∷ 5 ∷ 12 ∷ 8 ∷ 5 ∷ 13 ∷ 10 ∷ 0 ∷ 8 ∷ [])
+    (8 ∷ 1 ∷ 9 ∷ 8 ∷ 5 ∷ 12 ∷ 10 ∷ 0 ∷ 8 ∷ []) (1 ∷ 2 ∷ 1 ∷ [])
+    ∷ {- a word table that falls -}
+    weightExample (vocabulary 9 8 7 6 5) 10 (0 ∷ 2 ∷ 3 ∷ 3 ∷ 9 ∷ 1 ∷ 4 ∷ 2 ∷ 3 ∷ 4 ∷ 9 ∷ 1 ∷ [])
+    (0 ∷ 2 ∷ 3 ∷ 0 ∷ 9 ∷ 1 ∷ 3 ∷ 9 ∷ 1 ∷ []) (2 ∷ 1 ∷ 1 ∷ [])
     ∷ []

@@ -10,18 +10,19 @@ use lib.ListN.{length, replicate}
 use Rattle.model.specs.declared.Triple.{Triple}
 use Rattle.model.specs.declared.Vocabulary.{Vocabulary}
 use Rattle.model.specs.Codes.{wrongWords, absent, mostTriples}
-use Rattle.model.specs.Lists.{any, zeros}
+use Rattle.model.specs.Lists.{any, zeros, padded}
 use Rattle.model.specs.Triples.{slots, holds, place, insert, listed}
 use Rattle.model.specs.Order.{Rising}
 use Rattle.model.specs.Roster.{coversTriple, covers, wrongRoster, wrongTriple, wrongCodes}
 use Rattle.model.specs.Classes.{mapOf}
-use Rattle.model.specs.Summary.{summary}
+use Rattle.model.specs.Summary.{summary, weights}
 use Rattle.model.specs.Outcomes.{Outcome, refused, accepted, Answer, answer, Said, new, not-new, placeOf, Check, check, decided, checked, Passes, left, wrongSize, wrongWork}
 
--- what is lent to every call of an intake: two triple lists, the map and the record of two counts
+-- what is lent to every call of an intake: two triple lists, the weights of the summary's triples, the map and the record of two counts
 pub record State : Type 0 where
   pub triples : List ℕ
   pub summary : List ℕ
+  pub weights : List ℕ
   pub map : List ℕ
   pub held : ℕ
   pub summarised : ℕ
@@ -48,6 +49,7 @@ isNew (accepted x) = saysNew (x .says)
 pub record Kept (s after : State) : Type 0 where
   pub in-triples : length (after .triples) ≡ length (s .triples)
   pub in-summary : length (after .summary) ≡ length (s .summary)
+  pub in-weights : length (after .weights) ≡ length (s .weights)
   pub in-map : length (after .map) ≡ length (s .map)
 
 -- What holds of a feed's outcome, the state after it and the work list after it whatever the state was, altered by hand or not.
@@ -102,25 +104,29 @@ module _ (v : Vocabulary) (roster : List ℕ) where
   heldAfter room [] H = H
   heldAfter room (f ∷ fs) H = heldAfter room fs (joins (replyTo room H f) (f .triple) H)
 
-  -- ── the lists and the record of an intake that holds H, both triple lists as long as in s; nothing else of s enters ──
+  -- ── the lists and the record of an intake that holds H, both triple lists and the weights as long as in s; nothing else of s enters ──
   -- 01: "the triple list is H in rising order, the summary list H's summary, both zero beyond, the map is H's, and the record's two
   -- counts are the sizes of H and of its summary"
+  -- 02: "beside each summary triple, the count of held triples whose image it is, .. zero past the last summary triple"
   unfoldable pub stateOf : State → List Triple → State
   stateOf s H =
       record {
         triples = listed (length (s .triples)) H;
         summary = listed (length (s .summary)) (summary v roster H);
+        weights = padded (length (s .weights)) (weights v roster H);
         map = mapOf v roster H;
         held = length H;
         summarised = length (summary v roster H);
       }
 
-  -- 01, refusal 1: "intake lists of unequal slots or over 1,048,576", and N and the map's size
+  -- 01, refusal 1: "intake lists of unequal slots or over 1,048,576", and N and the map's size; 02: "a further lent list of as many u32 as there
+  -- are slots .. A further list of the wrong size falls under refusal 1."
   unfoldable pub wrongLists : State → Bool
   wrongLists s =
       wrongSize (length roster)
       || (not (eqb (length (s .map)) (length roster))
-      || (not (eqb (slots (s .triples)) (slots (s .summary))) || ltb mostTriples (slots (s .triples))))
+      || (not (eqb (slots (s .triples)) (slots (s .summary)))
+      || (ltb mostTriples (slots (s .triples)) || not (eqb (length (s .weights)) (slots (s .triples))))))
 
   -- ── opening: 01, "opening 1 and 2"; 02: 10 straight after 1 ──
   unfoldable pub openOutcome : State → Outcome (Unit {0})
@@ -132,6 +138,7 @@ module _ (v : Vocabulary) (roster : List ℕ) where
       record {
         triples = zeros (length (s .triples));
         summary = zeros (length (s .summary));
+        weights = zeros (length (s .weights));
         map = replicate (length (s .map)) absent;
         held = 0;
         summarised = 0;
@@ -168,7 +175,7 @@ module _ (v : Vocabulary) (roster : List ℕ) where
     -- where no check fails, for every state: no refusal but 7
     pub passes : Passes (intakeChecks s t (length work)) → SevenOrAccepted outcome
     -- Open for an altered state that passes the checks: which of "new", "not new" and 7 is answered, with which place; and after "new" the
-    -- contents of the two lists and the map, and the count of the summary. What holds of every state, altered or not:
+    -- contents of the two triple lists, the weights and the map, and the count of the summary. What holds of every state, altered or not:
     pub in-any-state : InAnyState s work outcome after work-after
     -- what holds besides of a state that holds H
     pub steps : (H : List Triple) → Valid s H

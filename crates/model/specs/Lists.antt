@@ -1,5 +1,5 @@
--- Lists: tests over all elements, how many pass, all results of a function, the values of a function at 0, 1, .., and the first number that
--- passes a test.
+-- Lists: tests over all elements, how many pass, all results of a function, the values of a function at 0, 1, .., sums, and the first number
+-- that passes a test.
 -- Assumes nothing.
 use Prim.Native.Nat.{ℕ, zero, suc, _+_, _-_, _<_, _≤_}
 use mathlib.Core.Path.{_≡_}
@@ -39,6 +39,10 @@ among c xs = any (λ x. eqb c x) xs
 unfoldable pub tabulate : {A : Type 0} → (ℕ → A) → ℕ → ℕ → List A
 tabulate f i zero = []
 tabulate f i (suc n) = f i ∷ tabulate f (suc i) n
+
+unfoldable pub total : List ℕ → ℕ
+total [] = 0
+total (x ∷ xs) = x + total xs
 
 unfoldable pub zeros : ℕ → List ℕ
 zeros n = replicate n 0

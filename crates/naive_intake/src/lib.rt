@@ -1,5 +1,5 @@
 // The plain intake. After an accepted opening and every feed its lists are H, the set of triples that were new, in rising order, its
-// summary and its map.
+// summary, the weights of the summary's triples, and its map.
 use naive_checks::covered;
 use naive_checks::roster_wrong;
 use naive_checks::size_wrong;
@@ -12,27 +12,42 @@ use naive_lists::fill;
 use naive_lists::holds;
 use naive_lists::place;
 use naive_lists::put;
+use naive_lists::same;
+use naive_lists::set;
 use naive_lists::sort;
+use naive_lists::triple_at;
 use naive_lists::triple_of;
+use naive_summary::image;
 use naive_summary::summarise;
 
-// N as for any call, a map of N numbers, equal slots and not too many.
-fn lengths_wrong(n: usize, triples: usize, summary: usize, map: usize) -> bool {
+// N as for any call, a map of N numbers, equal slots and not too many, as many weights as slots.
+fn lengths_wrong(n: usize, triples: usize, summary: usize, weights: usize, map: usize) -> bool {
     if size_wrong(n) || map != n {
         return true;
     }
-    triples / 3 != summary / 3 || 1048576 < triples / 3
+    let slots = triples / 3;
+    if summary / 3 != slots || 1048576 < slots {
+        return true;
+    }
+    weights != slots
 }
 
-// Opening: both triple lists zero, the map absent.
+// Opening: both triple lists and the weights zero, the map absent.
 pub fn open(
     words: Words,
     roster: &[u8],
     triples: &mut [u32],
     summary: &mut [u32],
+    weights: &mut [u32],
     map: &mut [u32],
 ) -> u32 {
-    if lengths_wrong(roster.len(), triples.len(), summary.len(), map.len()) {
+    if lengths_wrong(
+        roster.len(),
+        triples.len(),
+        summary.len(),
+        weights.len(),
+        map.len(),
+    ) {
         return 1;
     }
     if words_wrong(words, roster.len()) {
@@ -43,6 +58,7 @@ pub fn open(
     }
     fill(triples, 0);
     fill(summary, 0);
+    fill(weights, 0);
     fill(map, ABSENT);
     0
 }
@@ -102,7 +118,42 @@ fn feed_refusal(words: Words, roster: &[u8], t: Triple) -> u32 {
     0
 }
 
-// A triple that is not in H: refused with 7 if every slot holds one, else it joins H, and the summary and the map are made anew.
+// How many of the first `held` triples have that line of the summary as their image. There are at most 1,048,576, so no sum wraps.
+fn weight(triples: &[u32], held: usize, map: &[u32], line: Triple) -> u32 {
+    let mut sum = 0;
+    let mut i = 0;
+    while i < held {
+        if same(image(map, triple_at(triples, i)), line) {
+            sum = std::num::wrapping_add_u32(sum, 1);
+        }
+        i += 1;
+    }
+    sum
+}
+
+// The weight of each line of the summary, and zero behind them.
+fn weigh(
+    triples: &[u32],
+    held: usize,
+    map: &[u32],
+    summary: &[u32],
+    summarised: usize,
+    weights: &mut [u32],
+) {
+    fill(weights, 0);
+    let mut k = 0;
+    while k < summarised {
+        set(
+            weights,
+            k,
+            weight(triples, held, map, triple_at(summary, k)),
+        );
+        k += 1;
+    }
+}
+
+// A triple that is not in H: refused with 7 if every slot holds one, else it joins H, and the summary, the map and the weights are
+// made anew.
 fn take_in(
     held: usize,
     summarised: usize,
@@ -110,6 +161,7 @@ fn take_in(
     roster: &[u8],
     triples: &mut [u32],
     summary: &mut [u32],
+    weights: &mut [u32],
     map: &mut [u32],
     work: &mut [u32],
     t: Triple,
@@ -130,12 +182,14 @@ fn take_in(
         map,
         work,
     );
+    let lines = answer.count;
+    weigh(triples, count, map, summary, lines, weights);
     Fed {
         refused: 0,
         new: true,
         place: before,
         held: count,
-        summarised: answer.count,
+        summarised: lines,
     }
 }
 
@@ -147,6 +201,7 @@ fn judge(
     roster: &[u8],
     triples: &mut [u32],
     summary: &mut [u32],
+    weights: &mut [u32],
     map: &mut [u32],
     work: &mut [u32],
     t: Triple,
@@ -166,6 +221,7 @@ fn judge(
         roster,
         triples,
         summary,
+        weights,
         map,
         work,
         t,
@@ -180,6 +236,7 @@ pub fn feed(
     roster: &[u8],
     triples: &mut [u32],
     summary: &mut [u32],
+    weights: &mut [u32],
     map: &mut [u32],
     work: &mut [u32],
     s: u32,
@@ -187,7 +244,7 @@ pub fn feed(
     o: u32,
 ) -> Fed {
     let n = roster.len();
-    if lengths_wrong(n, triples.len(), summary.len(), map.len()) {
+    if lengths_wrong(n, triples.len(), summary.len(), weights.len(), map.len()) {
         return refuse(1, held, summarised);
     }
     if work_wrong(n, work.len()) {
@@ -200,6 +257,7 @@ pub fn feed(
         roster,
         triples,
         summary,
+        weights,
         map,
         work,
         triple_of(s, p, o),

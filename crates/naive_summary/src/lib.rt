@@ -7,6 +7,7 @@ use naive_cliques::lower;
 use naive_cliques::side;
 use naive_lists::ABSENT;
 use naive_lists::Answer;
+use naive_lists::Triple;
 use naive_lists::Words;
 use naive_lists::accept;
 use naive_lists::add;
@@ -215,18 +216,18 @@ fn both_sides(words: Words, table: &[u32], roster: &[u8], work: &mut [u32]) {
     side(words, table, roster, false, &mut work[half..]);
 }
 
-// The triples with each subject and object replaced by its representative, each once.
+// A triple with subject and object replaced by their representatives.
+pub fn image(map: &[u32], t: Triple) -> Triple {
+    triple_of(entry(map, t.subject), t.property, entry(map, t.object))
+}
+
+// The images of the triples, each once.
 fn replaced(table: &[u32], map: &[u32], list: &mut [u32]) -> Answer {
     let count = table.len() / 3;
     let mut answer = accept(0);
     let mut i = 0;
     while i < count {
-        let t = triple_at(table, i);
-        answer = add(
-            list,
-            answer,
-            triple_of(entry(map, t.subject), t.property, entry(map, t.object)),
-        );
+        answer = add(list, answer, image(map, triple_at(table, i)));
         i += 1;
     }
     answer

@@ -29,7 +29,7 @@ use table_checks::table_refusal;
 use weak_map::weak_map;
 
 // A triple with its ends replaced by their entries of the map.
-fn image(map: &[u32], t: Triple) -> Triple
+pub fn image(map: &[u32], t: Triple) -> Triple
     requires { ⌜ Below (length (now map)) t ⌝ }
     ensures { λ r. ⌜ r ≡ moved (label (now (map .entry))) t ⌝ }
 {

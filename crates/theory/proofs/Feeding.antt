@@ -1,13 +1,13 @@
 -- The plain intake: what it holds after a list of feeds, in any order and with repeats; and that a run of feeds from an accepted
--- opening, each keeping its promise, gives the plain intake's answers and state.
+-- opening, each keeping its promise, gives the plain intake's answers and state, and weights that add up to the triples that were new.
 -- Assumes nothing.
-use Prim.Native.Nat.{ℕ, _≤_, _<_, _*_, _/_}
+use Prim.Native.Nat.{ℕ, _+_, _≤_, _<_, _*_, _/_}
 use mathlib.Core.Path.{_≡_, refl, sym, subst, _∙_, ap}
 use mathlib.Core.Logic.{_⊎_, inl, inr, ⊎-elim, _↔_}
-use mathlib.Core.Bool.{true, false, not, _||_}
+use mathlib.Core.Bool.{Bool, true, false, cond, not, _||_}
 use mathlib.Core.List.{List, [], _∷_, map, List·Memᴰ as Mem, List·Memᴰ·head as here, List·Memᴰ·tail as there, List·Memᴰ·not-nil as no-mem, List·Memᴰ·cases-cons as mem-cases}
 use native.Mathlib.Omega.{arith}
-use native.Mathlib.Nat.{sub-zero}
+use native.Mathlib.Nat.{sub-zero, zero-add}
 use lib.Dec.{eqb, leb, ltb}
 use lib.ListN.{length, getD, replicate, length-replicate, getD-replicate}
 use lib.Seq.{ext-getD}
@@ -15,15 +15,15 @@ use borrow.Author.Tests.{ltb-false, leb-true, leb-false, not-false, eqb-true, eq
 use Rattle.model.specs.declared.Triple.{Triple}
 use Rattle.model.specs.declared.Vocabulary.{Vocabulary}
 use Rattle.model.specs.Codes.{wrongWords, absent}
-use Rattle.model.specs.Lists.{any, all, zeros, padded}
+use Rattle.model.specs.Lists.{any, all, howMany, total, zeros, padded}
 use Rattle.model.specs.Triples.{flat, slots, holds, insert, sorted, listed}
 use Rattle.model.specs.Order.{Rising}
 use Rattle.model.specs.Roster.{coversTriple, covers, wrongRoster, wrongTriple, wrongCodes}
 use Rattle.model.specs.Cliques.{Node}
 use Rattle.model.specs.Classes.{mapOf}
-use Rattle.model.specs.Summary.{condensed, summary}
+use Rattle.model.specs.Summary.{condensed, summary, weightsBy, weights}
 use Rattle.model.specs.Outcomes.{Outcome, refused, accepted, Answer, Said, check, decided, Passes, wrongSize, wrongWork}
-use Rattle.model.specs.Intake.{State, Feed, judged, plainChecks, replyTo, afterSaying, joins, answers, heldAfter, stateOf, wrongLists, openOutcome, opened, intakeChecks, Kept, Valid, Run, none, then-fed}
+use Rattle.model.specs.Intake.{State, Feed, isNew, judged, plainChecks, replyTo, afterSaying, joins, answers, heldAfter, stateOf, wrongLists, openOutcome, opened, intakeChecks, Kept, Valid, Run, none, then-fed}
 use Rattle.theory.proofs.Tests.{or-false, cond-cases}
 use Rattle.theory.proofs.Lists.{any-none, none-any, all-at, at-all, mem-map}
 use Rattle.theory.proofs.Order.{holds-mem, insert-self, insert-keeps, insert-mem, insert-rising, insert-same, insert-new, rising-length, rising-unique, sorted-rising, sorted-mem, mem-sorted}
@@ -32,8 +32,9 @@ use Rattle.theory.specs.Theorems.{PlaceRight}
 use Rattle.theory.proofs.Places.{place-right}
 use Rattle.theory.proofs.Mapped.{length-map-of, map-absent}
 use Rattle.theory.proofs.Summaries.{condensed-length, Same, same-map-of, same-summary-of}
+use Rattle.theory.proofs.Weights.{total-padded, weights-length, weights-total}
 use Rattle.theory.proofs.Checks.{passes-first, first-passes, no-checks, decided-passes, decided-cases, passed, not-accepted, same-value}
-use Rattle.theory.proofs.Flat.{length-listed}
+use Rattle.theory.proofs.Flat.{length-padded, padded-past, length-listed}
 use Rattle.theory.proofs.Accepted.{below, room, size-bounds}
 
 module _ (v : Vocabulary) (roster : List ℕ) where
@@ -48,26 +49,27 @@ module _ (v : Vocabulary) (roster : List ℕ) where
   abbrev next : ℕ → List Triple → Feed → List Triple
   next space H f = joins (replyTo v roster space H f) (f .triple) H
 
-  -- what a feed does to what is held
-  data Step (space : ℕ) (H : List Triple) (t : Triple) (K : List Triple) : Type 0 where
-    stayed : K ≡ H → Step space H t K
-    added : wrongTriple v (length roster) t ≡ false → coversTriple v roster t ≡ true → holds t H ≡ false → length H < space → K ≡ insert t H → Step space H t K
+  -- what a feed does to what is held, and whether it was new
+  data Step (space : ℕ) (H : List Triple) (t : Triple) (o : Outcome (Answer Said)) (K : List Triple) : Type 0 where
+    stayed : K ≡ H → isNew o ≡ false → Step space H t o K
+    added : wrongTriple v (length roster) t ≡ false → coversTriple v roster t ≡ true → holds t H ≡ false → length H < space → K ≡ insert t H → isNew o ≡ true
+        → Step space H t o K
 
   abbrev StepOf : ℕ → List Triple → Triple → Outcome (Answer Said) → Type 0
-  StepOf space H t o = Step space H t (joins o t H)
+  StepOf space H t o = Step space H t o (joins o t H)
 
   refused-step : (space : ℕ) (H : List Triple) (t : Triple) (r : ℕ) → StepOf space H t (refused r)
-  unfolding joins
-  refused-step space H t r = stayed refl
+  unfolding joins isNew
+  refused-step space H t r = stayed refl refl
 
   judged-step : (space : ℕ) (H : List Triple) (t : Triple) → wrongTriple v (length roster) t ≡ false → coversTriple v roster t ≡ true
       → StepOf space H t (judged space H t)
-  unfolding judged joins afterSaying
+  unfolding judged joins afterSaying isNew
   judged-step space H t a b =
-      cond-cases (StepOf space H t) (holds t H) (λ e. stayed refl)
-      (λ e. cond-cases (StepOf space H t) (leb space (length H)) (λ l. stayed refl) (λ l. added a b e (leb-false space (length H) l) refl))
+      cond-cases (StepOf space H t) (holds t H) (λ e. stayed refl refl)
+      (λ e. cond-cases (StepOf space H t) (leb space (length H)) (λ l. stayed refl refl) (λ l. added a b e (leb-false space (length H) l) refl refl))
 
-  step-of : (space : ℕ) (H : List Triple) (f : Feed) → Step space H (f .triple) (next space H f)
+  step-of : (space : ℕ) (H : List Triple) (f : Feed) → StepOf space H (f .triple) (replyTo v roster space H f)
   unfolding replyTo
   step-of space H f =
       ⊎-elim
@@ -108,9 +110,9 @@ module _ (v : Vocabulary) (roster : List ℕ) where
       t : Triple
       t = f .triple
 
-      go : Step space H t (next space H f) → Holds space (next space H f)
-      go (stayed e) = subst (Holds space) (sym e) h
-      go (added right cover fresh free e) =
+      go : StepOf space H t (replyTo v roster space H f) → Holds space (next space H f)
+      go (stayed e n) = subst (Holds space) (sym e) h
+      go (added right cover fresh free e n) =
           subst (Holds space) (sym e)
           (record {
             rising = insert-rising t H (h .rising);
@@ -125,6 +127,19 @@ module _ (v : Vocabulary) (roster : List ℕ) where
   unfolding heldAfter
   held-holds space [] H h = h
   held-holds space (f ∷ fs) H h = held-holds space fs (next space H f) (next-holds space H f h)
+
+  -- ── how many are held ──
+  next-count : (space : ℕ) (H : List Triple) (f : Feed) → length (next space H f) ≡ length H + cond (isNew (replyTo v roster space H f)) 1 0
+  next-count space H f = go (step-of space H f)
+    where
+      go : StepOf space H (f .triple) (replyTo v roster space H f) → length (next space H f) ≡ length H + cond (isNew (replyTo v roster space H f)) 1 0
+      go (stayed e n) = omega (arith, ap {B = ℕ} (λ (l : List Triple). length l) e, ap {B = ℕ} (λ (b : Bool). cond b 1 0) n)
+      go (added right cover fresh free e n) = omega (arith, ap {B = ℕ} (λ (l : List Triple). length l) e, insert-new (f .triple) H fresh, ap {B = ℕ} (λ (b : Bool). cond b 1 0) n)
+
+  held-count : (space : ℕ) (fs : List Feed) (H : List Triple) → length (heldAfter v roster space fs H) ≡ length H + howMany isNew (answers v roster space fs H)
+  unfolding heldAfter answers howMany
+  held-count space [] H = omega arith
+  held-count space (f ∷ fs) H = omega (arith, next-count space H f, held-count space fs (next space H f))
 
   -- ── feeding a table in any order, with repeats ──
   -- a feed that no check refuses
@@ -181,9 +196,10 @@ module _ (v : Vocabulary) (roster : List ℕ) where
   third : (l k : ℕ) → k ≤ l / 3 → 3 * k ≤ l
   third l k h = omega arith
 
-  -- slots of both lists are as many
+  -- both triple lists have the same slots, and there are as many weights
   pub record Sized (s : State) : Type 0 where
     pub equal : slots (s .triples) ≡ slots (s .summary)
+    pub weights-size : length (s .weights) ≡ slots (s .triples)
     pub map-size : length (s .map) ≡ length roster
 
   pub state-sizes : (s : State) (H : List Triple) → Sized s → length H ≤ space-of s → Kept s (stateOf v roster s H)
@@ -192,6 +208,7 @@ module _ (v : Vocabulary) (roster : List ℕ) where
       record {
         in-triples = length-listed (length (s .triples)) H (third (length (s .triples)) (length H) h);
         in-summary = length-listed (length (s .summary)) (summary v roster H) (third (length (s .summary)) _ (omega (arith, condensed-length (mapOf v roster H) H, z .equal)));
+        in-weights = length-padded (length (s .weights)) (weights v roster H) (omega (arith, weights-length (mapOf v roster H) H, condensed-length (mapOf v roster H) H, z .weights-size));
         in-map = length-map-of v roster H ∙ sym (z .map-size);
       }
 
@@ -202,6 +219,7 @@ module _ (v : Vocabulary) (roster : List ℕ) where
       record {
         triples = listed (e .in-triples i) H;
         summary = listed (e .in-summary i) (summary v roster H);
+        weights = padded (e .in-weights i) (weights v roster H);
         map = mapOf v roster H;
         held = length H;
         summarised = length (summary v roster H);
@@ -213,7 +231,7 @@ module _ (v : Vocabulary) (roster : List ℕ) where
   lists-same s z e = λ i.
       wrongSize (length roster)
       || (not (eqb (e .in-map i) (length roster))
-      || (not (eqb (e .in-triples i / 3) (e .in-summary i / 3)) || ltb 1048576 (e .in-triples i / 3)))
+      || (not (eqb (e .in-triples i / 3) (e .in-summary i / 3)) || (ltb 1048576 (e .in-triples i / 3) || not (eqb (e .in-weights i) (e .in-triples i / 3)))))
 
   -- ── a run of feeds ──
   -- a state that holds H, in lists of right sizes
@@ -234,6 +252,7 @@ module _ (v : Vocabulary) (roster : List ℕ) where
         lists = lists-same s z e ∙ l;
         sized = record {
           equal = ap (λ (x : ℕ). x / 3) (e .in-triples) ∙ d .equal ∙ ap (λ (x : ℕ). x / 3) (sym (e .in-summary));
+          weights-size = e .in-weights ∙ d .weights-size ∙ ap (λ (x : ℕ). x / 3) (sym (e .in-triples));
           map-size = e .in-map ∙ d .map-size;
         };
         holds-it = subst (λ (x : ℕ). Holds (x / 3) K) (sym (e .in-triples)) h;
@@ -285,9 +304,17 @@ module _ (v : Vocabulary) (roster : List ℕ) where
   unfolding condensed sorted
   empty-summary = refl
 
+  empty-weights : weights v roster [] ≡ []
+  unfolding weightsBy condensed sorted
+  empty-weights = refl
+
+  empty-padded : (n : ℕ) → padded n [] ≡ zeros n
+  unfolding padded zeros
+  empty-padded n = ap (λ (k : ℕ). replicate k 0) (sub-zero n)
+
   empty-list : (n : ℕ) → listed n [] ≡ zeros n
-  unfolding listed padded flat zeros
-  empty-list n = ap (λ (k : ℕ). replicate k 0) (sub-zero n)
+  unfolding listed flat
+  empty-list n = empty-padded n
 
   pub opened-state : (s : State) → Sized s → length roster ≤ absent → opened v roster s ≡ stateOf v roster s []
   unfolding opened stateOf
@@ -295,9 +322,11 @@ module _ (v : Vocabulary) (roster : List ℕ) where
       let a = sym (empty-list (length (s .triples))) in
       let b : zeros (length (s .summary)) ≡ listed (length (s .summary)) (summary v roster []) =
       sym (ap (listed (length (s .summary))) empty-summary ∙ empty-list (length (s .summary))) in
+      let w : zeros (length (s .weights)) ≡ padded (length (s .weights)) (weights v roster []) =
+      sym (ap (padded (length (s .weights))) empty-weights ∙ empty-padded (length (s .weights))) in
       let m : replicate (length (s .map)) absent ≡ mapOf v roster [] = ap (λ (n : ℕ). replicate n absent) (z .map-size) ∙ sym (empty-map l) in
       let n : 0 ≡ length (summary v roster []) = ap {B = ℕ} (λ (ts : List Triple). length ts) (sym empty-summary) in
-      λ i. record { triples = a i; summary = b i; map = m i; held = 0; summarised = n i }
+      λ i. record { triples = a i; summary = b i; weights = w i; map = m i; held = 0; summarised = n i }
 
   pub empty-holds : (space : ℕ) → Holds space []
   unfolding wrongCodes covers any all
@@ -323,7 +352,7 @@ module _ (v : Vocabulary) (roster : List ℕ) where
       let a = or-false (wrongSize (length roster)) _ (o .lists) in
       let b = or-false (not (eqb (length (s .map)) (length roster))) _ (a .1) in
       let d = or-false (not (eqb (slots (s .triples)) (slots (s .summary)))) _ (b .1) in
-      (a .0, ltb-false 1048576 (slots (s .triples)) (d .1))
+      (a .0, ltb-false 1048576 (slots (s .triples)) ((or-false _ _ (d .1)) .0))
 
   opening-sized : (s : State) → Opening s → Sized s × (length roster ≤ absent)
   unfolding wrongLists
@@ -332,7 +361,8 @@ module _ (v : Vocabulary) (roster : List ℕ) where
       let b = or-false (not (eqb (length (s .map)) (length roster))) _ (a .1) in
       let d = or-false (not (eqb (slots (s .triples)) (slots (s .summary)))) _ (b .1) in
       let u = size-bounds (length roster) (a .0) in
-      (record { equal = eqb-true _ _ (not-false _ (d .0)); map-size = eqb-true _ _ (not-false _ (b .0)) }, omega arith)
+      let w = or-false (ltb 1048576 (slots (s .triples))) _ (d .1) in
+      (record { equal = eqb-true _ _ (not-false _ (d .0)); weights-size = eqb-true _ _ (not-false _ (w .1)); map-size = eqb-true _ _ (not-false _ (b .0)) }, omega arith)
 
   -- the whole list of feeds after an accepted opening
   pub whole-list : (s end : State) (fs : List Feed) (os : List (Outcome (Answer Said))) → openOutcome v roster s ≡ accepted tt → Run v roster (opened v roster s) fs os end
@@ -348,6 +378,25 @@ module _ (v : Vocabulary) (roster : List ℕ) where
         w .0 ∙ (λ i. answers v roster (k .in-triples i / 3) fs []),
         w .1 ∙ same-state s (stateOf v roster s []) _ k ∙ (λ i. stateOf v roster s (heldAfter v roster (k .in-triples i / 3) fs [])),
       )
+
+  -- 02: "zero past the last summary triple"
+  pub weights-past : (s : State) (H : List Triple) (k : ℕ) → stateOf v roster s H .summarised ≤ k → getD (stateOf v roster s H .weights) k 0 ≡ 0
+  unfolding stateOf
+  weights-past s H k h = padded-past (length (s .weights)) (weights v roster H) k (omega (arith, weights-length (mapOf v roster H) H))
+
+  -- 02: "The counts add up to the number of fed triples that were new since opening."
+  pub weighed : (s end : State) (fs : List Feed) (os : List (Outcome (Answer Said))) → openOutcome v roster s ≡ accepted tt → Run v roster (opened v roster s) fs os end
+      → total (end .weights) ≡ howMany isNew os
+  unfolding stateOf
+  weighed s end fs os h run =
+      let w = whole-list s end fs os h run in
+      let H = heldAfter v roster (slots (s .triples)) fs [] in
+      ap {B = ℕ} (λ (x : State). total (x .weights)) (w .1)
+      ∙ total-padded (length (s .weights)) (weights v roster H)
+      ∙ weights-total (mapOf v roster H) H
+      ∙ held-count (slots (s .triples)) fs []
+      ∙ zero-add (howMany isNew (answers v roster (slots (s .triples)) fs []))
+      ∙ ap {B = ℕ} (λ (xs : List (Outcome (Answer Said))). howMany isNew xs) (sym (w .0))
 
   -- feeding a table's triples, in any order and with repeats, into slots enough
   pub any-order : (ts : List Triple) (R : Right v roster ts) (space : ℕ) (fs : List Feed) → length (sorted ts) ≤ space

@@ -17,6 +17,7 @@ pub mod Strong
 pub mod Partition
 pub mod Mapped
 pub mod Summaries
+pub mod Weights
 pub mod OwnRoster
 pub mod Accepted
 pub mod Grouping

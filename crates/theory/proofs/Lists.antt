@@ -69,6 +69,12 @@ module _ {A : Type 0} where
   many-all f [] h = refl
   many-all f (x ∷ xs) h = rw (h x (here refl)) (omega (arith, many-all f xs (λ y m. h y (there m))))
 
+  pub many-some : (f : A → Bool) (us : List A) (u : A) → Mem u us → f u ≡ true → 1 ≤ howMany f us
+  unfolding howMany
+  many-some f [] u m e = absurd (no-mem m)
+  many-some f (x ∷ us) u m e =
+      ⊎-elim (λ (q : u ≡ x). let h : f x ≡ true = ap f (sym q) ∙ e in rw h (omega arith)) (λ k. omega (arith, many-some f us u k e)) (mem-cases m)
+
   -- ── one or none ──
   pub when-mem : {b : Bool} {x y : A} → Mem y (when b x) → (b ≡ true) × (y ≡ x)
   when-mem {b} {x} {y} =

@@ -5,23 +5,25 @@ use mathlib.Core.Path.{_≡_, refl, sym, subst, _∙_, ap}
 use mathlib.Core.Logic.{_↔_, inl, inr, ⊎-elim}
 use mathlib.Core.List.{List, [], map}
 use native.Mathlib.Omega.{arith}
-use lib.ListN.{length}
+use lib.ListN.{length, getD}
 use Rattle.model.specs.declared.Triple.{Triple}
 use Rattle.model.specs.declared.Vocabulary.{Vocabulary}
 use Rattle.model.specs.Codes.{kind, codeOf, mostTriples}
+use Rattle.model.specs.Lists.{padded}
 use Rattle.model.specs.Triples.{triple, triples, slots, listed}
 use Rattle.model.specs.Rules.{Derives, given}
 use Rattle.model.specs.Intake.{State, heldAfter, stateOf}
 use Rattle.model.specs.Saturation.{saturation}
 use Rattle.model.specs.Cliques.{Clique, linked}
-use Rattle.model.specs.Summary.{summary}
+use Rattle.model.specs.Classes.{mapOf}
+use Rattle.model.specs.Summary.{summary, weight, weights}
 use Rattle.model.specs.Calls.{Accepted, tableChecks}
 use Rattle.model.specs.Outcomes.{wrongLength, wrongSize}
 use Rattle.theory.specs.Theorems.{PlacesRight, TriplesOf, InSaturation, Source, SaturationExact, ConstraintsFollow, CliquesExact, RepresentativesExact}
 use Rattle.theory.specs.Theorems.{SummaryExact, StrongRepresentativesExact, StrongSummaryExact, OwnRosterLeast, ShortcutBy, RoutesBy, AgainBy}
 use Rattle.theory.specs.Theorems.{AtRestBy, ShortcutHolds, RoutesAccepted, StrongShortcutHolds, StrongRoutesAccepted, WeakOfStrongHolds}
 use Rattle.theory.specs.Theorems.{Saturated, AtRestHolds, StrongAtRestHolds, AgainTheSame, StrongAgainTheSame, SaturationSaturated, AnyOrder}
-use Rattle.theory.specs.Theorems.{WholeList, FedInAnyOrder, FedStands}
+use Rattle.theory.specs.Theorems.{WholeList, FedInAnyOrder, FedStands, WeightsExact}
 use Rattle.theory.proofs.Tests.{or-false}
 use Rattle.theory.proofs.Checks.{passes-first}
 use Rattle.theory.proofs.Flat.{triples-flat}
@@ -39,6 +41,7 @@ use Rattle.theory.proofs.Grouping as grouping
 use Rattle.theory.proofs.Grouping.{Grouping, weakly, strongly}
 use Rattle.theory.proofs.Constraints.{origin-of, schema-kept}
 use Rattle.theory.proofs.Places.{place-right}
+use Rattle.theory.proofs.Weights.{weights-length, weights-at, weights-some, weights-total}
 use Rattle.theory.proofs.Feeding as feeding
 
 pub places-right : PlacesRight
@@ -269,7 +272,25 @@ module _ (v : Vocabulary) where
       let k = feeding.held-holds v roster (slots (s .triples)) fs [] (feeding.empty-holds v roster (slots (s .triples))) in
       let R : Right v roster (heldAfter v roster (slots (s .triples)) fs []) =
       record { size = z .0; words = o .words; marks = o .marks; codes = k .codes; cover = k .covered } in
-      record { answered = w .0; state = w .1; rising = k .rising; accepted-table = accept.right-accepted v roster _ R (omega (arith, k .fits, z .1)) }
+      record {
+        answered = w .0;
+        state = w .1;
+        rising = k .rising;
+        accepted-table = accept.right-accepted v roster _ R (omega (arith, k .fits, z .1));
+        past = subst (λ (x : State). (k : ℕ) → x .summarised ≤ k → getD (x .weights) k 0 ≡ 0) (sym (w .1)) (feeding.weights-past v roster s _);
+        weighed = feeding.weighed v roster s end fs os h run;
+      }
+
+  pub weights-exact : WeightsExact v
+  unfolding weight
+  weights-exact roster H =
+      let m = mapOf v roster H in
+      record {
+        beside = weights-length m H;
+        counts = λ k d h. weights-at m H k d h;
+        some = λ k h. weights-some m H k (triple 0 0 0) h;
+        sum = weights-total m H;
+      }
 
   pub fed-in-any-order : FedInAnyOrder v
   unfolding stateOf
@@ -280,6 +301,7 @@ module _ (v : Vocabulary) where
       record {
         triples = ap (λ (x : State). x .triples) e ∙ ap (listed (length (s .triples))) (c .held);
         summary = ap (λ (x : State). x .summary) e ∙ ap (listed (length (s .summary))) (c .summarised);
+        weights = ap (λ (x : State). x .weights) e ∙ ap (λ (ts : List Triple). padded (length (s .weights)) (weights v roster ts)) (c .held);
         map = ap (λ (x : State). x .map) e ∙ c .mapped;
         held = ap (λ (x : State). x .held) e ∙ ap {B = ℕ} (λ (ts : List Triple). length ts) (c .held);
         summarised = ap (λ (x : State). x .summarised) e ∙ ap {B = ℕ} (λ (ts : List Triple). length ts) (c .summarised);

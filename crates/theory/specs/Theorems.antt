@@ -9,7 +9,8 @@ use lib.ListN.{length, getD}
 use Rattle.model.specs.declared.Triple.{Triple}
 use Rattle.model.specs.declared.Vocabulary.{Vocabulary}
 use Rattle.model.specs.Codes.{absent, kind, reserved, mostTriples}
-use Rattle.model.specs.Triples.{triple, triples, flat, slots, before, holds, place, insert, sorted, listed}
+use Rattle.model.specs.Lists.{howMany, total, padded}
+use Rattle.model.specs.Triples.{triple, triples, flat, slots, before, same, holds, place, insert, sorted, listed}
 use Rattle.model.specs.Order.{Rising}
 use Rattle.model.specs.Roster.{mark, isClass, isProperty, covers, ownRoster, wrongRoster, wrongCodes}
 use Rattle.model.specs.Rules.{Derives}
@@ -17,10 +18,10 @@ use Rattle.model.specs.Saturation.{saturation}
 use Rattle.model.specs.Partition.{label}
 use Rattle.model.specs.Cliques.{Graph, Side, Node, Has, Clique, cliques}
 use Rattle.model.specs.Classes.{DataNode, Weakly, Strongly, RepresentsBy, mapOf, strongMapOf}
-use Rattle.model.specs.Summary.{Image, condensed, summary, strongSummary}
+use Rattle.model.specs.Summary.{moved, Image, condensed, summary, weights, strongSummary}
 use Rattle.model.specs.Outcomes.{Outcome, accepted, Answer, Said}
 use Rattle.model.specs.Calls.{Accepted}
-use Rattle.model.specs.Intake.{State, Feed, replyTo, joins, answers, heldAfter, stateOf, openOutcome, opened, Run}
+use Rattle.model.specs.Intake.{State, Feed, isNew, replyTo, joins, answers, heldAfter, stateOf, openOutcome, opened, Run}
 
 -- the triples of a table, as a set
 abbrev pub TriplesOf : List ℕ → Graph
@@ -210,6 +211,18 @@ module _ (v : Vocabulary) where
       (roster : List ℕ) (space : ℕ) (H : List Triple) (f : Feed) (x : Answer Said) (d : Triple) → Rising H → replyTo v roster space H f ≡ accepted x
       → getD (joins (accepted x) (f .triple) H) (x .place) d ≡ f .triple
 
+  -- 02: "The intake keeps, beside each summary triple, the count of held triples whose image it is". The weights by their places, whatever is
+  -- held; each line stands for at least one triple, and together they stand for what is held.
+  pub record WeightsRight (roster : List ℕ) (H : List Triple) : Type 0 where
+    pub beside : length (weights v roster H) ≡ length (summary v roster H)
+    pub counts : (k : ℕ) (d : Triple) → k < length (summary v roster H)
+        → getD (weights v roster H) k 0 ≡ howMany (λ t. same (getD (summary v roster H) k d) (moved (label (mapOf v roster H)) t)) H
+    pub some : (k : ℕ) → k < length (summary v roster H) → 1 ≤ getD (weights v roster H) k 0
+    pub sum : total (weights v roster H) ≡ length H
+
+  abbrev pub WeightsExact : Type 0
+  WeightsExact = (roster : List ℕ) (H : List Triple) → WeightsRight roster H
+
   -- the demand: every list of feeds, refusals and repeats included, gives the plain intake's answers and state, as one claim about the whole list
   pub record Plain (roster : List ℕ) (s : State) (fs : List Feed) (os : List (Outcome (Answer Said))) (end : State) : Type 0 where
     pub answered : os ≡ answers v roster (slots (s .triples)) fs []
@@ -217,6 +230,9 @@ module _ (v : Vocabulary) where
     -- what is held is a table in rising order, accepted with the roster: demand 2 says what its summary and its map are
     pub rising : Rising (heldAfter v roster (slots (s .triples)) fs [])
     pub accepted-table : Accepted v (flat (heldAfter v roster (slots (s .triples)) fs [])) roster
+    -- 02: "zero past the last summary triple. The counts add up to the number of fed triples that were new since opening."
+    pub past : (k : ℕ) → end .summarised ≤ k → getD (end .weights) k 0 ≡ 0
+    pub weighed : total (end .weights) ≡ howMany isNew os
 
   abbrev pub WholeList : Type 0
   WholeList =
@@ -227,6 +243,7 @@ module _ (v : Vocabulary) where
   pub record Filled (table roster : List ℕ) (s end : State) : Type 0 where
     pub triples : end .triples ≡ listed (length (s .triples)) (sorted (Rattle.model.specs.Triples.triples table))
     pub summary : end .summary ≡ listed (length (s .summary)) (summaryOf table roster)
+    pub weights : end .weights ≡ padded (length (s .weights)) (Rattle.model.specs.Summary.weights v roster (sorted (Rattle.model.specs.Triples.triples table)))
     pub map : end .map ≡ mapOf v roster (Rattle.model.specs.Triples.triples table)
     pub held : end .held ≡ length (sorted (Rattle.model.specs.Triples.triples table))
     pub summarised : end .summarised ≡ length (summaryOf table roster)

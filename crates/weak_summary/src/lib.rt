@@ -168,20 +168,30 @@ pub extern "C" fn ws_open(
     roster: &[u8],
     triples: &mut [u32],
     summary: &mut [u32],
+    weights: &mut [u32],
     map: &mut [u32],
     held: &mut usize,
     summarised: &mut usize,
 ) -> u32
     ensures { λ s. ⌜ OpenByWords (now (words .entry)) (now (roster .entry))
-        (atEntry triples summary map (now (held .entry)) (now (summarised .entry)))
+        (atEntry triples summary weights map (now (held .entry)) (now (summarised .entry)))
         s
-        (atExit triples summary map (now (held .exit)) (now (summarised .exit))) ⌝ }
+        (atExit triples summary weights map (now (held .exit)) (now (summarised .exit))) ⌝ }
 {
     if words.len() != WORDS_NUMBERS {
         return refusal_number(Refusal::Length);
     }
     let loaded = words_of(words);
-    let opened = open_counts(*held, *summarised, loaded, roster, triples, summary, map);
+    let opened = open_counts(
+        *held,
+        *summarised,
+        loaded,
+        roster,
+        triples,
+        summary,
+        weights,
+        map,
+    );
     let answer = opened.answer;
     *held = opened.counts.held;
     *summarised = opened.counts.summarised;
@@ -194,6 +204,7 @@ pub extern "C" fn ws_feed(
     roster: &[u8],
     triples: &mut [u32],
     summary: &mut [u32],
+    weights: &mut [u32],
     map: &mut [u32],
     work: &mut [u32],
     s: u32,
@@ -205,9 +216,9 @@ pub extern "C" fn ws_feed(
     place: &mut usize,
 ) -> u32
     ensures { λ r. ⌜ FeedByWords (now (words .entry)) (now (roster .entry))
-        (atEntry triples summary map (now (held .entry)) (now (summarised .entry))) (now (work .entry)) (now (new .entry))
+        (atEntry triples summary weights map (now (held .entry)) (now (summarised .entry))) (now (work .entry)) (now (new .entry))
         (triple s p o) r
-        (atExit triples summary map (now (held .exit)) (now (summarised .exit))) (now (work .exit)) (now (new .exit)) (now (place .exit)) ⌝ }
+        (atExit triples summary weights map (now (held .exit)) (now (summarised .exit))) (now (work .exit)) (now (new .exit)) (now (place .exit)) ⌝ }
 {
     if words.len() != WORDS_NUMBERS {
         return refused_status(Refusal::Length, place);
@@ -220,6 +231,7 @@ pub extern "C" fn ws_feed(
         roster,
         triples,
         summary,
+        weights,
         map,
         work,
         s,

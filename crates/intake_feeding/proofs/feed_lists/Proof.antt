@@ -12,20 +12,20 @@ feed-refusal-requires c κs = search needs
 enum-known-r : tie.Need-enum-known-r
 enum-known-r c = search needs
 
-refuse-requires : tie.Need-refuse-requires
-refuse-requires c κs = search needs
+with-counts-requires : tie.Need-with-counts-requires
+with-counts-requires c κs = search needs
 
 enum-told : tie.Need-enum-told
 enum-told c = search needs
 
 take-in-requires : tie.Need-take-in-requires
 take-in-requires c κs =
-    let back4 = c .before .before .before .before in
-    let back6 = back4 .before .before in
-    let start = back6 .before .before .before .before .before .before .before .before .before .before in
+    let back5 = c .before .before .before .before .before in
+    let back7 = back5 .before .before in
+    let start = back7 .before .before .before .before .before .before .before .before .before .before .before .before in
     let a = start .args in
-    ready _ (a .roster .now) (a .triples .now) (a .summary .now) (a .map .now) (a .work .now) (a .held) (a .summarised) (triple (a .s) (a .p) (a .o))
-    _ (back6 .feed-refusal .ensures) (back4 .enum-told .given .1)
+    ready _ (a .roster .now) (a .triples .now) (a .summary .now) (a .weights .now) (a .map .now) (a .work .now) (a .held) (a .summarised)
+    (triple (a .s) (a .p) (a .o)) _ (back7 .feed-refusal .ensures) (back5 .enum-told .given .1)
 
 same-length : tie.Need-same-length
 same-length c = search needs
@@ -39,16 +39,16 @@ same-length-3 c = search needs
 same-length-4 : tie.Need-same-length-4
 same-length-4 c = search needs
 
+same-length-5 : tie.Need-same-length-5
+same-length-5 c = search needs
+
 returns : tie.Need-returns
 returns c =
     let back4 = c .before .before .before .before in
-    let start = back4 .before .before .before .before .before .before .before .before .before .before in
+    let start = back4 .before .before .before .before .before .before .before .before .before .before .before .before in
     let a = start .args in
-    by-refusal _ (a .roster .now) (a .triples .now) (a .summary .now) (a .map .now) (a .work .now) (a .held) (a .summarised)
-    (triple (a .s) (a .p) (a .o)) _ (back4 .feed-refusal .ensures) _ (c .before .before .r .given .1) _ (c .refuse .ensures)
-
-same-length-5 : tie.Need-same-length-5
-same-length-5 c = search needs
+    by-refusal _ (a .roster .now) (a .triples .now) (a .summary .now) (a .weights .now) (a .map .now) (a .work .now) (a .held) (a .summarised)
+    (triple (a .s) (a .p) (a .o)) _ (back4 .feed-refusal .ensures) _ (c .before .before .r .given .1) _ (c .with-counts .ensures)
 
 same-length-6 : tie.Need-same-length-6
 same-length-6 c = search needs
@@ -59,15 +59,21 @@ same-length-7 c = search needs
 same-length-8 : tie.Need-same-length-8
 same-length-8 c = search needs
 
+same-length-9 : tie.Need-same-length-9
+same-length-9 c = search needs
+
+same-length-10 : tie.Need-same-length-10
+same-length-10 c = search needs
+
 returns-2 : tie.Need-returns-2
 returns-2 c =
-    let back8 = c .before .before .before .before .before .before .before .before in
-    let back13 = back8 .before .before .before .before .before in
-    let back15 = back13 .before .before in
-    let start = back15 .before .before .before .before .before .before .before .before .before .before in
+    let back10 = c .before .before .before .before .before .before .before .before .before .before in
+    let back16 = back10 .before .before .before .before .before .before in
+    let back18 = back16 .before .before in
+    let start = back18 .before .before .before .before .before .before .before .before .before .before .before .before in
     let a = start .args in
-    by-taking _ (a .roster .now) (a .triples .now) (a .summary .now) (a .map .now) (a .work .now) (a .held) (a .summarised)
-    (triple (a .s) (a .p) (a .o)) _ (back15 .feed-refusal .ensures) (back13 .enum-told .given .1) _ _ _ (back8 .take-in .ensures)
+    by-taking _ (a .roster .now) (a .triples .now) (a .summary .now) (a .weights .now) (a .map .now) (a .work .now) (a .held) (a .summarised)
+    (triple (a .s) (a .p) (a .o)) _ (back18 .feed-refusal .ensures) (back16 .enum-told .given .1) _ _ _ (back10 .take-in .ensures)
 
 pub feed-lists-spec : {M : Type 1} → statement M
 feed-lists-spec =
@@ -75,16 +81,18 @@ feed-lists-spec =
     (tie.spec
     feed-refusal-requires
     enum-known-r
-    refuse-requires
+    with-counts-requires
     enum-told
     take-in-requires
     same-length
     same-length-2
     same-length-3
     same-length-4
-    returns
     same-length-5
+    returns
     same-length-6
     same-length-7
     same-length-8
+    same-length-9
+    same-length-10
     returns-2)

@@ -13,9 +13,9 @@ lengths-wrong-requires c κs = search needs
 
 returns : tie.Need-returns
 returns c =
-    let start = c .before .before .before .before .before .before .before in
+    let start = c .before .before .before .before .before .before .before .before in
     let a = start .args in
-    by-lengths _ (a .roster .now) (a .triples .now) (a .summary .now) (a .map .now) (a .work .now) (a .t)
+    by-lengths _ (a .roster .now) (a .triples .now) (a .summary .now) (a .weights .now) (a .map .now) (a .work .now) (a .t)
     (sym (c .before .lengths-wrong .ensures) ∙ c .if1 .taken)
 
 work-wrong-requires : tie.Need-work-wrong-requires
@@ -23,9 +23,9 @@ work-wrong-requires c κs = search needs
 
 returns-2 : tie.Need-returns-2
 returns-2 c =
-    let start = c .before .before .before .before .before .before .before .before .before in
+    let start = c .before .before .before .before .before .before .before .before .before .before in
     let a = start .args in
-    by-work _ (a .roster .now) (a .triples .now) (a .summary .now) (a .map .now) (a .work .now) (a .t)
+    by-work _ (a .roster .now) (a .triples .now) (a .summary .now) (a .weights .now) (a .map .now) (a .work .now) (a .t)
     (sym (c .before .work-wrong .ensures) ∙ c .if2 .taken)
 
 words-wrong-requires : tie.Need-words-wrong-requires
@@ -36,9 +36,9 @@ returns-3 c =
     let back3 = c .before .before .before in
     let back4 = back3 .before in
     let back5 = back4 .before in
-    let start = back5 .before .before .before .before .before .before in
+    let start = back5 .before .before .before .before .before .before .before in
     let a = start .args in
-    by-words _ (a .roster .now) (a .triples .now) (a .summary .now) (a .map .now) (a .work .now) (a .t)
+    by-words _ (a .roster .now) (a .triples .now) (a .summary .now) (a .weights .now) (a .map .now) (a .work .now) (a .t)
     (sym (back5 .lengths-wrong .ensures) ∙ back4 .if1 .left) (sym (back3 .work-wrong .ensures) ∙ c .before .before .if2 .left)
     (sym (c .before .words-wrong .ensures) ∙ c .if3 .taken)
 
@@ -52,9 +52,9 @@ returns-4 c =
     let back5 = back4 .before in
     let back6 = back5 .before in
     let back7 = back6 .before in
-    let start = back7 .before .before .before .before .before .before in
+    let start = back7 .before .before .before .before .before .before .before in
     let a = start .args in
-    by-roster _ (a .roster .now) (a .triples .now) (a .summary .now) (a .map .now) (a .work .now) (a .t)
+    by-roster _ (a .roster .now) (a .triples .now) (a .summary .now) (a .weights .now) (a .map .now) (a .work .now) (a .t)
     (sym (back7 .lengths-wrong .ensures) ∙ back6 .if1 .left) (sym (back5 .work-wrong .ensures) ∙ back4 .if2 .left)
     (sym (back3 .words-wrong .ensures) ∙ c .before .before .if3 .left) (sym (c .before .roster-wrong .ensures) ∙ c .if4 .taken)
 
@@ -70,9 +70,9 @@ returns-5 c =
     let back7 = back6 .before in
     let back8 = back7 .before in
     let back9 = back8 .before in
-    let start = back9 .before .before .before .before .before .before in
+    let start = back9 .before .before .before .before .before .before .before in
     let a = start .args in
-    by-codes _ (a .roster .now) (a .triples .now) (a .summary .now) (a .map .now) (a .work .now) (a .t)
+    by-codes _ (a .roster .now) (a .triples .now) (a .summary .now) (a .weights .now) (a .map .now) (a .work .now) (a .t)
     (sym (back9 .lengths-wrong .ensures) ∙ back8 .if1 .left) (sym (back7 .work-wrong .ensures) ∙ back6 .if2 .left)
     (sym (back5 .words-wrong .ensures) ∙ back4 .if3 .left) (sym (back3 .roster-wrong .ensures) ∙ c .before .before .if4 .left)
     (sym (c .before .triple-wrong .ensures) ∙ c .if5 .taken)
@@ -91,12 +91,13 @@ returns-6 c =
     let back9 = back8 .before in
     let back10 = back9 .before in
     let back11 = back10 .before in
-    let start = back11 .before .before .before .before .before .before in
+    let start = back11 .before .before .before .before .before .before .before in
     let a = start .args in
-    by-cover _ (a .roster .now) (a .triples .now) (a .summary .now) (a .map .now) (a .work .now) (a .t)
+    by-cover _ (a .roster .now) (a .triples .now) (a .summary .now) (a .weights .now) (a .map .now) (a .work .now) (a .t)
     (sym (back11 .lengths-wrong .ensures) ∙ back10 .if1 .left) (sym (back9 .work-wrong .ensures) ∙ back8 .if2 .left)
     (sym (back7 .words-wrong .ensures) ∙ back6 .if3 .left) (sym (back5 .roster-wrong .ensures) ∙ back4 .if4 .left)
-    (sym (back3 .triple-wrong .ensures) ∙ c .before .before .if5 .left) (sym (c .before .covers-triple .ensures) ∙ not-true _ (c .if6 .taken))
+    (sym (back3 .triple-wrong .ensures) ∙ c .before .before .if5 .left)
+    (sym (c .before .covers-triple .ensures) ∙ not-true _ (c .if6 .taken))
 
 returns-7 : tie.Need-returns-7
 returns-7 c =
@@ -109,12 +110,13 @@ returns-7 c =
     let back9 = back8 .before in
     let back10 = back9 .before in
     let back11 = back10 .before in
-    let start = back11 .before .before .before .before .before .before in
+    let start = back11 .before .before .before .before .before .before .before in
     let a = start .args in
-    by-none _ (a .roster .now) (a .triples .now) (a .summary .now) (a .map .now) (a .work .now) (a .t)
+    by-none _ (a .roster .now) (a .triples .now) (a .summary .now) (a .weights .now) (a .map .now) (a .work .now) (a .t)
     (sym (back11 .lengths-wrong .ensures) ∙ back10 .if1 .left) (sym (back9 .work-wrong .ensures) ∙ back8 .if2 .left)
     (sym (back7 .words-wrong .ensures) ∙ back6 .if3 .left) (sym (back5 .roster-wrong .ensures) ∙ back4 .if4 .left)
-    (sym (back3 .triple-wrong .ensures) ∙ c .before .before .if5 .left) (sym (c .before .covers-triple .ensures) ∙ not-false _ (c .if6 .left))
+    (sym (back3 .triple-wrong .ensures) ∙ c .before .before .if5 .left)
+    (sym (c .before .covers-triple .ensures) ∙ not-false _ (c .if6 .left))
 
 pub feed-refusal-spec : {M : Type 1} → statement M
 feed-refusal-spec =

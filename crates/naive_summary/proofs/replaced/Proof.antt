@@ -20,14 +20,8 @@ loop-holds c = search needs
 triple-at-requires : tie.Need-triple-at-requires Inv-loop μ-loop
 triple-at-requires c κs = search needs
 
-entry-requires : tie.Need-entry-requires Inv-loop μ-loop
-entry-requires c κs = search needs
-
-entry-requires-2 : tie.Need-entry-requires-2 Inv-loop μ-loop
-entry-requires-2 c κs = search needs
-
-triple-of-requires : tie.Need-triple-of-requires Inv-loop μ-loop
-triple-of-requires c κs = search needs
+image-requires : tie.Need-image-requires Inv-loop μ-loop
+image-requires c κs = search needs
 
 add-requires : tie.Need-add-requires Inv-loop μ-loop
 add-requires c κs = search needs
@@ -56,9 +50,7 @@ replaced-spec =
     accept-requires
     loop-holds
     triple-at-requires
-    entry-requires
-    entry-requires-2
-    triple-of-requires
+    image-requires
     add-requires
     add-i
     loop-less

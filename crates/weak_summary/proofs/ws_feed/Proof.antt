@@ -34,13 +34,16 @@ same-length-3 c = search needs
 same-length-4 : tie.Need-same-length-4
 same-length-4 c = search needs
 
+same-length-5 : tie.Need-same-length-5
+same-length-5 c = search needs
+
 returns-2 : tie.Need-returns-2
 returns-2 c =
-    let back11 = c .before .before .before .before .before .before .before .before .before .before .before in
-    let back18 = back11 .before .before .before .before .before .before .before in
-    let back19 = back18 .before in
-    let f = back11 .feed-lists in
-    by-right (back19 .if1 .left) _ (back18 .words-of .ensures)
+    let back13 = c .before .before .before .before .before .before .before .before .before .before .before .before .before in
+    let back21 = back13 .before .before .before .before .before .before .before .before in
+    let back22 = back21 .before in
+    let f = back13 .feed-lists in
+    by-right (back22 .if1 .left) _ (back21 .words-of .ensures)
     (record { outcome = replied (f .result .answer); fed = f .ensures; reports = c .reply-status .ensures })
 
 pub ws-feed-spec : {M : Type 1} → statement M
@@ -56,4 +59,5 @@ ws-feed-spec =
     same-length-2
     same-length-3
     same-length-4
+    same-length-5
     returns-2)

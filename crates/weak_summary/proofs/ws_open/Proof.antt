@@ -31,12 +31,15 @@ same-length-2 c = search needs
 same-length-3 : tie.Need-same-length-3
 same-length-3 c = search needs
 
+same-length-4 : tie.Need-same-length-4
+same-length-4 c = search needs
+
 returns-2 : tie.Need-returns-2
 returns-2 c =
-    let back7 = c .before .before .before .before .before .before .before in
-    let back13 = back7 .before .before .before .before .before .before in
-    let back14 = back13 .before in
-    by-right (back14 .if1 .left) _ (back13 .words-of .ensures) (open-status _ _ _ _ _ _ (back7 .open-counts .ensures) (c .done-status .ensures))
+    let back9 = c .before .before .before .before .before .before .before .before .before in
+    let back16 = back9 .before .before .before .before .before .before .before in
+    let back17 = back16 .before in
+    by-right (back17 .if1 .left) _ (back16 .words-of .ensures) (open-status _ _ _ _ _ _ (back9 .open-counts .ensures) (c .done-status .ensures))
 
 pub ws-open-spec : {M : Type 1} → statement M
 ws-open-spec =
@@ -50,4 +53,5 @@ ws-open-spec =
     same-length
     same-length-2
     same-length-3
+    same-length-4
     returns-2)

@@ -1,13 +1,13 @@
--- `intake_insertion::image_known` meets its contract.
+-- `intake_insertion::image_place` meets its contract.
 -- Assumes nothing.
 use mathlib.Core.Path.{sym, _∙_}
-use Rattle.intake_insertion.proofs.Places.{known-false, known-is}
+use Rattle.intake_insertion.proofs.Places.{not-found, known-is}
 use borrow.Author.Needs.{needs}
-use Rattle.intake_insertion.proofs.image_known.Statement.{statement}
-use Rattle.intake_insertion.proofs.image_known.Tie as tie
+use Rattle.intake_insertion.proofs.image_place.Statement.{statement}
+use Rattle.intake_insertion.proofs.image_place.Tie as tie
 
 returns : tie.Need-returns
-returns c = λ e. known-false e
+returns c = not-found _ _ _ _
 
 wide-requires : tie.Need-wide-requires
 wide-requires c κs = search needs
@@ -22,7 +22,7 @@ is-absent-requires : tie.Need-is-absent-requires
 is-absent-requires c κs = search needs
 
 returns-2 : tie.Need-returns-2
-returns-2 c = λ e. known-false e
+returns-2 c = not-found _ _ _ _
 
 wide-requires-2 : tie.Need-wide-requires-2
 wide-requires-2 c κs = search needs
@@ -37,7 +37,7 @@ is-absent-requires-2 : tie.Need-is-absent-requires-2
 is-absent-requires-2 c κs = search needs
 
 returns-3 : tie.Need-returns-3
-returns-3 c = λ e. known-false e
+returns-3 c = not-found _ _ _ _
 
 lower-bound-requires : tie.Need-lower-bound-requires
 lower-bound-requires c κs = search needs
@@ -48,18 +48,22 @@ stands-at-requires c κs = search needs
 returns-4 : tie.Need-returns-4
 returns-4 c =
     let back3 = c .before .before .before in
-    let back5 = back3 .before .before in
-    let back6 = back5 .before in
+    let back4 = back3 .before in
+    let back6 = back4 .before .before in
     let back7 = back6 .before in
-    let back9 = back7 .before .before in
-    let back10 = back9 .before in
-    let start = back10 .before .before .before in
-    known-is _ _ (start .args .map .now) (start .args .t) (start .pre) (back10 .if1 .left) _ _ (back9 .wide .ensures) (back5 .wide2 .ensures)
-    (sym (back7 .is-absent .ensures) ∙ back6 .if2 .left) (sym (back3 .is-absent2 .ensures) ∙ c .before .before .if3 .left) _ _
-    (c .stands-at .ensures)
+    let back8 = back7 .before in
+    let back10 = back8 .before .before in
+    let back11 = back10 .before in
+    let start = back11 .before .before .before in
+    known-is _ _ (start .args .map .now) (start .args .t) (start .pre) (back11 .if1 .left) _ _ (back10 .wide .ensures) (back6 .wide2 .ensures)
+    (sym (back8 .is-absent .ensures) ∙ back7 .if2 .left) (sym (back4 .is-absent2 .ensures) ∙ back3 .if3 .left) _ _
+    (c .before .stands-at .ensures) (c .if4 .taken)
 
-pub image-known-spec : {M : Type 1} → statement M
-image-known-spec =
+returns-5 : tie.Need-returns-5
+returns-5 c = not-found _ _ _ _
+
+pub image-place-spec : {M : Type 1} → statement M
+image-place-spec =
     tie.close
     (tie.spec
     returns
@@ -75,4 +79,5 @@ image-known-spec =
     returns-3
     lower-bound-requires
     stands-at-requires
-    returns-4)
+    returns-4
+    returns-5)
