@@ -45,13 +45,13 @@
  * Answers
  *   Each call returns WS_OK or the number of a refusal. The checks run in the order that stands at the call, each over all
  *   its input before the next.
- *   After 1, 10, 2, 3, 4, 6, 12 and 7 nothing that was lent is altered, but for *place.
+ *   After 1, 10, 2, 3, 4, 6, 12, 7 and 9 nothing that was lent is altered, but for *place.
  *   Each call that takes words refuses a list of other than WS_WORDS_NUMBERS numbers with 1, before all else, and then wrong
  *   words with 10, straight after 1.
  *   After 5 and 8 the lists are zero, as said at each call; the words of ws_read are 0 to 4.
  *   A number that is lent to take an answer (count, found, maybe, is_new) is altered by accepted calls only; ws_read says
- *   what it does with its numbers. Only the place of ws_look_up and ws_feed is written by every call: it is 0 after each
- *   refusal, also after 1 for words that are not five.
+ *   what it does with its numbers. Only the place of ws_look_up, ws_feed and ws_remove is written by every call: it is 0 after
+ *   each refusal, also after 1 for words that are not five.
  *   Result triples are in rising order of subject, property, object, without repeats; the rest of the list is zero.
  */
 #ifndef WEAK_SUMMARY_H
@@ -107,7 +107,7 @@ extern "C" {
  */
 #define WS_STACK_ASK 24576     /* ws_ask */
 #define WS_STACK_READ 10240    /* ws_read */
-#define WS_STACK_SORTING 8192  /* ws_saturate, ws_summarise, ws_summarise_strong, ws_feed */
+#define WS_STACK_SORTING 8192  /* ws_saturate, ws_summarise, ws_summarise_strong, ws_feed, ws_remove */
 #define WS_STACK_OTHERS 512    /* each other call */
 
 /* Answers. */
@@ -115,11 +115,12 @@ extern "C" {
 #define WS_REFUSED_LENGTH 1 /* a list has a wrong length, or N is out of range */
 #define WS_REFUSED_ROSTER 2 /* a roster value over 3, or a word marked */
 #define WS_REFUSED_CODE 3   /* a code of a triple not below N, or a word as subject or object */
-#define WS_REFUSED_COVER 4  /* the roster does not mark each role in the table or fed triple */
+#define WS_REFUSED_COVER 4  /* the roster does not mark each role in the table, or in the triple fed or removed */
 #define WS_REFUSED_SLOTS 5  /* more result triples than slots, or more bytes than the list has */
 #define WS_REFUSED_QUERY 6  /* a query with a wrong count, variable, kind or code */
 #define WS_REFUSED_FULL 7   /* intake: the triple is new and every slot holds one */
 #define WS_REFUSED_FORM 8   /* the text is not in the site form */
+#define WS_REFUSED_MISSING 9 /* intake: the triple to remove is not held */
 #define WS_REFUSED_WORDS 10 /* two words are equal, or one is not below N */
 #define WS_REFUSED_RETIRED 12 /* a counted pattern's property is subclass, subproperty, domain or range */
 
@@ -258,11 +259,12 @@ uint32_t ws_open(const uint32_t *words, size_t words_length, const uint8_t *rost
 /*
  * Feed an intake one triple. Lend the words and the roster of the opening, and the lists and counts as the call before left
  * them.
- *   triples      the distinct triples fed so far, in rising order, zero beyond.
+ *   triples      the triples held: the distinct ones fed so far and not removed since, in rising order, zero beyond.
  *   summary      their summary, zero beyond.
  *   weights      one number for each slot: for each triple of the summary, in the same order, how many of the triples held
  *                become it when their subject and object are replaced by their representatives, which is at least 1; zero
- *                beyond. They add up to *held, which is how many of the triples fed since the opening were new.
+ *                beyond. They add up to *held, which is how many of the triples fed since the opening were new, less those
+ *                removed.
  *   map          their map.
  *   work         2 * N numbers with any content; zero after an accepted feed, new or not.
  *   *held        the number of triples held.
@@ -291,6 +293,38 @@ uint32_t ws_feed(const uint32_t *words, size_t words_length, const uint8_t *rost
                  size_t weights_length, uint32_t *map, size_t map_length, uint32_t *work, size_t work_length,
                  uint32_t subject, uint32_t property, uint32_t object, size_t *held, size_t *summarised,
                  uint32_t *is_new, size_t *place);
+
+/*
+ * Remove one triple from an intake. Lend what a feed is lent.
+ *   triples, summary, weights, map, *held, *summarised
+ *                those of the other triples held, as if this one had never been fed. Classes may fall apart; a node that no
+ *                other triple has is absent from the map; a node that is left with types only is put with the others that have
+ *                types only. Without any triple all is as after the opening. A later triple takes the slot set free.
+ *   work         2 * N numbers with any content; zero after an accepted removal.
+ *   *place       how many of the triples held before the call come before it, which is where it stood in triples; 0 after a
+ *                refusal.
+ * Refusals, in order
+ *   1  the words not five; N out of range; triples, summary, weights, map or work of a wrong length
+ *   10, 2
+ *   3  of the triple to remove
+ *   4  of the triple to remove
+ *   9  the triple is not held
+ * They alter nothing but *place, not even the work list.
+ * If lists or counts were altered between calls, or the words or the roster are others than at opening, the call still ends
+ * safely, and this holds: refusals 1, 10, 2, 3 and 4 are as above; after 9 nothing is altered but *place, which is 0; after
+ * WS_OK the work list is zero, *held is one less, *held and *summarised are at most the slots, and *place is at most what
+ * *held was before the call. Open are which of WS_OK and 9 is answered and, after WS_OK, what *place is, what triples, summary,
+ * weights and map hold and what *summarised is. Counts that were altered stay so after 9: compare them with the slots before
+ * they are used as lengths.
+ * Time, measured and not proved: where other triples held keep both ends of this one, the call takes a pass over the triples for
+ * each end; else it makes the summary anew, as a feed does whose line is not there yet. An unmarked end of a data triple is kept
+ * by a triple with the same property and that end at the same side, any other end by a triple with it as subject or object.
+ */
+uint32_t ws_remove(const uint32_t *words, size_t words_length, const uint8_t *roster, size_t roster_length,
+                   uint32_t *triples, size_t triples_length, uint32_t *summary, size_t summary_length, uint32_t *weights,
+                   size_t weights_length, uint32_t *map, size_t map_length, uint32_t *work, size_t work_length,
+                   uint32_t subject, uint32_t property, uint32_t object, size_t *held, size_t *summarised,
+                   size_t *place);
 
 /*
  * Write the site form: the line (site N), then, unless the words are 0, 1, 2, 3, 4 in this sequence, the line

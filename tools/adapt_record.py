@@ -177,6 +177,7 @@ if __name__ == '__main__':
     write('open_by_value',generate('open_by_value','open','Counts',rec,'OpenedCounts','Done',lists,
       said='Opens v1 y2 (stateWith y3 y4 y5 y6 (h .held) (h .summarised)) (outcome y) (stateWith z3 z4 z5 z6 (z .held) (z .summarised))',
       specuses=['use Rattle.model.specs.Outcomes.{done as outcome}','use Rattle.intake_opening.specs.Opening.{stateWith, Opens}']))
-    write('feed_by_value',generate('feed_by_value','feed','Counts',rec,'FedCounts','Reply',lists+[('mut','u32'),('num','u32'),('num','u32'),('num','u32')],
-      said='Fed v1 y2 (stateWith y3 y4 y5 y6 (h .held) (h .summarised)) y7 (triple v8 v9 v10) (replied y) (stateWith z3 z4 z5 z6 (z .held) (z .summarised)) z7',
-      specuses=['use Rattle.model.specs.Triples.{triple}','use Rattle.model.specs.Outcomes.{replied}','use Rattle.model.specs.Intake.{Fed}','use Rattle.intake_opening.specs.Opening.{stateWith}']))
+    for fn,name,promise in [('feed_by_value','feed','Fed'),('remove_by_value','remove','Removes')]:
+      write(fn,generate(fn,name,'Counts',rec,'CalledCounts','Reply',lists+[('mut','u32'),('num','u32'),('num','u32'),('num','u32')],
+        said=f'{promise} v1 y2 (stateWith y3 y4 y5 y6 (h .held) (h .summarised)) y7 (triple v8 v9 v10) (replied y) (stateWith z3 z4 z5 z6 (z .held) (z .summarised)) z7',
+        specuses=['use Rattle.model.specs.Triples.{triple}','use Rattle.model.specs.Outcomes.{replied}','use Rattle.model.specs.Intake.{'+promise+'}','use Rattle.intake_opening.specs.Opening.{stateWith}']))

@@ -6,8 +6,8 @@ import re
 W = {'u8': 'w8', 'u16': 'w16', 'u32': 'w32', 'u64': 'w64', 'usize': 'w64'}
 B = {'u8': 8, 'u16': 16, 'u32': 32, 'u64': 64, 'usize': 64}
 # the crate of each record and of each function that is called
-HOMES = {'Counts': 'intake_opening', 'OpenedCounts': 'intake_opening', 'open_counts': 'intake_opening', 'FedCounts': 'intake_adding',
-         'feed_lists': 'intake_feeding', 'open': 'intake', 'feed': 'intake'}
+HOMES = {'Counts': 'intake_opening', 'OpenedCounts': 'intake_opening', 'open_counts': 'intake_opening', 'CalledCounts': 'intake_calls',
+         'feed_lists': 'intake_feeding', 'remove_lists': 'intake_removing', 'open': 'intake', 'feed': 'intake', 'remove': 'intake'}
 # structs by value: the crate that declares it and its fields
 STRUCTS = {'Vocabulary': ('model', [('instance', 'u32'), ('subclass', 'u32'), ('subproperty', 'u32'), ('domain', 'u32'), ('range', 'u32')])}
 

@@ -8,7 +8,7 @@
     }
 
 The parameters are those of record_walk.Params. No requires on either function. Run at the repository's root it writes the proofs of
-intake's open and feed.
+intake's open, feed and remove.
 """
 from record_walk import W, B, HOMES, first_line, Params, lst, tup, prod, toks, proj, dash, structval, trim, uses, cites, opening, arguments, reborrows, operands, ending
 
@@ -175,6 +175,7 @@ if __name__ == '__main__':
     write('open',generate('open','open_counts','Counts',rec,'OpenedCounts','Done',lists,
       said='Opens v1 y2 (stateWith y3 y4 y5 y6 (h .held) (h .summarised)) (outcome (r .answer)) (stateWith z3 z4 z5 z6 (r .counts .held) (r .counts .summarised))',
       specuses=['use Rattle.model.specs.Outcomes.{done as outcome}','use Rattle.intake_opening.specs.Opening.{stateWith, Opens}']))
-    write('feed',generate('feed','feed_lists','Counts',rec,'FedCounts','Reply',lists+[('mut','u32'),('num','u32'),('num','u32'),('num','u32')],
-      said='Fed v1 y2 (stateWith y3 y4 y5 y6 (h .held) (h .summarised)) y7 (triple v8 v9 v10) (replied (r .answer)) (stateWith z3 z4 z5 z6 (r .counts .held) (r .counts .summarised)) z7',
-      specuses=['use Rattle.model.specs.Triples.{triple}','use Rattle.model.specs.Outcomes.{replied}','use Rattle.model.specs.Intake.{Fed}','use Rattle.intake_opening.specs.Opening.{stateWith}']))
+    for fn,name,promise in [('feed','feed_lists','Fed'),('remove','remove_lists','Removes')]:
+      write(fn,generate(fn,name,'Counts',rec,'CalledCounts','Reply',lists+[('mut','u32'),('num','u32'),('num','u32'),('num','u32')],
+        said=f'{promise} v1 y2 (stateWith y3 y4 y5 y6 (h .held) (h .summarised)) y7 (triple v8 v9 v10) (replied (r .answer)) (stateWith z3 z4 z5 z6 (r .counts .held) (r .counts .summarised)) z7',
+        specuses=['use Rattle.model.specs.Triples.{triple}','use Rattle.model.specs.Outcomes.{replied}','use Rattle.model.specs.Intake.{'+promise+'}','use Rattle.intake_opening.specs.Opening.{stateWith}']))

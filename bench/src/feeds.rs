@@ -1,90 +1,37 @@
 //! Feeding an intake that holds a table.
 
-use crate::inputs::{self, Random, FIRST_FREE, FRESH, SITE, TYPE, WORDS};
+use crate::inputs::{self, Random, FIRST_FREE, FRESH, SITE, TYPE};
+use crate::intakes::{agree, holding, Intake, CALLS};
 use crate::measure::{heading, measure, series, sizes, Settings, Timing};
-use weak_summary::calls::{self as proved, Lent, State};
-use weak_summary_reference::{feed_fast, feed_lists_only, FastIntake, Fed, Words, MAX_TRIPLES};
-
-/// Feeds per run; times are for one feed.
-const FEEDS: usize = 16;
-
-/// The proved engine's intake.
-#[derive(Clone)]
-struct Intake {
-    triples: Vec<u32>,
-    summary: Vec<u32>,
-    weights: Vec<u32>,
-    map: Vec<u32>,
-    work: Vec<u32>,
-    held: usize,
-    summarised: usize,
-    answers: Vec<Fed>,
-}
-
-/// The plain engine's intake.
-#[derive(Clone)]
-struct Plain {
-    intake: FastIntake,
-    answers: Vec<Fed>,
-}
+use weak_summary::calls as proved;
+use weak_summary_reference::{feed_fast, feed_lists_only, FastIntake, Fed, MAX_TRIPLES};
 
 fn feed(l: &mut Intake, roster: &[u8], t: [u32; 3]) {
     let (mut is_new, mut place) = (9, usize::MAX);
-    let state = State {
-        triples: &mut l.triples,
-        summary: &mut l.summary,
-        weights: &mut l.weights,
-        map: &mut l.map,
-        held: &mut l.held,
-        summarised: &mut l.summarised,
-    };
-    let lent = Lent { words: &WORDS, roster, state, work: &mut l.work };
-    let status = proved::feed(lent, t, &mut is_new, &mut place);
+    let status = proved::feed(l.lent(roster), t, &mut is_new, &mut place);
     assert_eq!(status, 0);
     l.answers.push(Ok((is_new == 1, place)));
 }
 
-fn agree(a: &Intake, b: &Plain) -> Result<String, String> {
-    let lists = [&a.triples, &a.summary, &a.weights, &a.map]
-        == [&b.intake.triples, &b.intake.summary, &b.intake.weights, &b.intake.map];
-    let counts = (a.held, a.summarised) == (b.intake.held, b.intake.summarised);
-    if lists && counts && a.answers == b.answers {
-        let new = a.answers.iter().filter(|answer| matches!(answer, Ok((true, _)))).count();
-        return Ok(format!("{new} of {FEEDS} new, summary {}", a.summarised));
-    }
-    Err("feeds".to_string())
+fn result(l: &Intake) -> String {
+    let new = l.answers.iter().filter(|answer| matches!(answer, Ok((true, _)))).count();
+    format!("{new} of {CALLS} new, summary {}", l.summarised)
 }
 
-/// A way to choose the triple that is fed, given the table that is held.
-type Choice = fn(&mut Random, &[u32]) -> [u32; 3];
+/// A way to choose a triple, given the table that is held.
+pub type Choice = fn(&mut Random, &[u32]) -> [u32; 3];
 
 /// A way to feed the plain intake.
 type PlainFeed = fn(&mut FastIntake, [u32; 3]) -> Fed;
 
-/// Both intakes holding the data-heavy table, as feeding its triples would leave them.
-fn holding(table: &[u32], roster: &[u8]) -> (Intake, Plain) {
-    let intake = FastIntake::holding(Words::new(WORDS), roster, table.len() / 3 + FEEDS, table);
-    let ours = Intake {
-        triples: intake.triples.clone(),
-        summary: intake.summary.clone(),
-        weights: intake.weights.clone(),
-        map: intake.map.clone(),
-        work: vec![1; 2 * roster.len()],
-        held: intake.held,
-        summarised: intake.summarised,
-        answers: Vec::with_capacity(FEEDS),
-    };
-    (ours, Plain { intake, answers: Vec::with_capacity(FEEDS) })
-}
-
 /// Times feeds to an intake that holds the data-heavy table.
 fn feeds(settings: &Settings, amount: usize, choose: Choice, plain_feed: PlainFeed) -> Timing {
     let mut input = inputs::data_heavy(amount);
-    input.table.truncate(3 * (MAX_TRIPLES - FEEDS).min(amount));
+    input.table.truncate(3 * (MAX_TRIPLES - CALLS).min(amount));
     let roster = &input.roster;
     let (ours, theirs) = holding(&input.table, roster);
     let mut random = Random::new();
-    let fed: Vec<[u32; 3]> = (0..FEEDS).map(|_| choose(&mut random, &input.table)).collect();
+    let fed: Vec<[u32; 3]> = (0..CALLS).map(|_| choose(&mut random, &input.table)).collect();
     let timing = measure(
         settings,
         (&ours, &theirs),
@@ -94,17 +41,17 @@ fn feeds(settings: &Settings, amount: usize, choose: Choice, plain_feed: PlainFe
                 l.answers.push(plain_feed(&mut l.intake, t));
             }
         },
-        agree,
+        |a, b| agree(a, b, result),
     );
-    Timing { proved: timing.proved / FEEDS as f64, plain: timing.plain / FEEDS as f64, ..timing }
+    timing.per_call(CALLS)
 }
 
-fn fresh(random: &mut Random) -> u32 {
+pub fn fresh(random: &mut Random) -> u32 {
     FRESH + random.below(SITE - FRESH)
 }
 
 /// The place of some data triple of the table.
-fn data_at(random: &mut Random, table: &[u32]) -> usize {
+pub fn data_at(random: &mut Random, table: &[u32]) -> usize {
     loop {
         let i = 3 * random.below(table.len() as u32 / 3) as usize;
         if table[i + 1] >= FIRST_FREE {
@@ -130,17 +77,17 @@ fn repeat(random: &mut Random, table: &[u32]) -> [u32; 3] {
 }
 
 /// A type of a node that is held.
-fn new_image(random: &mut Random, table: &[u32]) -> [u32; 3] {
+pub fn new_image(random: &mut Random, table: &[u32]) -> [u32; 3] {
     let data = data_at(random, table);
     [table[data], TYPE, inputs::class(random)]
 }
 
-fn new_node(random: &mut Random, _: &[u32]) -> [u32; 3] {
+pub fn new_node(random: &mut Random, _: &[u32]) -> [u32; 3] {
     let [_, p, o] = inputs::data_triple(random);
     [fresh(random), p, o]
 }
 
-fn new_typed(random: &mut Random, _: &[u32]) -> [u32; 3] {
+pub fn new_typed(random: &mut Random, _: &[u32]) -> [u32; 3] {
     [fresh(random), TYPE, inputs::class(random)]
 }
 

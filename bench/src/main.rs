@@ -4,7 +4,9 @@
 mod asks;
 mod feeds;
 mod inputs;
+mod intakes;
 mod measure;
+mod removals;
 mod rosters;
 mod searches;
 mod tables;
@@ -37,7 +39,7 @@ How it is measured:
 /// The name by which a section is chosen, and what prints it.
 type Section = (&'static str, fn(&Settings));
 
-const SECTIONS: [Section; 10] = [
+const SECTIONS: [Section; 11] = [
     ("roster", tables::own_rosters),
     ("opening", rosters::all),
     ("saturate", tables::saturations),
@@ -47,6 +49,7 @@ const SECTIONS: [Section; 10] = [
     ("look-up", tables::look_ups),
     ("ask", asks::all),
     ("feed", feeds::all),
+    ("remove", removals::all),
     ("text", texts::all),
 ];
 

@@ -19,6 +19,13 @@ pub struct Timing {
     pub plain: f64,
 }
 
+impl Timing {
+    /// The mean of so many calls in a run.
+    pub fn per_call(self, calls: usize) -> Timing {
+        Timing { proved: self.proved / calls as f64, plain: self.plain / calls as f64, ..self }
+    }
+}
+
 /// Seconds of one run on freshly filled lists.
 fn once<L: Clone>(lent: &mut L, before: &L, call: &mut impl FnMut(&mut L)) -> f64 {
     lent.clone_from(before);

@@ -1,6 +1,6 @@
 /* The edges of the C interface: the most bytes that are written, a summary as long as its table, lists of length 0, places,
-   retired queries, weights of a wrong size, and intakes that were altered between calls. The last line says how many checks
-   failed. */
+   retired queries, weights of a wrong size, removals down to the last triple, and intakes that were altered between calls. The
+   last line says how many checks failed. */
 #include <stdio.h>
 #include <string.h>
 
@@ -49,7 +49,7 @@ static void spoil(void) {
     count = held = summarised = asks = place = number = 9;
 }
 
-/* Whether a look up or a feed was refused so and reported the place 0; spoils the place again. */
+/* Whether a look up, a feed or a removal was refused so and reported the place 0; spoils the place again. */
 static int refused(uint32_t status, uint32_t expected) {
     int right = status == expected && place == 0;
     place = 9;
@@ -132,6 +132,8 @@ static void no_slots(void) {
     uint32_t status =
         ws_feed(FIVE, ROSTER, N, NONE, NONE, NONE, map, N, work, 2 * N, 10, 5, 11, &held, &summarised, &number, &place);
     check(refused(status, WS_REFUSED_FULL) && held == 0 && number == 9 && all(work, 2 * N, 9), "and is full");
+    status = ws_remove(FIVE, ROSTER, N, NONE, NONE, NONE, map, N, work, 2 * N, 10, 5, 11, &held, &summarised, &place);
+    check(refused(status, WS_REFUSED_MISSING) && held == 0 && all(work, 2 * N, 9), "and nothing can leave it");
 }
 
 /* A roster that is missing, the other lists being right. */
@@ -145,6 +147,8 @@ static void no_rosters(void) {
     uint32_t status =
         ws_feed(FIVE, NONE, NONE, NONE, NONE, map, N, work, 2 * N, 10, 5, 11, &held, &summarised, &number, &place);
     check(refused(status, WS_REFUSED_LENGTH), "roster of feeding");
+    status = ws_remove(FIVE, NONE, NONE, NONE, NONE, map, N, work, 2 * N, 10, 5, 11, &held, &summarised, &place);
+    check(refused(status, WS_REFUSED_LENGTH), "roster of removing");
 }
 
 /* Another list that is missing, the others being right. */
@@ -155,13 +159,17 @@ static void one_list_missing(void) {
     check(refused(status, WS_REFUSED_LENGTH), "map of feeding");
     status = ws_feed(FIVE, ROSTER, N, NONE, NONE, NONE, map, N, NONE, 10, 5, 11, &held, &summarised, &number, &place);
     check(refused(status, WS_REFUSED_LENGTH), "work list of feeding");
+    status = ws_remove(FIVE, ROSTER, N, NONE, NONE, NONE, NONE, work, 2 * N, 10, 5, 11, &held, &summarised, &place);
+    check(refused(status, WS_REFUSED_LENGTH), "map of removing");
+    status = ws_remove(FIVE, ROSTER, N, NONE, NONE, NONE, map, N, NONE, 10, 5, 11, &held, &summarised, &place);
+    check(refused(status, WS_REFUSED_LENGTH), "work list of removing");
     status = ws_read(NONE, NONE, NONE, words, WS_WORDS_NUMBERS, &number, &count, &asks);
     check(status == WS_REFUSED_LENGTH, "queries of reading");
     status = ws_read(NONE, NONE, queries, WS_QUERIES_NUMBERS, NONE, &number, &count, &asks);
     check(status == WS_REFUSED_LENGTH, "words of reading");
 }
 
-/* Every list that must have a length is refused without one, and nothing is altered but the place of a feed. */
+/* Every list that must have a length is refused without one, and nothing is altered but the place of a feed or a removal. */
 static void no_lists(void) {
     spoil();
     no_rosters();
@@ -180,6 +188,8 @@ static void no_lists(void) {
     check(ws_open(NONE, NONE, NONE, NONE, NONE, NONE, &held, &summarised) == WS_REFUSED_LENGTH, "opening");
     uint32_t status = ws_feed(NONE, NONE, NONE, NONE, NONE, NONE, NONE, 10, 5, 11, &held, &summarised, &number, &place);
     check(refused(status, WS_REFUSED_LENGTH), "feeding");
+    status = ws_remove(NONE, NONE, NONE, NONE, NONE, NONE, NONE, 10, 5, 11, &held, &summarised, &place);
+    check(refused(status, WS_REFUSED_LENGTH), "removing");
     check(ws_write(NONE, N, NONE, NONE, &count) == WS_REFUSED_LENGTH, "writing");
     check(ws_read(NONE, NONE, NONE, NONE, &number, &count, &asks) == WS_REFUSED_LENGTH, "reading");
     check(count == 9 && held == 9 && summarised == 9 && asks == 9 && number == 9, "no number is altered");
@@ -257,7 +267,7 @@ static void retired_queries(void) {
     check(ask_triple(ONE, query) == WS_REFUSED_QUERY && number == 9, "a wrong code comes before it");
 }
 
-/* What is lent to a feed and may be altered by it, with numbers behind the weights for lists that are too long. */
+/* What is lent to a feed or a removal and may be altered by it, with numbers behind the weights for lists that are too long. */
 struct intake {
     uint32_t triples[3 * SLOTS], summary[3 * SLOTS], weights[3 * SLOTS], map[N], work[2 * N], is_new;
     size_t held, summarised, place;
@@ -273,6 +283,12 @@ static uint32_t open_intake(struct intake *x, uint32_t *list, size_t length) {
 static uint32_t feed_intake(struct intake *x, uint32_t *list, size_t length, uint32_t subject, uint32_t object) {
     return ws_feed(FIVE, ROSTER, N, x->triples, 3 * SLOTS, x->summary, 3 * SLOTS, list, length, x->map, N, x->work, 2 * N,
                    subject, 5, object, &x->held, &x->summarised, &x->is_new, &x->place);
+}
+
+/* Removes a triple of property 5. */
+static uint32_t remove_from(struct intake *x, uint32_t *list, size_t length, uint32_t subject, uint32_t object) {
+    return ws_remove(FIVE, ROSTER, N, x->triples, 3 * SLOTS, x->summary, 3 * SLOTS, list, length, x->map, N, x->work, 2 * N,
+                     subject, 5, object, &x->held, &x->summarised, &x->place);
 }
 
 static int same_but_work(const struct intake *x, const struct intake *y) {
@@ -330,7 +346,47 @@ static void wrong_weights(void) {
         check(same_but_place(&x, &before) && x.place == 9, "and alters nothing");
         check(feed_intake(&x, list, lengths[i], 10, 10) == WS_REFUSED_LENGTH, "feeding refuses weights of a wrong size");
         check(same_but_place(&x, &before) && x.place == 0, "and alters nothing but the place");
+        x.place = 9;
+        check(remove_from(&x, list, lengths[i], 10, 11) == WS_REFUSED_LENGTH, "removing refuses weights of a wrong size");
+        check(same_but_place(&x, &before) && x.place == 0, "and alters nothing but the place");
     }
+}
+
+/* Whether a removal is accepted at this place, so many triples are left, with one line of this weight, and the work list is
+   zero. Behind the weights there are nines. */
+static int lightens(struct intake *x, uint32_t subject, uint32_t object, size_t at, uint32_t weight) {
+    memset(x->work, 9, sizeof x->work);
+    x->place = 9;
+    return remove_from(x, x->weights, SLOTS, subject, object) == WS_OK && x->place == at && x->held == weight &&
+           x->summarised == 1 && x->weights[0] == weight && all(x->weights + 1, SLOTS - 1, 0) &&
+           all(x->weights + SLOTS, 2 * SLOTS, 9) && all(x->work, 2 * N, 0);
+}
+
+/* Whether a removal is refused with 9 and alters nothing, not even the work list, but the place, which is 0. */
+static int misses(struct intake *x, uint32_t subject, uint32_t object) {
+    struct intake before;
+    memset(x->work, 9, sizeof x->work);
+    x->place = 9;
+    before = *x;
+    return remove_from(x, x->weights, SLOTS, subject, object) == WS_REFUSED_MISSING && same_but_place(x, &before) &&
+           x->place == 0;
+}
+
+/* From a full intake down to an empty one. The slot of 10 5 10, whose ends the others keep, takes 11 5 11. */
+static void removals(void) {
+    struct intake x = holding_two();
+    check(misses(&x, 10, 10) && misses(&x, 11, 11), "what was not fed cannot leave");
+    check(weighs(&x, 10, 10, 3) && feed_intake(&x, x.weights, SLOTS, 11, 11) == WS_REFUSED_FULL, "three triples, no slot left");
+    check(misses(&x, 11, 11), "in a full intake too a triple that is not held is refused with 9");
+    check(lightens(&x, 10, 10, 0, 2) && misses(&x, 10, 10), "one leaves, once");
+    check(weighs(&x, 11, 11, 3) && x.place == 2, "and another takes its slot");
+    check(lightens(&x, 11, 11, 2, 2), "which leaves again");
+    check(lightens(&x, 11, 10, 1, 1) && misses(&x, 11, 10), "the class of 10 and 11 falls apart");
+    check(x.summary[0] == 10 && x.summary[2] == 11 && x.map[10] == 10 && x.map[11] == 11, "into two");
+    check(all(x.triples + 3, 3 * SLOTS - 3, 0) && all(x.summary + 3, 3 * SLOTS - 3, 0), "behind the last triple all is zero");
+    check(remove_from(&x, x.weights, SLOTS, 10, 11) == WS_OK && x.held == 0 && x.summarised == 0, "the last triple leaves");
+    check(all(x.triples, 3 * SLOTS, 0) && all(x.summary, 3 * SLOTS, 0) && all(x.weights, SLOTS, 0), "the lists are zero");
+    check(all(x.map, N, WS_ABSENT) && misses(&x, 10, 11), "and no code is a node");
 }
 
 static uint32_t random_below(uint32_t bound) {
@@ -378,12 +434,31 @@ static uint32_t feed_altered(struct intake x, uint32_t subject, uint32_t object)
     return x.is_new;
 }
 
+/* What holds after a removal from an intake in any state; gives the answer: 0 removed, 9. */
+static uint32_t remove_altered(struct intake x, uint32_t subject, uint32_t object) {
+    struct intake before = x;
+    uint32_t status = remove_from(&x, x.weights, SLOTS, subject, object);
+    check(memcmp(x.weights + SLOTS, before.weights + SLOTS, 2 * SLOTS * sizeof *x.weights) == 0,
+          "nothing is written behind the weights");
+    if (status == WS_REFUSED_MISSING) {
+        check(same_but_place(&x, &before) && x.place == 0,
+              "after 9 nothing is altered, the work list included, and the place is 0");
+        return status;
+    }
+    check(status == WS_OK && all(x.work, 2 * N, 0), "after another answer the work list is zero");
+    check(x.place <= before.held, "and the place is at most the number held before");
+    check(x.held + 1 == before.held && x.held <= SLOTS && x.summarised <= SLOTS, "one less is held, and the counts fit");
+    return status;
+}
+
 static void altered_intakes(void) {
-    size_t answers[8] = {0};
+    size_t answers[8] = {0}, removed[10] = {0};
     for (int k = 0; k < 10000; k++) {
         answers[feed_altered(altered(), 10, 11) % 8]++;
+        removed[remove_altered(altered(), 10, 11) % 10]++;
     }
     check(answers[0] > 100 && answers[1] > 100 && answers[7] > 100, "each answer is given");
+    check(removed[0] > 100 && removed[9] > 100, "each answer to a removal is given");
 }
 
 /* Weights that were all set to the highest number, in an intake that is right in all else. Fed are a repeat, a triple whose
@@ -399,6 +474,19 @@ static void highest_weights(void) {
     }
 }
 
+/* Weights that were all set to zero or to the highest number, in an intake that is right in all else. Removed are a triple
+   whose ends the others keep and one that parts a class. */
+static void wrong_numbers(void) {
+    static const int bytes[2] = {0, 255};
+    for (size_t k = 0; k < 2; k++) {
+        struct intake x = holding_two();
+        check(weighs(&x, 10, 10, 3), "a third triple of the line");
+        memset(x.weights, bytes[k], sizeof x.weights);
+        check(remove_altered(x, 10, 10) == WS_OK && remove_altered(x, 11, 10) == WS_OK, "removed by any weights");
+        check(open_intake(&x, x.weights, SLOTS) == WS_OK && all(x.weights, SLOTS, 0), "opening zeroes the weights again");
+    }
+}
+
 int main(void) {
     longest_texts();
     longest_summaries();
@@ -410,8 +498,10 @@ int main(void) {
     retired_queries();
     weights();
     wrong_weights();
+    removals();
     altered_intakes();
     highest_weights();
+    wrong_numbers();
     printf("C edges: %d checks, %d failed\n", checks, failures);
     return failures != 0;
 }

@@ -1,7 +1,7 @@
 /* The papers' example through the C interface, in the header's sequence: read, own roster, saturate, summarise, ask; also the
    same on the summary, queries that are retired, what ask says where the sequence is not kept, and an intake with the weights
-   of its lines. Then all of it with other words than 0 to 4, the two summaries of a chain, and places. Each result is checked
-   against the papers'. */
+   of its lines, from which triples are removed. Then all of it with other words than 0 to 4, the two summaries of a chain,
+   places, and a chain that falls apart. Each result is checked against the papers'. */
 #include <stdio.h>
 #include <string.h>
 
@@ -177,15 +177,27 @@ static uint32_t feed(uint32_t n, size_t slots, const uint32_t *t, uint32_t *is_n
                    held_map, n, work, 2 * n, t[0], t[1], t[2], &held, &summarised, is_new, place);
 }
 
-/* Prints each line of the intake's summary with its weight, and gives the sum of the weights. */
-static size_t print_weighed(void) {
+static uint32_t remove_triple(uint32_t n, size_t slots, const uint32_t *t, size_t *place) {
+    return ws_remove(words, WS_WORDS_NUMBERS, roster, n, held_triples, 3 * slots, held_summary, 3 * slots, held_weights, slots,
+                     held_map, n, work, 2 * n, t[0], t[1], t[2], &held, &summarised, place);
+}
+
+/* What the weights of the intake's summary add up to. */
+static size_t weight_sum(void) {
     size_t sum = 0;
     for (size_t i = 0; i < summarised; i++) {
-        const uint32_t *t = held_summary + 3 * i;
-        printf("(t %u %u %u) stands for %u\n", t[0], t[1], t[2], held_weights[i]);
         sum += held_weights[i];
     }
     return sum;
+}
+
+/* Prints each line of the intake's summary with its weight, and gives the sum of the weights. */
+static size_t print_weighed(void) {
+    for (size_t i = 0; i < summarised; i++) {
+        const uint32_t *t = held_summary + 3 * i;
+        printf("(t %u %u %u) stands for %u\n", t[0], t[1], t[2], held_weights[i]);
+    }
+    return weight_sum();
 }
 
 /* Feeds the six triples, last first, each twice, to an intake of six slots: each comes before all that are held. Then first to
@@ -222,6 +234,51 @@ static void weigh(uint32_t n, const uint32_t *expected, const uint32_t *weights)
     check(held_weights[14] == 0 && held_weights[15] == 0 && held_weights[16] == 0, "the weights behind them are zero");
 }
 
+/* Whether each of so many numbers is this one. */
+static int all_are(const uint32_t *list, size_t length, uint32_t value) {
+    size_t same = 0;
+    while (same < length && list[same] == value) {
+        same++;
+    }
+    return same == length;
+}
+
+/* Removes from the intake the triples that the rules gave, last first, each twice. The six are left, and their plain summary:
+   10 and 11 are no more one class, nor are 12 and 13, and each line stands for one triple. */
+static void take_back(uint32_t n) {
+    static const uint32_t ones[6] = {1, 1, 1, 1, 1, 1};
+    int right = 1;
+    for (size_t i = 17; i-- > 0;) {
+        const uint32_t *t = saturated + 3 * i;
+        uint32_t given = 2;
+        size_t place = 99;
+        ws_look_up(table, 18, t[0], t[1], t[2], &given, &place);
+        if (given == 0) {
+            right = right && remove_triple(n, 17, t, &place) == WS_OK && place == i && weight_sum() == held;
+            place = 99;
+            right = right && remove_triple(n, 17, t, &place) == WS_REFUSED_MISSING && place == 0;
+        }
+    }
+    check(right, "what the rules gave is removed, each triple at its place and once; the weights add up to what is left");
+    check(held == 6 && memcmp(held_triples, table, 18 * sizeof *table) == 0, "the six are left");
+    check(summarised == 6 && memcmp(held_summary, table, 18 * sizeof *table) == 0, "and their plain summary");
+    check(print_weighed() == 6 && memcmp(held_weights, ones, sizeof ones) == 0 && all_are(held_weights + 6, 11, 0),
+          "each line stands for one triple");
+    check(all_are(held_triples + 18, 33, 0) && all_are(held_summary + 18, 33, 0), "behind them all is zero");
+}
+
+/* Removes the six, first to last. Then all is as after the opening. */
+static void take_all(uint32_t n) {
+    int right = 1;
+    for (size_t i = 0; i < 6; i++) {
+        size_t place = 99;
+        right = right && remove_triple(n, 17, table + 3 * i, &place) == WS_OK && place == 0 && held == 5 - i;
+    }
+    check(right && held == 0 && summarised == 0, "the six are removed");
+    check(all_are(held_triples, 51, 0) && all_are(held_summary, 51, 0) && all_are(held_weights, 17, 0), "the lists are zero");
+    check(all_are(held_map, n, WS_ABSENT), "and no code is a node");
+}
+
 static void the_papers_words(void) {
     static const uint32_t rdfs[WS_WORDS_NUMBERS] = WS_RDFS_WORDS;
     check(read_text(TEXT, rdfs) == N, "site of 14");
@@ -234,6 +291,8 @@ static void the_papers_words(void) {
     wrong_none(count);
     feed_all(N);
     weigh(N, SUMMARY, WEIGHTS);
+    take_back(N);
+    take_all(N);
 }
 
 /* The words stand in the text that is written, too. */
@@ -259,6 +318,8 @@ static void other_words(void) {
     ask_words(OTHER_N, count);
     feed_all(OTHER_N);
     weigh(OTHER_N, OTHER_SUMMARY, OTHER_WEIGHTS);
+    take_back(OTHER_N);
+    take_all(OTHER_N);
     write_back();
 }
 
@@ -313,12 +374,34 @@ static void places(void) {
           "a refused call reports place 0");
 }
 
+/* A chain of four nodes is one class. Without its middle they are two classes, though the line still stands for two triples.
+   The slot set free takes a later triple. */
+static void chain_apart(void) {
+    static const uint32_t chain[9] = {5, 8, 7, 7, 8, 9, 9, 8, 10}, more[3] = {7, 8, 5}, one[3] = {5, 8, 5}, two[3] = {5, 8, 7};
+    static const uint32_t rdfs[WS_WORDS_NUMBERS] = WS_RDFS_WORDS;
+    uint32_t is_new = 2;
+    size_t place = 99;
+    memcpy(words, rdfs, sizeof words);
+    check(ws_own_roster(words, WS_WORDS_NUMBERS, chain, 9, roster, N) == WS_OK && open_intake(N, 3) == WS_OK, "chain accepted");
+    for (size_t i = 0; i < 3; i++) {
+        check(feed(N, 3, chain + 3 * i, &is_new, &place) == WS_OK && is_new == 1 && place == i, "a triple of the chain");
+    }
+    check(summarised == 1 && memcmp(held_summary, one, sizeof one) == 0 && held_weights[0] == 3, "one line for all three");
+    check(feed(N, 3, more, &is_new, &place) == WS_REFUSED_FULL && held == 3, "the intake is full");
+    check(remove_triple(N, 3, chain + 3, &place) == WS_OK && place == 1 && held == 2, "the middle is removed");
+    check(summarised == 1 && memcmp(held_summary, two, sizeof two) == 0 && held_weights[0] == 2, "one line for two");
+    check(held_map[5] == 5 && held_map[9] == 5 && held_map[7] == 7 && held_map[10] == 7, "two classes");
+    check(feed(N, 3, chain + 3, &is_new, &place) == WS_OK && is_new == 1 && place == 1 && held == 3, "and fed again");
+    check(summarised == 1 && memcmp(held_summary, one, sizeof one) == 0 && held_weights[0] == 3, "one line for three again");
+}
+
 int main(void) {
     the_papers_words();
     other_words();
     both_summaries();
     refused_words();
     places();
+    chain_apart();
     printf("C example: %d results differ from the papers'\n", failures);
     return failures != 0;
 }

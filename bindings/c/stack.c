@@ -31,6 +31,7 @@ static struct call look_up = {"ws_look_up", WS_STACK_OTHERS, 0};
 static struct call ask = {"ws_ask", WS_STACK_ASK, 0};
 static struct call opening = {"ws_open", WS_STACK_OTHERS, 0};
 static struct call feed = {"ws_feed", WS_STACK_SORTING, 0};
+static struct call removal = {"ws_remove", WS_STACK_SORTING, 0};
 static struct call writing = {"ws_write", WS_STACK_OTHERS, 0};
 static struct call reading = {"ws_read", WS_STACK_READ, 0};
 
@@ -49,7 +50,7 @@ static uint32_t table[3 * MOST], result[3 * MOST], summary[3 * MOST], weights[MO
 static uint32_t query[WS_QUERY_NUMBERS], queries[WS_QUERIES_NUMBERS], words[WS_WORDS_NUMBERS];
 static uint8_t roster[N], own[N], text[65536];
 static size_t given, slots, count, held, summarised, place, text_length;
-static uint32_t status, answer, fed_object;
+static uint32_t status, answer, fed_property, fed_object;
 static uint64_t seed = 1;
 static int failures;
 
@@ -121,8 +122,14 @@ static void run_open(void) {
 }
 
 static void run_feed(void) {
-    status = ws_feed(FIVE, roster, N, table, 3 * MOST, summary, 3 * MOST, weights, MOST, map, N, work, 2 * N, 30, 14,
-                     fed_object, &held, &summarised, &answer, &place);
+    status = ws_feed(FIVE, roster, N, table, 3 * MOST, summary, 3 * MOST, weights, MOST, map, N, work, 2 * N, 30,
+                     fed_property, fed_object, &held, &summarised, &answer, &place);
+}
+
+/* Removes what run_feed feeds. */
+static void run_remove(void) {
+    status = ws_remove(FIVE, roster, N, table, 3 * MOST, summary, 3 * MOST, weights, MOST, map, N, work, 2 * N, 30,
+                       fed_property, fed_object, &held, &summarised, &place);
 }
 
 static void run_write(void) {
@@ -222,8 +229,24 @@ static void measure_tables(void) {
     measure_result(&saturate, run_saturate);
 }
 
+/* Feeds three triples of a property and removes them again. */
+static void measure_calls(uint32_t property) {
+    fed_property = property;
+    for (fed_object = 20; fed_object < 23; fed_object++) {
+        answer = 0;
+        measure(&feed, run_feed, WS_OK);
+        if (answer != 1) {
+            fail("ws_feed", "the triple was not new");
+        }
+    }
+    for (fed_object = 20; fed_object < 23; fed_object++) {
+        measure(&removal, run_remove, WS_OK);
+        measure(&removal, run_remove, WS_REFUSED_MISSING);
+    }
+}
+
 /* An intake with room for a few triples more. Its lists are as feeds leave them: a rising table, its summary and its map; but
-   for the weights, which are zero, as no call goes by them. */
+   for the weights, which are zero: the first feed makes them anew. */
 static void measure_intake(void) {
     mark_nearly_all();
     fill_with_corners();
@@ -236,13 +259,8 @@ static void measure_intake(void) {
     run_summarise();
     memcpy(summary, result, sizeof summary);
     summarised = count;
-    for (fed_object = 20; fed_object < 23; fed_object++) {
-        answer = 0;
-        measure(&feed, run_feed, WS_OK);
-        if (answer != 1) {
-            fail("ws_feed", "the triple was not new");
-        }
-    }
+    measure_calls(14); /* many others have it, and keep the ends of these */
+    measure_calls(16); /* no other has it, so without the last of these the summary is made anew */
 }
 
 static void ask_expecting(uint32_t expected) {
@@ -390,7 +408,7 @@ static void report(const struct call *call) {
 
 int main(void) {
     static const struct call *const all[] = {&own_roster, &saturate, &cliques, &summarise, &summarise_strong, &look_up,
-                                             &ask,        &opening,  &feed,    &writing,   &reading};
+                                             &ask,        &opening,  &feed,    &removal,   &writing,          &reading};
     measure_tables();
     measure_intake();
     measure_ask();

@@ -110,6 +110,52 @@ pub fn typed_table(random: &mut Random, words: Words, n: usize, amount: usize) -
     table
 }
 
+/// The least size of a site for a table of chains, with two properties and four nodes.
+pub const CHAINS_SIZE: usize = 5 + 2 + 4;
+
+/// A table of data alone, with two properties and now and then from a node to itself: with about as many triples as nodes, classes
+/// hang by single triples, and fall apart without them.
+pub fn chains_table(random: &mut Random, words: Words, n: usize, amount: usize) -> Vec<u32> {
+    let mut table = Vec::with_capacity(3 * amount);
+    for _ in 0..amount {
+        let property = free_code(&words, random.below(2));
+        let [node, other] = [(); 2].map(|()| free_code(&words, 2 + random.below(n - 7)));
+        table.extend([node, property, if random.chance(20) { node } else { other }]);
+    }
+    table
+}
+
+/// How many kinds of nodes, properties and classes a table of kinds has.
+const KINDS: usize = 3;
+const KIND_PROPERTIES: usize = 6;
+const KIND_CLASSES: usize = 8;
+
+/// The least size of its site, with four nodes of each kind.
+pub const KINDS_SIZE: usize = 5 + KIND_PROPERTIES + KIND_CLASSES + 4 * KINDS;
+
+/// A table with many nodes of each kind: a property leads from all nodes of one kind to those of another, so that most triples leave
+/// their ends to others. Some are types, some are schema triples, and some data leads to a class.
+pub fn kinds_table(random: &mut Random, words: Words, n: usize, amount: usize) -> Vec<u32> {
+    let each = (n - 5 - KIND_PROPERTIES - KIND_CLASSES) / KINDS;
+    let class = |random: &mut Random| free_code(&words, random.below(KIND_CLASSES));
+    let node = |random: &mut Random, kind: usize| {
+        free_code(&words, KIND_CLASSES + KIND_PROPERTIES + kind % KINDS * each + random.below(each))
+    };
+    let mut table = Vec::with_capacity(3 * amount);
+    for _ in 0..amount {
+        let place = random.below(KIND_PROPERTIES);
+        let (property, subject) = (free_code(&words, KIND_CLASSES + place), node(random, place));
+        table.extend(match random.below(20) {
+            0 => [class(random), words[1], class(random)],
+            1 => [property, words[3], class(random)],
+            2..=4 => [subject, words[0], class(random)],
+            5 => [subject, property, class(random)],
+            _ => [subject, property, node(random, place / 2 + 1)],
+        });
+    }
+    table
+}
+
 /// A wrong number where a code should be: not below n, or reserved. A code below 5 is wrong only where it is a word.
 fn wrong_code(random: &mut Random, words: Words, n: usize) -> u32 {
     match random.below(5) {
@@ -128,6 +174,21 @@ pub fn damage_triple(random: &mut Random, words: Words, n: usize, t: &mut [u32])
         1 => n as u32 + random.below(3) as u32,
         _ => wrong_code(random, words, n),
     };
+}
+
+/// A triple to feed or to remove: from the table, wrong, or of other codes.
+pub fn called(random: &mut Random, words: Words, table: &[u32], n: usize) -> [u32; 3] {
+    let mut t = [0; 3];
+    if table.is_empty() || random.chance(4) {
+        let code = |random: &mut Random| free_code(&words, random.below(n.max(6) - 5));
+        return [code(random), random.below(n + 1) as u32, code(random)];
+    }
+    let i = 3 * random.below(table.len() / 3);
+    t.copy_from_slice(&table[i..i + 3]);
+    if random.chance(6) {
+        damage_triple(random, words, n, &mut t);
+    }
+    t
 }
 
 /// Puts a wrong code in the table, or makes its length wrong.

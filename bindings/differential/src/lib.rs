@@ -3,9 +3,11 @@
 //! must leave.
 
 mod asks;
-mod feeds;
+mod chains;
 mod generate;
 mod hard;
+mod intakes;
+mod kept;
 mod long;
 mod random;
 mod report;
@@ -21,6 +23,7 @@ pub use report::{Call, Report};
 pub use stages::Stage;
 pub use weak_summary_reference::Mistake;
 
+use intakes::Kind;
 use random::Random;
 
 pub struct Options {
@@ -35,12 +38,16 @@ pub struct Options {
     pub shown: usize,
 }
 
-/// Cases of each call for one chain of feeds of each kind.
-const PER_CHAIN: usize = 8;
+/// For one small chain of each kind: cases of each call, and reworks, openings and calls on altered intakes.
+const CALLS: usize = 16;
+const REWORKS: usize = 3;
 
-/// Random cases of each call, both summaries reworked, and two chains of feeds.
+/// Small chains for one over a site of a few hundred triples.
+const CHAINS: usize = 16;
+
+/// Random cases of each call, both summaries reworked, and chains of feeds and of feeds and removals.
 fn turn(random: &mut Random, report: &mut Report, mistake: Mistake) {
-    for _ in 0..PER_CHAIN {
+    for _ in 0..CALLS {
         tables::own_roster(random, report);
         tables::saturate(random, report, mistake);
         tables::cliques(random, report, mistake);
@@ -52,12 +59,18 @@ fn turn(random: &mut Random, report: &mut Report, mistake: Mistake) {
         texts::read(random, report);
         texts::write(random, report);
     }
-    rest::rework(random, report, mistake, &tables::WEAK);
-    rest::rework(random, report, mistake, &tables::STRONG);
-    feeds::open(random, report, mistake);
-    feeds::altered(random, report);
-    feeds::feeds(random, report, mistake);
-    feeds::typed_feeds(random, report, mistake);
+    for _ in 0..REWORKS {
+        rest::rework(random, report, mistake, &tables::WEAK);
+        rest::rework(random, report, mistake, &tables::STRONG);
+        intakes::open(random, report, mistake);
+        intakes::altered(random, report, Kind::Feed);
+        intakes::altered(random, report, Kind::Remove);
+    }
+    chains::feeds(random, report, mistake);
+    chains::mixes(random, report, mistake);
+    if random.below(CHAINS) == 0 {
+        chains::kinds(random, report, mistake);
+    }
 }
 
 pub fn run(options: &Options) -> Report {

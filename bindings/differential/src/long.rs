@@ -1,8 +1,9 @@
 //! Cases of full length: large tables and sites, and lengths at and just over the limits.
 
 use crate::asks;
-use crate::feeds;
+use crate::chains;
 use crate::generate::{self, Site};
+use crate::intakes;
 use crate::random::Random;
 use crate::report::Report;
 use crate::rest;
@@ -126,13 +127,13 @@ fn limits(random: &mut Random, report: &mut Report, mistake: Mistake) {
             tables::compare_look_up(random, report, mistake, list.clone(), [5, 5, object]);
         }
         tables::compare_own_roster(report, (RDFS.to_vec(), list, random.junk_bytes(6)));
-        feeds::open_weighed(random, report, mistake, amount);
+        intakes::open_weighed(random, report, mistake, amount);
     }
     // Words that are right from five codes on, at the largest site only, and nowhere.
     for words in [RDFS, [4, 3, 2, 1, 0], [65_535, 0, 65_534, 1, 2], [0, 1, 2, 3, 65_536]] {
         for n in [4, 5, MAX_SIZE - 1, MAX_SIZE, MAX_SIZE + 1] {
             tables::compare_own_roster(report, (words.to_vec(), Vec::new(), random.junk_bytes(n)));
-            feeds::open_with(random, report, &words, &vec![0; n], 2);
+            intakes::open_with(random, report, &words, &vec![0; n], 2);
             let empty = lent(random, &words, &[], n, 2);
             tables::compare_summarise(report, Mistake::None, &WEAK, empty.clone());
             tables::compare_summarise(report, Mistake::None, &STRONG, empty.clone());
@@ -144,8 +145,10 @@ fn limits(random: &mut Random, report: &mut Report, mistake: Mistake) {
 pub fn all(random: &mut Random, report: &mut Report, mistake: Mistake) {
     limits(random, report, mistake);
     for sizes in [[60, 600, 3_000, 250], [2_000, 1_500, 2_000, 1_500], [65_536, 200, 200, 200]] {
-        feeds::chain(random, report, mistake, generate::table, sizes);
-        feeds::chain(random, report, mistake, generate::typed_table, sizes);
+        for make in [generate::table, generate::typed_table, generate::kinds_table] {
+            chains::feed(random, report, mistake, make, sizes);
+            chains::mix(random, report, mistake, make, sizes);
+        }
     }
     for sizes in [[300, 3_000], [4_000, 20_000], [65_536, 100_000], [65_536, MAX_TRIPLES], [2_000, MAX_TRIPLES]] {
         for words in [RDFS, words::others(random, sizes[0])] {

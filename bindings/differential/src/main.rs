@@ -1,14 +1,14 @@
 //! `differential [--cases K] [--seed S] [--short] [--mistake NAME]`
 //!
-//! Exits with 1 if the engines differ, or if some stage of ask's search is reached by no query. With a mistake, the unverified
-//! engine makes it, and the exit status is 1 if that goes unnoticed.
+//! Exits with 1 if the engines differ, if some stage of ask's search is reached by no query, or if no removal is of some kind. With a
+//! mistake, the unverified engine makes it, and the exit status is 1 if that goes unnoticed.
 
 use std::process::ExitCode;
 use std::time::Instant;
 use weak_summary_differential::{run, Mistake, Options};
 
 fn options() -> Result<Options, String> {
-    let mut options = Options { seed: 1, cases: 1_000_000, long: true, mistake: Mistake::None, shown: usize::MAX };
+    let mut options = Options { seed: 1, cases: 1_500_000, long: true, mistake: Mistake::None, shown: usize::MAX };
     let mut words = std::env::args().skip(1);
     while let Some(word) = words.next() {
         let mut value = || words.next().ok_or(format!("{word} needs a value"));

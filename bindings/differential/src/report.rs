@@ -1,5 +1,6 @@
 //! Cases counted by call and outcome, and the differences found.
 
+use crate::kept::{Path, Removal};
 use crate::stages::{Reach, Stage};
 use std::collections::{BTreeMap, BTreeSet};
 use std::fmt::Debug;
@@ -19,6 +20,8 @@ pub enum Call {
     Open,
     Feed,
     FeedAltered,
+    Remove,
+    RemoveAltered,
     Read,
     Write,
 }
@@ -38,6 +41,8 @@ impl Call {
             Call::Open => "open",
             Call::Feed => "feed",
             Call::FeedAltered => "feed, altered state",
+            Call::Remove => "remove",
+            Call::RemoveAltered => "remove, altered state",
             Call::Read => "read",
             Call::Write => "write",
         }
@@ -69,13 +74,30 @@ pub struct Report {
     stages: BTreeMap<Stage, [usize; 2]>,
     second_parts: [usize; 2],
     fixed_parts: [usize; 2],
+    /// How many accepted removals were of each of these kinds.
+    removals: [usize; REMOVALS.len()],
     pub cases: usize,
     pub differences: usize,
     shown: usize,
 }
 
-/// The numbers of the refusals; 9 and 11 are free.
-const REFUSALS: [usize; 10] = [1, 2, 3, 4, 5, 6, 7, 8, 10, 12];
+/// A name, and whether a removal is counted under it.
+type Counted = (&'static str, fn(Removal) -> bool);
+
+/// What is counted of accepted removals: which way the proved engine takes, and what then happens.
+const REMOVALS: [Counted; 8] = [
+    ("ends kept by others, the line stays", |removal| removal.path == Path::Lighter),
+    ("ends kept by others, the line goes", |removal| removal.path == Path::LineGone),
+    ("made anew", |removal| removal.path == Path::Anew),
+    ("a class falls apart", |removal| removal.parts),
+    ("a node comes back to those with types only", |removal| removal.rejoins),
+    ("a node vanishes", |removal| removal.vanishes),
+    ("the smallest node of a class vanishes", |removal| removal.first_vanishes),
+    ("the last triple of all", |removal| removal.empties),
+];
+
+/// The numbers of the refusals; 11 is free.
+const REFUSALS: [usize; 11] = [1, 2, 3, 4, 5, 6, 7, 8, 9, 10, 12];
 
 /// Where accepted calls with the answer 0 are counted; the others are counted at their status.
 const NO: usize = 13;
@@ -98,6 +120,7 @@ impl Report {
             stages: BTreeMap::new(),
             second_parts: [0; 2],
             fixed_parts: [0; 2],
+            removals: [0; REMOVALS.len()],
             cases: 0,
             differences: 0,
             shown,
@@ -150,6 +173,18 @@ impl Report {
         self.fixed_parts[answer] += reach.fixed_parts as usize;
     }
 
+    /// Counts an accepted removal.
+    pub fn removed(&mut self, removal: Removal) {
+        for (count, (_, is_so)) in self.removals.iter_mut().zip(REMOVALS) {
+            *count += is_so(removal) as usize;
+        }
+    }
+
+    /// How many accepted removals were of each kind.
+    fn removal_lines(&self) -> impl Iterator<Item = (&'static str, usize)> + '_ {
+        REMOVALS.iter().zip(&self.removals).map(|(&(name, _), &count)| (name, count))
+    }
+
     /// How many queries went as far as each stage, and how many had a second part tried, by answer.
     fn lines(&self) -> Vec<(&'static str, [usize; 2])> {
         let count = |stage: Stage| self.stages.get(&stage).copied().unwrap_or_default();
@@ -160,14 +195,16 @@ impl Report {
         lines
     }
 
-    /// Whether there is no difference and every stage was reached.
+    /// Whether there is no difference, every stage was reached, and there were removals of every kind.
     pub fn passed(&self) -> bool {
         self.differences == 0 && self.unreached().is_empty()
     }
 
-    /// What no query reached.
+    /// What no query reached, and of what kind no removal was.
     pub fn unreached(&self) -> Vec<&'static str> {
-        self.lines().into_iter().filter(|(_, by)| by == &[0; 2]).map(|(name, _)| name).collect()
+        let stages = self.lines().into_iter().filter(|(_, by)| by == &[0; 2]).map(|(name, _)| name);
+        let removals = self.removal_lines().filter(|&(_, count)| count == 0).map(|(name, _)| name);
+        stages.chain(removals).collect()
     }
 
     pub fn print(&self) {
@@ -186,15 +223,19 @@ impl Report {
         for (name, [maybe, none]) in self.lines() {
             println!("| {name} | {maybe} | {none} |");
         }
+        println!("\n| removed | cases |\n|---|---|");
+        for (name, count) in self.removal_lines() {
+            println!("| {name} | {count} |");
+        }
         println!("\n{} cases, {} differences{}", self.cases, self.differences, self.missing());
     }
 
-    /// What is left to say of stages that no query reached.
+    /// What is left to say of what was not reached.
     fn missing(&self) -> String {
         let unreached = self.unreached();
         match unreached.is_empty() {
             true => String::new(),
-            false => format!(", reached by no query: {}", unreached.join(", ")),
+            false => format!(", reached by no case: {}", unreached.join(", ")),
         }
     }
 
@@ -206,5 +247,34 @@ impl Report {
     /// Whether a call has a case of this status.
     pub fn has(&self, call: Call, status: usize) -> bool {
         self.counts.get(&call).is_some_and(|by| by[status] > 0)
+    }
+}
+
+#[cfg(test)]
+mod tests {
+    use super::*;
+
+    /// Without one of the kinds of removals a run does not pass.
+    #[test]
+    fn each_kind_of_removal_is_asked_for() {
+        let mut report = Report::new(0);
+        report.stages = Stage::KNOWN.map(|stage| (stage, [1; 2])).into();
+        (report.second_parts, report.fixed_parts) = ([1; 2], [1; 2]);
+        assert_eq!(report.unreached(), REMOVALS.map(|(name, _)| name));
+        let all = Removal {
+            path: Path::Anew,
+            parts: true,
+            rejoins: true,
+            vanishes: true,
+            first_vanishes: true,
+            empties: true,
+        };
+        report.removed(Removal { path: Path::Lighter, ..all });
+        report.removed(Removal { path: Path::LineGone, ..all });
+        assert_eq!(report.unreached(), ["made anew"]);
+        assert!(!report.passed());
+        report.removed(all);
+        assert!(report.passed());
+        assert_eq!(report.removals, [1, 1, 1, 3, 3, 3, 3, 3]);
     }
 }

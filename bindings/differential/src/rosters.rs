@@ -1,6 +1,6 @@
 //! Rosters with one value: at each place of every length from 5 to 40, and at some places of the largest sites.
 
-use crate::feeds;
+use crate::intakes;
 use crate::random::Random;
 use crate::report::Report;
 use crate::tables::{self, Lent};
@@ -15,7 +15,7 @@ fn compare(random: &mut Random, report: &mut Report, words: &Words, n: usize, pl
     for value in VALUES {
         let mut roster = vec![0; n];
         roster[place] = value;
-        feeds::open_with(random, report, words, &roster, 2);
+        intakes::open_with(random, report, words, &roster, 2);
         let lent = Lent {
             words: words.to_vec(),
             table: Vec::new(),

@@ -7,11 +7,11 @@ fn options(mistake: Mistake, shown: usize) -> Options {
 }
 
 #[test]
-fn engines_agree_and_every_refusal_and_stage_occurs() {
+fn engines_agree_and_every_refusal_stage_and_removal_occurs() {
     let report = run(&Options { cases: 60_000, ..options(Mistake::None, 20) });
     assert_eq!(report.differences, 0);
     assert_eq!(report.unreached(), [""; 0]);
-    let refusals: [(Call, &[usize]); 13] = [
+    let refusals: [(Call, &[usize]); 16] = [
         (Call::OwnRoster, &[1, 3, 10]),
         (Call::Saturate, &[1, 2, 3, 4, 5, 10]),
         (Call::Cliques, &[1, 2, 3, 4, 10]),
@@ -23,6 +23,9 @@ fn engines_agree_and_every_refusal_and_stage_occurs() {
         (Call::Ask, &[1, 3, 6, 10, 12]),
         (Call::Open, &[1, 2, 10]),
         (Call::Feed, &[1, 2, 3, 4, 7, 10]),
+        (Call::FeedAltered, &[1, 2, 3, 4, 7, 10]),
+        (Call::Remove, &[1, 2, 3, 4, 9, 10]),
+        (Call::RemoveAltered, &[1, 2, 3, 4, 9, 10]),
         (Call::Read, &[1, 5, 8]),
         (Call::Write, &[1, 3, 5, 10]),
     ];
@@ -35,7 +38,7 @@ fn engines_agree_and_every_refusal_and_stage_occurs() {
 
 #[test]
 fn each_mistake_is_noticed() {
-    for mistake in Mistake::ALL {
+    for mistake in Mistake::all() {
         assert!(run(&options(mistake, 0)).differences > 0, "{}", mistake.name());
     }
 }
@@ -86,6 +89,16 @@ fn feeds_show_wrong_weights() {
     use Mistake::{RepeatWeighs, StaleWeights, WeightLostOnMerge, WeightNeverFalls, WeightsOfOld, WeightsUnchecked};
     for mistake in [RepeatWeighs, StaleWeights, WeightLostOnMerge, WeightNeverFalls, WeightsOfOld, WeightsUnchecked] {
         assert!(run(&options(mistake, 0)).differs(Call::Feed), "{}", mistake.name());
+    }
+}
+
+#[test]
+fn removals_show_their_mistakes() {
+    use Mistake::{EqualsCount, MissingAsFull, PlaceLeft, SlotNotFreed, StaleWeights};
+    let own = Mistake::all().skip_while(|&mistake| mistake != MissingAsFull);
+    for mistake in [EqualsCount, PlaceLeft, StaleWeights].into_iter().chain(own) {
+        let call = if mistake == SlotNotFreed { Call::Feed } else { Call::Remove };
+        assert!(run(&options(mistake, 0)).differs(call), "{}", mistake.name());
     }
 }
 

@@ -5,9 +5,12 @@
 
 mod ask;
 mod checks;
+mod ends;
+mod fast_intake;
 mod intake;
 mod join;
 mod mistake;
+mod removal;
 mod roster;
 mod saturate;
 mod site;
@@ -18,7 +21,8 @@ mod weights;
 mod words;
 
 pub use ask::{ask, ask_with};
-pub use intake::{feed_fast, feed_lists_only, feed_refusal, open, open_with, FastIntake, Fed, PlainIntake, State};
+pub use fast_intake::{feed_fast, feed_lists_only, remove_fast, remove_lists_only, FastIntake};
+pub use intake::{call_refusal, open, open_with, Fed, PlainIntake, Removed, State};
 pub use mistake::Mistake;
 pub use roster::own_roster;
 pub use saturate::{saturate, saturate_with};
@@ -51,5 +55,6 @@ pub const SLOTS: u32 = 5;
 pub const QUERY: u32 = 6;
 pub const FULL: u32 = 7;
 pub const FORM: u32 = 8;
+pub const MISSING: u32 = 9;
 pub const WORDS: u32 = 10;
 pub const RETIRED: u32 = 12;

@@ -1,8 +1,9 @@
 //! The five course mistakes of the scope paper, one that the rules for domains and ranges invite, one that the word table
 //! invites, two that the strong summary invites, four that retired queries invite, two that a limit of the search invites, seven
-//! that places invite, and seven that weights invite, to show that a comparison with a wrong engine is noticed.
+//! that places invite, seven that weights invite, and seventeen that removals invite, to show that a comparison with a wrong engine
+//! is noticed.
 
-use crate::{Words, FULL};
+use crate::{Words, FULL, MISSING};
 
 #[derive(Clone, Copy, PartialEq, Eq, Debug)]
 pub enum Mistake {
@@ -66,78 +67,103 @@ pub enum Mistake {
     WeightsNotZeroed,
     /// A list of weights may have any length.
     WeightsUnchecked,
+    /// A removal of a triple that is not held is refused with 7.
+    MissingAsFull,
+    /// A removal of a wrong triple, or of one that is not covered, is refused with 9.
+    MissingFirst,
+    /// A removal that is refused with 9 reports where the triple would stand.
+    MissingPlace,
+    /// A removal of a triple that is not held is accepted, and alters nothing.
+    MissingAccepted,
+    /// The place of a triple that is removed is the number of triples left.
+    RemovedAtEnd,
+    /// The slot of a triple that was removed stays taken.
+    SlotNotFreed,
+    /// Behind the triples that are left the last one stays.
+    SlotNotZeroed,
+    /// A removal that leaves the map as it is leaves the work list too.
+    WorkLeft,
+    /// A removal that leaves the map as it is lowers no weight.
+    WeightNotLowered,
+    /// A removal that leaves the map as it is keeps the line that then stands for no triple.
+    EmptyLineKept,
+    /// The map stays where both ends stay nodes and the line stays.
+    ClassNotParted,
+    /// The map stays where besides the subject keeps the property.
+    SubjectKeeps,
+    /// An end of data is taken for kept at a side by a triple with another property.
+    AnyProperty,
+    /// An end of data is taken for kept at a side by a triple with the property that has it at the other.
+    EitherSide,
+    /// A code that is no node any more keeps its representative.
+    VanishedStays,
+    /// A code that is no node any more stays the representative of its class.
+    RepresentativeStays,
+    /// A node that has types only again stays by itself.
+    TypedNotRejoined,
 }
 
+/// Each mistake and its name.
+const NAMED: [(Mistake, &str); 46] = [
+    (Mistake::OneRound, "one-round"),
+    (Mistake::TypedOnlyStays, "typed-only-stays"),
+    (Mistake::ClassLinks, "class-links"),
+    (Mistake::NoSourceEqual, "no-source-equal"),
+    (Mistake::FirstSeen, "first-seen"),
+    (Mistake::WrongWay, "wrong-way"),
+    (Mistake::FixedWords, "fixed-words"),
+    (Mistake::NoneMatchesNothing, "none-matches-nothing"),
+    (Mistake::NoneMatchesAll, "none-matches-all"),
+    (Mistake::RetiredFirst, "retired-first"),
+    (Mistake::TypeRetired, "type-retired"),
+    (Mistake::RetiredAnswered, "retired-answered"),
+    (Mistake::RetiredPastCount, "retired-past-count"),
+    (Mistake::UsedUpNone, "used-up-none"),
+    (Mistake::UsedUpMaybe, "used-up-maybe"),
+    (Mistake::EqualsCount, "equals-count"),
+    (Mistake::RepeatsOnce, "repeats-once"),
+    (Mistake::StopsAtFound, "stops-at-found"),
+    (Mistake::AsIfSorted, "as-if-sorted"),
+    (Mistake::PlaceLeft, "place-left"),
+    (Mistake::FullPlace, "full-place"),
+    (Mistake::PlaceAtEnd, "place-at-end"),
+    (Mistake::RepeatWeighs, "repeat-weighs"),
+    (Mistake::WeightsOfOld, "weights-of-old"),
+    (Mistake::WeightLostOnMerge, "weight-lost-on-merge"),
+    (Mistake::WeightNeverFalls, "weight-never-falls"),
+    (Mistake::StaleWeights, "stale-weights"),
+    (Mistake::WeightsNotZeroed, "weights-not-zeroed"),
+    (Mistake::WeightsUnchecked, "weights-unchecked"),
+    (Mistake::MissingAsFull, "missing-as-full"),
+    (Mistake::MissingFirst, "missing-first"),
+    (Mistake::MissingPlace, "missing-place"),
+    (Mistake::MissingAccepted, "missing-accepted"),
+    (Mistake::RemovedAtEnd, "removed-at-end"),
+    (Mistake::SlotNotFreed, "slot-not-freed"),
+    (Mistake::SlotNotZeroed, "slot-not-zeroed"),
+    (Mistake::WorkLeft, "work-left"),
+    (Mistake::WeightNotLowered, "weight-not-lowered"),
+    (Mistake::EmptyLineKept, "empty-line-kept"),
+    (Mistake::ClassNotParted, "class-not-parted"),
+    (Mistake::SubjectKeeps, "subject-keeps"),
+    (Mistake::AnyProperty, "any-property"),
+    (Mistake::EitherSide, "either-side"),
+    (Mistake::VanishedStays, "vanished-stays"),
+    (Mistake::RepresentativeStays, "representative-stays"),
+    (Mistake::TypedNotRejoined, "typed-not-rejoined"),
+];
+
 impl Mistake {
-    pub const ALL: [Mistake; 29] = [
-        Mistake::OneRound,
-        Mistake::TypedOnlyStays,
-        Mistake::ClassLinks,
-        Mistake::NoSourceEqual,
-        Mistake::FirstSeen,
-        Mistake::WrongWay,
-        Mistake::FixedWords,
-        Mistake::NoneMatchesNothing,
-        Mistake::NoneMatchesAll,
-        Mistake::RetiredFirst,
-        Mistake::TypeRetired,
-        Mistake::RetiredAnswered,
-        Mistake::RetiredPastCount,
-        Mistake::UsedUpNone,
-        Mistake::UsedUpMaybe,
-        Mistake::EqualsCount,
-        Mistake::RepeatsOnce,
-        Mistake::StopsAtFound,
-        Mistake::AsIfSorted,
-        Mistake::PlaceLeft,
-        Mistake::FullPlace,
-        Mistake::PlaceAtEnd,
-        Mistake::RepeatWeighs,
-        Mistake::WeightsOfOld,
-        Mistake::WeightLostOnMerge,
-        Mistake::WeightNeverFalls,
-        Mistake::StaleWeights,
-        Mistake::WeightsNotZeroed,
-        Mistake::WeightsUnchecked,
-    ];
+    pub fn all() -> impl Iterator<Item = Mistake> {
+        NAMED.into_iter().map(|(mistake, _)| mistake)
+    }
 
     pub fn name(self) -> &'static str {
-        match self {
-            Mistake::None => "none",
-            Mistake::OneRound => "one-round",
-            Mistake::TypedOnlyStays => "typed-only-stays",
-            Mistake::ClassLinks => "class-links",
-            Mistake::NoSourceEqual => "no-source-equal",
-            Mistake::FirstSeen => "first-seen",
-            Mistake::WrongWay => "wrong-way",
-            Mistake::FixedWords => "fixed-words",
-            Mistake::NoneMatchesNothing => "none-matches-nothing",
-            Mistake::NoneMatchesAll => "none-matches-all",
-            Mistake::RetiredFirst => "retired-first",
-            Mistake::TypeRetired => "type-retired",
-            Mistake::RetiredAnswered => "retired-answered",
-            Mistake::RetiredPastCount => "retired-past-count",
-            Mistake::UsedUpNone => "used-up-none",
-            Mistake::UsedUpMaybe => "used-up-maybe",
-            Mistake::EqualsCount => "equals-count",
-            Mistake::RepeatsOnce => "repeats-once",
-            Mistake::StopsAtFound => "stops-at-found",
-            Mistake::AsIfSorted => "as-if-sorted",
-            Mistake::PlaceLeft => "place-left",
-            Mistake::FullPlace => "full-place",
-            Mistake::PlaceAtEnd => "place-at-end",
-            Mistake::RepeatWeighs => "repeat-weighs",
-            Mistake::WeightsOfOld => "weights-of-old",
-            Mistake::WeightLostOnMerge => "weight-lost-on-merge",
-            Mistake::WeightNeverFalls => "weight-never-falls",
-            Mistake::StaleWeights => "stale-weights",
-            Mistake::WeightsNotZeroed => "weights-not-zeroed",
-            Mistake::WeightsUnchecked => "weights-unchecked",
-        }
+        NAMED.into_iter().find(|&(mistake, _)| mistake == self).map_or("none", |(_, name)| name)
     }
 
     pub fn named(name: &str) -> Option<Mistake> {
-        Mistake::ALL.into_iter().find(|m| m.name() == name)
+        NAMED.into_iter().find(|&(_, known)| known == name).map(|(mistake, _)| mistake)
     }
 
     /// The place after a refusal: 0, or by mistake what was there before or what was counted.
@@ -145,7 +171,16 @@ impl Mistake {
         match self {
             Mistake::PlaceLeft => before,
             Mistake::FullPlace if refusal == FULL => counted,
+            Mistake::MissingPlace if refusal == MISSING => counted,
             _ => 0,
+        }
+    }
+
+    /// The refusal of a removal of a triple that is not held.
+    pub(crate) fn missing(self) -> u32 {
+        match self {
+            Mistake::MissingAsFull => FULL,
+            _ => MISSING,
         }
     }
 
@@ -155,5 +190,20 @@ impl Mistake {
             Mistake::FixedWords => Words::RDFS,
             _ => loaded,
         }
+    }
+}
+
+#[cfg(test)]
+mod tests {
+    use super::*;
+
+    #[test]
+    fn each_mistake_has_a_name() {
+        for (i, (mistake, name)) in NAMED.into_iter().enumerate() {
+            assert_eq!(mistake as usize, i + 1, "{name}");
+            assert_eq!((Mistake::named(name), mistake.name()), (Some(mistake), name));
+        }
+        assert_eq!((Mistake::named("none"), Mistake::None.name()), (None, "none"));
+        assert_eq!(NAMED.len(), Mistake::TypedNotRejoined as usize);
     }
 }

@@ -1,6 +1,6 @@
 //! The calls as the C interface has them: slices and numbers lent, a status returned, which is 0 or the number of the refusal.
-//! The place of [`look_up`] and [`feed`] is written by every call, and is 0 after a refusal; the other numbers stay as they are then,
-//! but for those of [`read`].
+//! The place of [`look_up`], [`feed`] and [`remove`] is written by every call, and is 0 after a refusal; the other numbers stay as
+//! they are then, but for those of [`read`].
 //!
 //! Each is safe: the engine takes slices of every length and content, and exclusive borrows cannot overlap.
 
@@ -128,7 +128,7 @@ pub fn ask(words: &[u32], table: &[u32], map: &[u32], query: &[u32], maybe: &mut
     }
 }
 
-/// What an intake keeps: opening and each feed borrow it.
+/// What an intake keeps: opening, each feed and each removal borrow it.
 pub struct State<'a> {
     pub triples: &'a mut [u32],
     pub summary: &'a mut [u32],
@@ -160,7 +160,7 @@ pub fn open(words: &[u32], roster: &[u8], state: State) -> u32 {
     }
 }
 
-/// What a feed borrows besides its triple.
+/// What a feed or a removal borrows besides its triple.
 pub struct Lent<'a> {
     pub words: &'a [u32],
     pub roster: &'a [u8],
@@ -193,6 +193,35 @@ pub fn feed(lent: Lent, t: [u32; 3], is_new: &mut u32, place: &mut usize) -> u32
             state.held,
             state.summarised,
             is_new,
+            place,
+        )
+    }
+}
+
+pub fn remove(lent: Lent, t: [u32; 3], place: &mut usize) -> u32 {
+    let Lent { words, roster, state, work } = lent;
+    // SAFETY: each pointer comes with the length of its slice, or is a reference.
+    unsafe {
+        ffi::ws_remove(
+            words.as_ptr(),
+            words.len(),
+            roster.as_ptr(),
+            roster.len(),
+            state.triples.as_mut_ptr(),
+            state.triples.len(),
+            state.summary.as_mut_ptr(),
+            state.summary.len(),
+            state.weights.as_mut_ptr(),
+            state.weights.len(),
+            state.map.as_mut_ptr(),
+            state.map.len(),
+            work.as_mut_ptr(),
+            work.len(),
+            t[0],
+            t[1],
+            t[2],
+            state.held,
+            state.summarised,
             place,
         )
     }

@@ -130,6 +130,29 @@ extern "C" {
         place: *mut usize,
     ) -> u32;
 
+    pub fn ws_remove(
+        words: *const u32,
+        words_length: usize,
+        roster: *const u8,
+        roster_length: usize,
+        triples: *mut u32,
+        triples_length: usize,
+        summary: *mut u32,
+        summary_length: usize,
+        weights: *mut u32,
+        weights_length: usize,
+        map: *mut u32,
+        map_length: usize,
+        work: *mut u32,
+        work_length: usize,
+        subject: u32,
+        property: u32,
+        object: u32,
+        held: *mut usize,
+        summarised: *mut usize,
+        place: *mut usize,
+    ) -> u32;
+
     pub fn ws_write(
         words: *const u32,
         words_length: usize,

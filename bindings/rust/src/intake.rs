@@ -1,4 +1,4 @@
-//! An intake that owns its lists, so that nobody can alter them between feeds.
+//! An intake that owns its lists, so that nobody can alter them between calls.
 
 use crate::calls::{self, Lent, State};
 use crate::refusal::accepted;
@@ -60,7 +60,36 @@ impl Intake {
         accepted(calls::feed(self.lent(), t, &mut is_new, &mut place)).map(|()| (is_new == 1, place))
     }
 
-    /// The distinct triples fed, in rising order.
+    /// Takes out a triple that is held, and gives its place: how many of the triples held come before it, which is where it stood in
+    /// [`triples`](Intake::triples). What is left is as if it had never been fed, so classes may fall apart and codes may vanish from
+    /// the map; a later triple takes the slot. A triple that is not held is refused with [`Refusal::Missing`].
+    ///
+    /// ```
+    /// use weak_summary::{own_roster, Intake, Refusal, Words};
+    ///
+    /// // A chain: 10 to 13 are one class, whose line stands for all three triples.
+    /// let chain = [[10, 5, 11], [11, 5, 12], [12, 5, 13]];
+    /// let mut roster = [0; 14];
+    /// own_roster(Words::RDFS, &chain.concat(), &mut roster)?;
+    /// let mut intake = Intake::open(Words::RDFS, &roster, 3)?;
+    /// for t in chain {
+    ///     intake.feed(t)?;
+    /// }
+    /// assert_eq!((intake.summary(), intake.weights()), (&[10, 5, 10][..], &[3][..]));
+    ///
+    /// // Without its middle, 10 and 12 are one class, and 11 and 13 another.
+    /// assert_eq!(intake.remove([11, 5, 12]), Ok(1));
+    /// assert_eq!(intake.triples(), [10, 5, 11, 12, 5, 13]);
+    /// assert_eq!((intake.summary(), intake.weights()), (&[10, 5, 11][..], &[2][..]));
+    /// assert_eq!(intake.remove([11, 5, 12]), Err(Refusal::Missing));
+    /// # Ok::<(), Refusal>(())
+    /// ```
+    pub fn remove(&mut self, t: Triple) -> Result<usize, Refusal> {
+        let mut place = 0;
+        accepted(calls::remove(self.lent(), t, &mut place)).map(|()| place)
+    }
+
+    /// The triples held: the distinct ones fed and not removed since, in rising order.
     pub fn triples(&self) -> &[u32] {
         &self.triples[..3 * self.held]
     }

@@ -12,7 +12,7 @@ pub enum Refusal {
     Roster = 2,
     /// 3: a code of a triple not below N, or reserved as subject or object.
     Code = 3,
-    /// 4: the roster does not cover the table or the fed triple.
+    /// 4: the roster does not cover the table, or the triple fed or removed.
     Cover = 4,
     /// 5: more result triples than slots, or more bytes than the list has.
     Slots = 5,
@@ -22,6 +22,8 @@ pub enum Refusal {
     Full = 7,
     /// 8: the text is not in the site form.
     Form = 8,
+    /// 9: the triple to remove is not held by the intake.
+    Missing = 9,
     /// 10: two of the words are equal, or one is not below N.
     Words = 10,
     /// 12: a counted pattern's property is subclass, subproperty, domain or range.
@@ -32,7 +34,7 @@ impl Refusal {
     /// The refusal with this number.
     pub fn numbered(number: u32) -> Option<Refusal> {
         use Refusal::*;
-        let all = [Length, Roster, Code, Cover, Slots, Query, Full, Form, Words, Retired];
+        let all = [Length, Roster, Code, Cover, Slots, Query, Full, Form, Missing, Words, Retired];
         all.into_iter().find(|r| r.number() == number)
     }
 
@@ -50,6 +52,7 @@ impl Refusal {
             Refusal::Query => "the query is wrong",
             Refusal::Full => "the intake is full",
             Refusal::Form => "the text is not in the site form",
+            Refusal::Missing => "the intake does not hold the triple",
             Refusal::Words => "the words are wrong",
             Refusal::Retired => "the query is retired",
         }

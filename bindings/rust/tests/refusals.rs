@@ -118,13 +118,15 @@ fn ask_refuses_in_order() {
 
 #[test]
 fn numbers_of_refusals() {
-    let numbers = [1, 2, 3, 4, 5, 6, 7, 8, 10, 12];
+    let numbers = [1, 2, 3, 4, 5, 6, 7, 8, 9, 10, 12];
     for number in 0..=20 {
         let refusal = Refusal::numbered(number);
         assert_eq!(refusal.map(Refusal::number), numbers.contains(&number).then_some(number));
     }
     assert_eq!(Refusal::numbered(12), Some(Refusal::Retired));
     assert_eq!(Refusal::Retired.to_string(), "refused with 12: the query is retired");
+    assert_eq!(Refusal::numbered(9), Some(Refusal::Missing));
+    assert_eq!(Refusal::Missing.to_string(), "refused with 9: the intake does not hold the triple");
 }
 
 #[test]
@@ -135,9 +137,13 @@ fn intake_refuses_in_order() {
     let mut intake = Intake::open(RDFS, &roster_of(RDFS, &[10, 5, 11], 12), 1).unwrap();
     assert_eq!(intake.feed([12, 5, 11]), Err(Refusal::Code));
     assert_eq!(intake.feed([10, 6, 11]), Err(Refusal::Cover));
+    assert_eq!(intake.remove([10, 5, 11]), Err(Refusal::Missing));
     assert_eq!(intake.feed([10, 5, 11]), Ok((true, 0)));
     assert_eq!(intake.feed([10, 5, 10]), Err(Refusal::Full));
     assert_eq!(intake.feed([10, 6, 11]), Err(Refusal::Cover));
+    assert_eq!(intake.remove([12, 5, 11]), Err(Refusal::Code));
+    assert_eq!(intake.remove([10, 6, 11]), Err(Refusal::Cover));
+    assert_eq!(intake.remove([10, 5, 10]), Err(Refusal::Missing));
     assert_eq!((intake.triples(), intake.summary()), (&[10, 5, 11][..], &[10, 5, 11][..]));
 }
 

@@ -1,5 +1,5 @@
 //! That every call that takes words refuses a list of another length with 1 and wrong words with 10, straight after 1, and that
-//! nothing is then altered, but for the place of a feed.
+//! nothing is then altered, but for the place of a feed or a removal.
 
 mod common;
 
@@ -45,33 +45,48 @@ impl Lent {
         }
     }
 
-    /// The same after this call was refused: a feed has reported the place 0.
+    /// The same after this call was refused: a feed or a removal has reported the place 0.
     fn refused(name: &str, map_length: usize) -> Lent {
-        let place = if name == "feed" { 0 } else { 9 };
+        let place = if matches!(name, "feed" | "remove") { 0 } else { 9 };
         Lent { place, ..Lent::new(map_length) }
     }
 }
 
-fn feed(words: &[u32], given: &Given, l: &mut Lent) -> u32 {
+/// What an intake is lent besides a triple, and the numbers for its answer.
+type Parts<'a> = (calls::Lent<'a>, &'a mut u32, &'a mut usize);
+
+fn parts<'a>(words: &'a [u32], given: &'a Given, l: &'a mut Lent) -> Parts<'a> {
     let [held, summarised] = &mut l.numbers;
     let (triples, summary, weights, map) = (&mut l.result, &mut l.summary, &mut l.weights, &mut l.map);
     let state = calls::State { triples, summary, weights, map, held, summarised };
-    let lent = calls::Lent { words, roster: &given.roster, state, work: &mut l.work };
+    (calls::Lent { words, roster: &given.roster, state, work: &mut l.work }, &mut l.answer, &mut l.place)
+}
+
+/// The triple that is fed and removed.
+fn last(given: &Given) -> [u32; 3] {
     let end = given.table.len();
-    let t = [given.table[end - 3], given.table[end - 2], given.table[end - 1]];
-    calls::feed(lent, t, &mut l.answer, &mut l.place)
+    [given.table[end - 3], given.table[end - 2], given.table[end - 1]]
 }
 
 fn open(words: &[u32], given: &Given, l: &mut Lent) -> u32 {
-    let [held, summarised] = &mut l.numbers;
-    let (triples, summary, weights, map) = (&mut l.result, &mut l.summary, &mut l.weights, &mut l.map);
-    calls::open(words, &given.roster, calls::State { triples, summary, weights, map, held, summarised })
+    let (lent, _, _) = parts(words, given, l);
+    calls::open(lent.words, lent.roster, lent.state)
+}
+
+fn feed(words: &[u32], given: &Given, l: &mut Lent) -> u32 {
+    let (lent, answer, place) = parts(words, given, l);
+    calls::feed(lent, last(given), answer, place)
+}
+
+fn remove(words: &[u32], given: &Given, l: &mut Lent) -> u32 {
+    let (lent, _, place) = parts(words, given, l);
+    calls::remove(lent, last(given), place)
 }
 
 type Call = fn(&[u32], &Given, &mut Lent) -> u32;
 
-/// The calls that take words; a feed comes straight after an opening.
-const CALLS: [(&str, Call); 9] = [
+/// The calls that take words; a feed comes straight after an opening, and the removal of its triple after it.
+const CALLS: [(&str, Call); 10] = [
     ("own roster", |words, given, l| calls::own_roster(words, &given.table, &mut l.roster)),
     ("saturate", |words, given, l| {
         calls::saturate(words, &given.table, &given.roster, &mut l.result, &mut l.numbers[0])
@@ -88,6 +103,7 @@ const CALLS: [(&str, Call); 9] = [
     ("ask", |words, given, l| calls::ask(words, &given.table, &l.map, &given.query, &mut l.answer)),
     ("open", open),
     ("feed", feed),
+    ("remove", remove),
     ("write", |words, given, l| calls::write(words, 14, &given.table, &mut l.text, &mut l.numbers[0])),
 ];
 

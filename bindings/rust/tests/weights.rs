@@ -2,25 +2,15 @@
 
 mod common;
 
-use common::{roster_of, RDFS, SIX_SATURATED, SIX_SUMMARY};
-use weak_summary::calls::{self, State};
+use common::{lines, roster_of, Lent, Line, RDFS, SIX_SATURATED, SIX_SUMMARY};
 use weak_summary::{Intake, Refusal, Triple, Words, ABSENT};
 
 /// Type at 310; codes 0 to 4 are free. N is 311.
 const RESORT: Words = Words([310, 5, 6, 7, 8]);
 
-/// A line of a summary and its weight.
-type Line = (Triple, u32);
-
 /// An empty intake with the own roster of these triples and a slot for each.
 fn intake_for(words: Words, table: &[Triple]) -> Intake {
     Intake::open(words, &roster_of(words, &table.concat(), 311), table.len()).unwrap()
-}
-
-/// The summary line by line, with the weights.
-fn lines(intake: &Intake) -> Vec<Line> {
-    assert_eq!(intake.summary().len(), 3 * intake.weights().len());
-    intake.summary().chunks_exact(3).map(|t| [t[0], t[1], t[2]]).zip(intake.weights().iter().copied()).collect()
 }
 
 /// Feeds the triples, each new, to an intake for them; after each, the lines must be those beside it.
@@ -179,42 +169,6 @@ fn a_line_of_ten_thousand() {
     assert_eq!(lines(&intake), [([100, 5, 200], 10_000)]);
 }
 
-/// All that an intake of 24 codes is lent.
-#[derive(Clone, PartialEq, Debug)]
-struct Lent {
-    triples: Vec<u32>,
-    summary: Vec<u32>,
-    weights: Vec<u32>,
-    map: Vec<u32>,
-    work: Vec<u32>,
-    counts: [usize; 2],
-    is_new: u32,
-    place: usize,
-}
-
-impl Lent {
-    /// Lists of nines: triples, summary and weights of these lengths.
-    fn nines([triples, summary, weights]: [usize; 3]) -> Lent {
-        let [triples, summary, weights, map, work] = [triples, summary, weights, 24, 48].map(|length| vec![9; length]);
-        Lent { triples, summary, weights, map, work, counts: [9; 2], is_new: 9, place: 9 }
-    }
-
-    /// The lists, the work list, and the two numbers that take a feed's answers.
-    fn parts(&mut self) -> (State<'_>, &mut [u32], &mut u32, &mut usize) {
-        let Lent { triples, summary, weights, map, work, counts: [held, summarised], is_new, place } = self;
-        (State { triples, summary, weights, map, held, summarised }, work, is_new, place)
-    }
-
-    fn open(&mut self, words: &[u32], roster: &[u8]) -> u32 {
-        calls::open(words, roster, self.parts().0)
-    }
-
-    fn feed(&mut self, words: &[u32], roster: &[u8], t: Triple) -> u32 {
-        let (state, work, is_new, place) = self.parts();
-        calls::feed(calls::Lent { words, roster, state, work }, t, is_new, place)
-    }
-}
-
 /// A roster of 24 codes for the properties 5, 6 and 7 and the class 8.
 fn roster() -> Vec<u8> {
     roster_of(RDFS, &[10, 5, 11, 10, 6, 11, 10, 7, 11, 10, 0, 8], 24)
@@ -296,9 +250,7 @@ fn holding_two() -> Lent {
     assert_eq!(lent.open(&RDFS.0, &roster()), 0);
     feed_all(&mut lent, &[[10, 5, 20], [11, 5, 20]]);
     assert_eq!(lent.weights, [2, 0, 0]);
-    lent.work.fill(9);
-    (lent.is_new, lent.place) = (9, 9);
-    lent
+    lent.spoilt()
 }
 
 #[test]

@@ -11,12 +11,12 @@ use Rattle.model.specs.declared.Counted.the-variants.{Count, Refused as counted
 use Rattle.model.specs.declared.Found.{Found}
 use Rattle.model.specs.declared.Found.the-variants.{Yes, No, Refused as found-refused}
 use Rattle.model.specs.declared.Reply.{Reply}
-use Rattle.model.specs.declared.Reply.the-variants.{New, NotNew, Refused as reply-refused}
-use Rattle.model.specs.Outcomes.{Outcome, refused, accepted, refusalNumber, done, counted, found, Answer, answer, new, not-new, replied, placeOf}
+use Rattle.model.specs.declared.Reply.the-variants.{New, NotNew, Removed, Refused as reply-refused}
+use Rattle.model.specs.Outcomes.{Outcome, refused, accepted, refusalNumber, done, counted, found, Answer, answer, Said, new, not-new, removed, replied, placeOf}
 use Rattle.query.specs.declared.Asked.{Asked}
 use Rattle.query.specs.declared.Asked.the-variants.{Maybe, None, Refused as asked-refused}
 use Rattle.query.specs.Ask.{asked}
-use Rattle.call_numbers.specs.Status.{statusOf, valueOr, numbered, bit, bits, newBit, Stores, Reports}
+use Rattle.call_numbers.specs.Status.{statusOf, valueOr, numbered, bit, bits, newBit, Stores, Reports, ReportsPlace}
 
 -- an outcome known by another name
 pub stores-as : {o p : Outcome ℕ} {before status after : ℕ} → o ≡ p → Stores o before status after → Stores p before status after
@@ -83,9 +83,34 @@ pub reply-not-new : (a : Reply) (before k : ℕ) → a ≡ NotNew k → Reports 
 unfolding replied
 reply-not-new a before k e = reported newBit (replied a) not-new k before (ap replied e)
 
+pub reply-removed : (a : Reply) (before k : ℕ) → a ≡ Removed k → Reports newBit (replied a) before 0 0 k
+unfolding replied
+reply-removed a before k e = reported newBit (replied a) removed k before (ap replied e)
+
 pub reply-refuses : (a : Reply) (before : ℕ) (r : Refusal) (s : ℕ) → a ≡ reply-refused r → (place : ℕ) → (s ≡ refusalNumber r) × (place ≡ 0) → Reports newBit (replied a) before s before place
 unfolding replied
 reply-refuses a before r s e place h = refused-report newBit (replied a) (refusalNumber r) s before place (ap replied e) h
+
+-- the status and the place alone, of an answer that reports one
+place-of : (a : Reply) (o : Outcome (Answer Said)) → replied a ≡ o → ReportsPlace (replied a) (statusOf o) (placeOf o)
+place-of a o e = record { answer = ap statusOf (sym e); stores-place = ap placeOf (sym e) }
+
+pub place-new : (a : Reply) (k : ℕ) → a ≡ New k → ReportsPlace (replied a) 0 k
+unfolding replied statusOf placeOf
+place-new a k e = place-of a (accepted (answer new k)) (ap replied e)
+
+pub place-not-new : (a : Reply) (k : ℕ) → a ≡ NotNew k → ReportsPlace (replied a) 0 k
+unfolding replied statusOf placeOf
+place-not-new a k e = place-of a (accepted (answer not-new k)) (ap replied e)
+
+pub place-removed : (a : Reply) (k : ℕ) → a ≡ Removed k → ReportsPlace (replied a) 0 k
+unfolding replied statusOf placeOf
+place-removed a k e = place-of a (accepted (answer removed k)) (ap replied e)
+
+pub place-refuses : (a : Reply) (r : Refusal) (s : ℕ) → a ≡ reply-refused r → (place : ℕ) → (s ≡ refusalNumber r) × (place ≡ 0) → ReportsPlace (replied a) s place
+unfolding replied statusOf placeOf
+place-refuses a r s e place h =
+    let x = place-of a (refused (refusalNumber r)) (ap replied e) in record { answer = h .0 ∙ x .answer; stores-place = h .1 ∙ x .stores-place }
 
 -- ── asked ──
 pub asked-maybe : (a : Asked) (before : ℕ) → a ≡ Maybe → Stores (bits (asked a)) before 0 1

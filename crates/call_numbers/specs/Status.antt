@@ -3,7 +3,7 @@
 use Prim.Native.Nat.{ℕ}
 use mathlib.Core.Path.{_≡_}
 use mathlib.Core.Bool.{Bool, cond}
-use Rattle.model.specs.Outcomes.{Outcome, refused, accepted, Answer, Said, new, not-new, placeOf}
+use Rattle.model.specs.Outcomes.{Outcome, refused, accepted, Answer, Said, new, not-new, removed, placeOf}
 
 -- 01, the column "returned": the refusal's number; 0 for an accepted call
 unfoldable pub statusOf : {A : Type 0} → Outcome A → ℕ
@@ -27,10 +27,11 @@ bit b = cond b 1 0
 abbrev pub bits : Outcome Bool → Outcome ℕ
 bits o = numbered bit o
 
--- new is 1 and not new 0
+-- new is 1, and what is not new 0
 abbrev pub newBit : Said → ℕ
 newBit new = 1
 newBit not-new = 0
+newBit removed = 0
 
 -- the status of a call, and a lent number before and after it
 pub record Stores (outcome : Outcome ℕ) (before status after : ℕ) : Type 0 where
@@ -40,4 +41,9 @@ pub record Stores (outcome : Outcome ℕ) (before status after : ℕ) : Type 0 w
 -- the same of a call that reports a place, with the lent number for it after the call. 02: "A refused call reports place 0"; so every call stores it.
 pub record Reports {A : Type 0} (number : A → ℕ) (outcome : Outcome (Answer A)) (before status after place : ℕ) : Type 0 where
   pub stores : Stores (numbered (λ x. number (x .says)) outcome) before status after
+  pub stores-place : place ≡ placeOf outcome
+
+-- the status and the place alone
+pub record ReportsPlace {A : Type 0} (outcome : Outcome (Answer A)) (status place : ℕ) : Type 0 where
+  pub answer : status ≡ statusOf outcome
   pub stores-place : place ≡ placeOf outcome

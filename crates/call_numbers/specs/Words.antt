@@ -15,7 +15,7 @@ abbrev pub WordsAreFaithful : Type 0
 WordsAreFaithful = (v : Vocabulary) → wordsOf (codes v) ≡ v
 
 -- what a call promises that is lent a list for the five codes: with another length than 5 it is refused with 1, before everything else, and
--- nothing is altered but the place that a feed reports, which is 0; else it is the call with these codes
+-- nothing is altered but the place that a feed or a removal reports, which is 0; else it is the call with these codes
 pub record ByWords (words : List ℕ) (Wrong : Type 0) (Right : Vocabulary → Type 0) : Type 0 where
   pub wrong : (length words ≡ 5 → ⊥) → Wrong
   pub right : length words ≡ 5 → Right (wordsOf words)

@@ -5,7 +5,7 @@ ghost use lib.ListN.{length};
 ghost use Rattle.model.specs.Codes.{codes};
 ghost use Rattle.model.specs.Outcomes.{refusalNumber, done, counted, found, replied};
 ghost use Rattle.query.specs.Ask.{asked};
-ghost use Rattle.call_numbers.specs.Status.{statusOf, bit, bits, newBit, Stores, Reports};
+ghost use Rattle.call_numbers.specs.Status.{statusOf, bit, bits, newBit, Stores, Reports, ReportsPlace};
 ghost use Rattle.call_numbers.specs.Words.{wordsOf};
 use model::Counted;
 use model::Done;
@@ -80,6 +80,32 @@ pub fn reply_status(a: Reply, new: &mut u32, place: &mut usize) -> u32
         },
         Reply::NotNew(k) => {
             *new = 0;
+            *place = k;
+            0
+        },
+        Reply::Removed(k) => {
+            *new = 0; // no feed answers so
+            *place = k;
+            0
+        },
+        Reply::Refused(r) => refused_status(r, place),
+    }
+}
+
+// Stores the place.
+pub fn place_status(a: Reply, place: &mut usize) -> u32
+    ensures { λ s. ⌜ ReportsPlace (replied a) s (now (place .exit)) ⌝ }
+{
+    match a {
+        Reply::New(k) => {
+            *place = k; // no removal answers New or NotNew
+            0
+        },
+        Reply::NotNew(k) => {
+            *place = k;
+            0
+        },
+        Reply::Removed(k) => {
             *place = k;
             0
         },

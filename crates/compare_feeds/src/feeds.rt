@@ -1,12 +1,12 @@
-// Random lists of feeds to random sites.
+// Random lists of feeds to random sites; what random chains of calls share with them.
 ghost use Prim.Native.Nat.{_≤_};
 use comparison_report::report::TALLY;
 use fed_intakes::both::compare;
-use fed_intakes::both::record_feeds;
+use fed_intakes::both::record_calls;
 use fed_intakes::both::record_open;
+use fed_intakes::inputs::Call;
 use fed_intakes::inputs::Case;
-use fed_intakes::inputs::Feed;
-use fed_intakes::inputs::put_feed;
+use fed_intakes::inputs::put_call;
 use lists::word_of;
 use model::Vocabulary;
 use random_sites::random::at_most;
@@ -25,7 +25,7 @@ fn damage(seed: u64, words: Vocabulary, table: &mut [u32], n: usize) {
 }
 
 // A table to be fed, and a roster that may leave a triple uncovered.
-fn make(seed: u64, table: &mut [u32], roster: &mut [u8]) {
+pub fn make(seed: u64, table: &mut [u32], roster: &mut [u8]) {
     sites::make(seed, table, roster);
     let n = roster.len();
     damage(seed, words::right(seed, n), table, n);
@@ -55,7 +55,7 @@ fn spoilt_mark(seed: u64) -> u8 {
 }
 
 // A copy of a roster that is wrong.
-fn spoil(seed: u64, words: Vocabulary, roster: &[u8], spoilt: &mut [u8]) {
+pub fn spoil(seed: u64, words: Vocabulary, roster: &[u8], spoilt: &mut [u8]) {
     copy(roster, spoilt);
     let place = spoilt_place(seed, words, roster.len());
     set_mark(spoilt, place, spoilt_mark(seed));
@@ -69,30 +69,40 @@ fn words_fed(words: Vocabulary, seed: u64, n: usize) -> Vocabulary {
     words
 }
 
-// The triple at place i of a table; now and then with wrong words, a work list of a wrong length, or the spoilt roster.
-fn random_feed(seed: u64, words: Vocabulary, table: &[u32], n: usize, i: usize) -> Feed {
-    let k = 3 * at_most(i, 1000);
-    Feed {
-        work: sites::near(mix(seed, 70), k as u64, 2 * at_most(n, 24)),
+// A feed of the triple at a place of a table, the call at place i; now and then with wrong words, a work list of a wrong length, or the
+// spoilt roster.
+pub fn random_feed(
+    seed: u64,
+    words: Vocabulary,
+    table: &[u32],
+    n: usize,
+    place: usize,
+    i: usize,
+) -> Call {
+    let k = 3 * at_most(place, 1000);
+    let x = (3 * at_most(i, 1000)) as u64;
+    Call {
+        work: sites::near(mix(seed, 70), x, 2 * at_most(n, 24)),
         subject: get(table, k),
         property: get(table, k + 1),
         object: get(table, k + 2),
-        words: words_fed(words, mix(mix(seed, 74), k as u64), n),
-        spoilt: chance(mix(seed, 75), k as u64, 48),
+        words: words_fed(words, mix(mix(seed, 74), x), n),
+        spoilt: chance(mix(seed, 75), x, 48),
+        removes: false,
     }
 }
 
 // The 30 triples of a table, one after the other.
-fn fill_feeds(seed: u64, words: Vocabulary, table: &[u32], n: usize, feeds: &mut [u32]) {
+fn fill_feeds(seed: u64, words: Vocabulary, table: &[u32], n: usize, calls: &mut [u32]) {
     let mut i = 0;
     while i < 30 {
-        put_feed(feeds, i, random_feed(seed, words, table, n, i));
+        put_call(calls, i, random_feed(seed, words, table, n, i, i));
         i += 1;
     }
 }
 
 // The length of an intake's list: few slots, or enough.
-fn room(seed: u64) -> usize
+pub fn room(seed: u64) -> usize
     ensures { λ r. ⌜ r ≤ 97 ⌝ }
 {
     if chance(seed, 80, 2) {
@@ -131,12 +141,12 @@ fn weights_room(seed: u64, r: usize) -> usize {
     slots
 }
 
-fn case_of(seed: u64, n: usize) -> Case {
+fn case_of(seed: u64, n: usize, calls: usize) -> Case {
     let r = room(seed);
     Case {
         words: words::given(seed, n),
         opens: true,
-        feeds: 30,
+        calls: calls,
         triples: r,
         summary: summary_room(seed, r),
         weights: weights_room(seed, r),
@@ -145,25 +155,27 @@ fn case_of(seed: u64, n: usize) -> Case {
 }
 
 // Draws a site, the spoilt roster and the feeds.
-fn draw(seed: u64, table: &mut [u32], roster: &mut [u8], spoilt: &mut [u8], feeds: &mut [u32]) {
+fn draw(seed: u64, table: &mut [u32], roster: &mut [u8], spoilt: &mut [u8], calls: &mut [u32]) {
     make(seed, table, roster);
     let n = roster.len();
     let given = words::given(seed, n);
     spoil(seed, given, roster, spoilt);
-    fill_feeds(seed, given, table, n, feeds);
+    fill_feeds(seed, given, table, n, calls);
 }
 
-fn play<'a>(
+// The first `last` calls of a list on both engines.
+pub fn play<'a>(
     tally: &mut [u64; TALLY],
     seed: u64,
+    last: usize,
     roster: &'a [u8],
     spoilt: &'a [u8],
-    feeds: &[u32],
+    calls: &[u32],
 ) {
-    let case = case_of(seed, roster.len());
-    let state = compare(tally, seed, case, feeds, roster, spoilt);
+    let case = case_of(seed, roster.len(), last);
+    let state = compare(tally, seed, case, calls, roster, spoilt);
     record_open(tally, state);
-    record_feeds(tally, state);
+    record_calls(tally, state);
 }
 
 fn fed_of(
@@ -172,17 +184,17 @@ fn fed_of(
     table: &mut [u32],
     roster: &mut [u8],
     spoilt: &mut [u8],
-    feeds: &mut [u32],
+    calls: &mut [u32],
 ) {
-    draw(seed, table, roster, spoilt, feeds);
-    play(tally, seed, roster, spoilt, feeds);
+    draw(seed, table, roster, spoilt, calls);
+    play(tally, seed, 30, roster, spoilt, calls);
 }
 
 fn fed_case(tally: &mut [u64; TALLY], seed: u64) {
     let mut table = [0u32; 90];
     let mut roster = [0u8; 24];
     let mut spoilt = [0u8; 24];
-    let mut feeds = [0u32; 300];
+    let mut calls = [0u32; 330];
     let n = sites::size(seed);
     fed_of(
         tally,
@@ -190,7 +202,7 @@ fn fed_case(tally: &mut [u64; TALLY], seed: u64) {
         &mut table,
         &mut roster[0..n],
         &mut spoilt[0..n],
-        &mut feeds,
+        &mut calls,
     );
 }
 

@@ -10,16 +10,16 @@ use fed_intakes::both::record_last;
 use fed_intakes::both::record_open;
 use fed_intakes::inputs::Case;
 use fed_intakes::inputs::feed_of;
-use fed_intakes::inputs::put_feed;
+use fed_intakes::inputs::put_call;
 use fed_intakes::intakes::State;
 use lists::rdfs_words;
 use random_sites::sites::SIX_ROSTER;
 use random_sites::words::table_of;
 
 // Rosters with a value over 3, with 0 marked, and with no marks.
-const OVER: [u8; 14] = [0, 0, 0, 0, 0, 2, 2, 2, 1, 1, 0, 0, 0, 4];
+pub const OVER: [u8; 14] = [0, 0, 0, 0, 0, 2, 2, 2, 1, 1, 0, 0, 0, 4];
 
-const ZERO: [u8; 14] = [2, 0, 0, 0, 0, 2, 2, 2, 1, 1, 0, 0, 0, 0];
+pub const ZERO: [u8; 14] = [2, 0, 0, 0, 0, 2, 2, 2, 1, 1, 0, 0, 0, 0];
 
 const NONE: [u8; 14] = [0; 14];
 
@@ -27,11 +27,11 @@ const NONE: [u8; 14] = [0; 14];
 const SIX_MORE: [u8; 15] = [0, 0, 0, 0, 0, 2, 2, 2, 1, 1, 0, 0, 0, 0, 0];
 
 // An intake with the words `first`, 1, 2, 3, `last` and lists of those lengths.
-fn case_of(
+pub fn case_of(
     first: u32,
     last: u32,
     opens: bool,
-    feeds: usize,
+    calls: usize,
     triples: usize,
     summary: usize,
     weights: usize,
@@ -40,7 +40,7 @@ fn case_of(
     Case {
         words: table_of(first, 1, 2, 3, last),
         opens: opens,
-        feeds: feeds,
+        calls: calls,
         triples: triples,
         summary: summary,
         weights: weights,
@@ -116,8 +116,8 @@ fn opens_weighed(tally: &mut [u64; TALLY]) {
     open_weighed(tally, b"1-weight-equal-words", 1, 3, &SIX_ROSTER, 6, 1);
 }
 
-fn put(list: &mut [u32], i: usize, work: usize, s: u32, p: u32, o: u32) {
-    put_feed(list, i, feed_of(rdfs_words(), work, s, p, o));
+pub fn put(list: &mut [u32], i: usize, work: usize, s: u32, p: u32, o: u32) {
+    put_call(list, i, feed_of(rdfs_words(), work, s, p, o));
 }
 
 // Five feeds of an intake of two slots.
@@ -149,8 +149,8 @@ fn last_feed(
     place: usize,
 ) {
     record_last(tally, state);
-    small(FEED, name, refused, state.seen.refused);
-    check(tally, FEED, 0, b"new", state.seen.count == count);
+    small(FEED, name, refused, state.refused);
+    check(tally, FEED, 0, b"new", state.count == count);
     check(tally, FEED, 0, b"place", state.place == place);
 }
 
@@ -178,7 +178,7 @@ fn feed(
     place: usize,
     weights: u64,
 ) {
-    let mut list = [0u32; 110];
+    let mut list = [0u32; 121];
     fill_first(&mut list);
     fill_last(&mut list);
     let case = case_of(0, 4, true, feeds, 8, 7, 2, 14);
@@ -228,7 +228,7 @@ fn rise(
     place: usize,
     weights: u64,
 ) {
-    let mut list = [0u32; 100];
+    let mut list = [0u32; 110];
     fill_rising(&mut list);
     fill_again(&mut list);
     let case = case_of(0, 4, true, feeds, 18, 18, 6, 14);
@@ -269,7 +269,7 @@ fn fall(
     place: usize,
     weights: u64,
 ) {
-    let mut list = [0u32; 60];
+    let mut list = [0u32; 66];
     fill_falling(&mut list);
     let case = case_of(0, 4, true, feeds, 15, 15, 5, 14);
     let state = compare_small(tally, case, &list, &SIX_ROSTER);
@@ -328,7 +328,7 @@ fn merge(
     place: usize,
     weights: u64,
 ) {
-    let mut list = [0u32; 80];
+    let mut list = [0u32; 88];
     fill_merge(&mut list);
     fill_known(&mut list);
     weigh(tally, &list, feeds, name, refused, count, place, weights);
@@ -354,7 +354,7 @@ fn fill_shorten(list: &mut [u32]) {
 }
 
 fn shorten(tally: &mut [u64; TALLY]) {
-    let mut list = [0u32; 50];
+    let mut list = [0u32; 55];
     fill_shorten(&mut list);
     weigh(tally, &list, 4, b"four-lines", 0, 1, 2, 11110);
     weigh(tally, &list, 5, b"four-become-three", 0, 1, 2, 21200);
@@ -369,7 +369,7 @@ fn fill_typed(list: &mut [u32]) {
 }
 
 fn typed(tally: &mut [u64; TALLY]) {
-    let mut list = [0u32; 40];
+    let mut list = [0u32; 44];
     fill_typed(&mut list);
     weigh(tally, &list, 1, b"typed-node", 0, 1, 0, 10000);
     weigh(tally, &list, 2, b"two-typed-nodes", 0, 1, 1, 20000);
@@ -379,8 +379,8 @@ fn typed(tally: &mut [u64; TALLY]) {
 
 // A feed of 10 5 12 that is refused before the state matters: it leaves all as it was, also what no opening left there.
 fn refused_case(tally: &mut [u64; TALLY], case: Case, name: &[u8], expected: u32, roster: &[u8]) {
-    let mut list = [0u32; 10];
-    put_feed(&mut list, 0, feed_of(case.words, 28, 10, 5, 12));
+    let mut list = [0u32; 11];
+    put_call(&mut list, 0, feed_of(case.words, 28, 10, 5, 12));
     let state = compare_small(tally, case, &list, roster);
     last_feed(tally, state, name, expected, 0, 0);
 }

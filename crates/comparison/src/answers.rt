@@ -17,6 +17,7 @@ fn refused(r: Refusal) -> u32 {
         Refusal::Query => 6,
         Refusal::Full => 7,
         Refusal::Form => 8,
+        Refusal::Missing => 9,
         Refusal::Words => 10,
         Refusal::Retired => 12,
     }
@@ -30,7 +31,7 @@ pub fn answer(number: u32, count: usize) -> Answer {
     }
 }
 
-// Yes or no, as a count of 1 or 0, with a place.
+// Yes or no, as a count of 1 or 0, with a place; a count of 2 stands for removed.
 fn answer_at(count: usize, place: usize) -> Answer {
     Answer {
         refused: 0,
@@ -65,6 +66,7 @@ pub fn of_reply(reply: Reply) -> Answer {
     match reply {
         Reply::New(place) => answer_at(1, place),
         Reply::NotNew(place) => answer_at(0, place),
+        Reply::Removed(place) => answer_at(2, place),
         Reply::Refused(r) => answer(refused(r), 0),
     }
 }

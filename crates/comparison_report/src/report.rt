@@ -1,5 +1,5 @@
-// The tally: sixteen counts for each of nine calls, by the number answered, 15 for yes, maybe and new; the last number is that of
-// the differences.
+// The tally: sixteen counts for each of ten calls, by the number answered, 15 for yes, maybe and new, and for a removal of a triple whose
+// ends others keep; the last number is that of the differences.
 use libc::STDOUT_FILENO;
 use random_sites::random::at_most;
 
@@ -10,7 +10,7 @@ pub const YES: u32 = 15;
 // The same as a column; the refusals are before it.
 const YES_COLUMN: usize = 15;
 
-const CALLS: usize = 9;
+const CALLS: usize = 10;
 
 const DIFFERENCES: usize = CALLS * COLUMNS;
 
@@ -37,6 +37,8 @@ pub const ASK: usize = 6;
 pub const OPEN: usize = 7;
 
 pub const FEED: usize = 8;
+
+pub const REMOVE: usize = 9;
 
 fn print(text: &[u8]) {
     io::write_all(STDOUT_FILENO, text);
@@ -79,7 +81,11 @@ fn print_call(call: usize) {
         print(b"open");
         return;
     }
-    print(b"feed");
+    if call == FEED {
+        print(b"feed");
+        return;
+    }
+    print(b"remove");
 }
 
 fn add_one(tally: &mut [u64; TALLY], i: usize) {
@@ -213,6 +219,16 @@ pub fn small(call: usize, name: &[u8], expected: u32, got: u32) {
     print_expected(expected, got);
 }
 
+// The same for a call's triple.
+pub fn small_triple(call: usize, s: u32, p: u32, o: u32, expected: u32, got: u32) {
+    print(b"(small ");
+    print_call(call);
+    print_value(wide(s));
+    print_value(wide(p));
+    print_value(wide(o));
+    print_expected(expected, got);
+}
+
 // The same for a site size.
 pub fn sized(call: usize, n: usize, expected: u32, got: u32) {
     print(b"(small ");
@@ -279,12 +295,18 @@ fn says_yes(call: usize) -> bool {
     call == FEED
 }
 
-// The accepted answers of a call, yes and no apart where it says so.
+// The accepted answers of a call, yes and no apart where it says so, and the two kinds of removals.
 fn print_accepted(tally: &[u64; TALLY], call: usize) {
     if says_yes(call) {
         print(b" yes ");
         print_number(count_of(tally, call, YES as usize));
         print(b" no ");
+        return;
+    }
+    if call == REMOVE {
+        print(b" ends-kept ");
+        print_number(count_of(tally, call, YES as usize));
+        print(b" others ");
         return;
     }
     print(b" accepted ");

@@ -11,7 +11,7 @@ use Rattle.site_form.proofs.Back.{written-is-read}
 use Rattle.site_form.proofs.Queries.{counts-patterns}
 use Rattle.site_form.proofs.Example.{sign-bytes, prints-example, prints-retired}
 use Rattle.site_form.proofs.Answers.{retired-printed}
-use Rattle.demands.specs.Demands.{GraphsRight, StrongGraphsRight, ClosuresRight, WeightExamplesRight, Demand2, Demand3, AtRest, Places, Weights, RosterByWords, SiteForms}
+use Rattle.demands.specs.Demands.{GraphsRight, StrongGraphsRight, ClosuresRight, WeightExamplesRight, RemovalExamplesRight, Demand2, Demand3, AtRest, Places, Weights, Removals, RosterByWords, SiteForms}
 use Rattle.demands.proofs.NoneMeansNone.{none-means-none}
 use Rattle.demands.proofs.Feeds.{list-of-calls, weights-add-up, repeat-alters-no-weight}
 use Rattle.demands.proofs.Routes.{accepted-calls, routes-of-calls, strong-routes-of-calls, shortcut-of-calls, strong-shortcut-of-calls}
@@ -29,6 +29,9 @@ closures-right = graphs.closures-right
 
 pub weight-examples-right : WeightExamplesRight
 weight-examples-right = graphs.weights-right
+
+pub removal-examples-right : RemovalExamplesRight
+removal-examples-right = graphs.removals-right
 
 pub demand-2 : Demand2
 demand-2 =
@@ -86,6 +89,9 @@ places = record { places-right = theorems.places-right; fed-stands = theorems.fe
 
 pub weights : Weights
 weights = record { weights-exact = theorems.weights-exact; weights-add-up = weights-add-up; repeat-alters-no-weight = repeat-alters-no-weight }
+
+pub removals : Removals
+removals = record { leaves-right = theorems.leaves-right; removed-stood = theorems.removed-stood; slot-freed = theorems.slot-freed }
 
 pub roster-by-words : RosterByWords
 roster-by-words = record { word-test = word-test-exact }

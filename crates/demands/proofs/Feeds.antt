@@ -1,4 +1,4 @@
--- A list of feeds after an opening, by their contracts.
+-- A list of calls after an opening, by their contracts.
 -- Assumes nothing.
 use mathlib.Core.Path.{sym, subst, ap}
 use Rattle.model.specs.declared.Vocabulary.{Vocabulary}
@@ -9,11 +9,11 @@ use Rattle.demands.specs.Feeds.{ListOfCalls, WeightsAddUp, RepeatAltersN
 module _ (v : Vocabulary) where
   pub list-of-calls : ListOfCalls v
   unfolding openLeaves
-  list-of-calls roster before empty end fs os o feeds =
-      theorems.whole-list v roster before end fs os (sym (o .answer)) (subst (λ (s : State). Run v roster s fs os end) (o .leaves) feeds)
+  list-of-calls roster before empty end cs os o calls =
+      theorems.whole-list v roster before end cs os (sym (o .answer)) (subst (λ (s : State). Run v roster s cs os end) (o .leaves) calls)
 
   pub weights-add-up : WeightsAddUp v
-  weights-add-up roster before empty end fs os o feeds = list-of-calls roster before empty end fs os o feeds .weighed
+  weights-add-up roster before empty end cs os o calls = list-of-calls roster before empty end cs os o calls .weighed
 
   pub repeat-alters-no-weight : RepeatAltersNoWeight v
-  repeat-alters-no-weight roster s after work work-after t outcome f n = ap (λ (x : State). x .weights) (f .in-any-state .unaltered n)
+  repeat-alters-no-weight roster kind s after work work-after t outcome f n = ap (λ (x : State). x .weights) (f .in-any-state .unaltered n)

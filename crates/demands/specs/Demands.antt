@@ -10,7 +10,7 @@ use mathlib.Core.Option.{none}
 use Rattle.model.specs.declared.Vocabulary.{Vocabulary}
 use Rattle.model.specs.Codes.{rdfs, codes, kind, reserved, wrongWords}
 use Rattle.model.specs.Outcomes.{Outcome, Check, check, decided, wrongSize}
-use Rattle.model.specs.Graphs.{graphs, allRight, closures, allClosed, strongGraphs, allStrongRight, weightExamples, allWeightsRight}
+use Rattle.model.specs.Graphs.{graphs, allRight, closures, allClosed, strongGraphs, allStrongRight, weightExamples, allWeightsRight, removals, allRemovalsRight}
 use Rattle.query.specs.Match.{AskExact, RetiredExact}
 use Rattle.roster_values.specs.Bytes.{WordTest}
 use Rattle.site_form.specs.Reading.{ReadsExactly, CountsPatterns, loaded}
@@ -20,7 +20,7 @@ use Rattle.site_form.specs.Answers.{RetiredPrinted}
 use Rattle.theory.specs.Theorems.{SaturationExact, ConstraintsFollow, CliquesExact, RepresentativesExact, SummaryExact, StrongRepresentativesExact}
 use Rattle.theory.specs.Theorems.{StrongSummaryExact, OwnRosterLeast, ShortcutHolds, RoutesAccepted, StrongShortcutHolds, StrongRoutesAccepted}
 use Rattle.theory.specs.Theorems.{WeakOfStrongHolds, AtRestHolds, StrongAtRestHolds, AgainTheSame, StrongAgainTheSame, AnyOrder, FedInAnyOrder}
-use Rattle.theory.specs.Theorems.{WholeList, PlacesRight, FedStands, WeightsExact}
+use Rattle.theory.specs.Theorems.{WholeList, PlacesRight, FedStands, WeightsExact, LeavesRight, RemovedStood, SlotFreed}
 use Rattle.demands.specs.NoneMeansNone.{NoneMeansNone, StrongNoneMeansNone}
 use Rattle.demands.specs.Feeds.{ListOfCalls, WeightsAddUp, RepeatAltersNoWeight}
 use Rattle.demands.specs.Routes.{AcceptedCalls, RoutesOfCalls, StrongRoutesOfCalls, ShortcutOfCalls, StrongShortcutOfCalls, WeakOfStrongCalls}
@@ -42,6 +42,10 @@ ClosuresRight = T (allClosed closures)
 -- small intakes with the lines of their summary and how many triples each stands for, computed
 abbrev pub WeightExamplesRight : Type 0
 WeightExamplesRight = T (allWeightsRight weightExamples)
+
+-- small intakes from which a triple is removed: the summary afterwards, its weights and the map, computed
+abbrev pub RemovalExamplesRight : Type 0
+RemovalExamplesRight = T (allRemovalsRight removals)
 
 pub record Demand2 : Type 0 where
   pub saturation : (v : Vocabulary) → SaturationExact v
@@ -89,21 +93,30 @@ pub record AtRest : Type 0 where
   pub at-rest-of-calls : (v : Vocabulary) → AtRestOfCalls v
   pub strong-at-rest-of-calls : (v : Vocabulary) → StrongAtRestOfCalls v
 
--- 02: "Technicians who step through a long list want to land where a triple belongs." The contracts of look up and of feeding say which place they
--- report, and `WholeList` says it of every list of feeds: `answers` carries the places.
+-- 02: "Technicians who step through a long list want to land where a triple belongs." The contracts of look up, feeding and removing say which place
+-- they report, and `WholeList` says it of every list of calls: `answers` carries the places.
 pub record Places : Type 0 where
   -- in a rising list the place is where the triple stands or belongs
   pub places-right : PlacesRight
   -- after an accepted feed, new or not, the triple stands there
   pub fed-stands : (v : Vocabulary) → FedStands v
 
--- 02: "Planners judge a summary line by its weight." The contracts of opening and feeding say what the further list holds after each call, and
--- `WholeList` says it of every list of feeds: `stateOf` carries the weights.
+-- 02: "Planners judge a summary line by its weight." The contracts of opening, feeding and removing say what the further list holds after each
+-- call, and `WholeList` says it of every list of calls: `stateOf` carries the weights.
 pub record Weights : Type 0 where
   -- beside each line of the summary the number of held triples whose image it is, never 0, and together as many as are held
   pub weights-exact : (v : Vocabulary) → WeightsExact v
   pub weights-add-up : (v : Vocabulary) → WeightsAddUp v
   pub repeat-alters-no-weight : (v : Vocabulary) → RepeatAltersNoWeight v
+
+-- 02: "The intake gains removal of a held triple". Its contract says what it answers and leaves, `WholeList` and `ListOfCalls` say it of every
+-- mixture of feeds and removals.
+pub record Removals : Type 0 where
+  -- the triple that leaves is gone, and every other stays
+  pub leaves-right : LeavesRight
+  -- it stood at the place that is reported
+  pub removed-stood : (v : Vocabulary) → RemovedStood v
+  pub slot-freed : (v : Vocabulary) → SlotFreed v
 
 -- 02: "The check should take eight roster bytes as one u64 word at a time; show for every u64 that one test of the word passes exactly if
 -- none of its eight bytes is over 3." The code has the test in roster_values' `word_over_three`, which is called for each word; that rosters of

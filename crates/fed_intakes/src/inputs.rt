@@ -1,76 +1,78 @@
-// What an intake is given: its words and lists' lengths, and a list of feeds.
+// What an intake is given: its words and lists' lengths, and a list of calls, each a feed or a removal.
 use model::Vocabulary;
 use random_sites::random::at_most;
 use random_sites::random::get;
 use random_sites::random::set;
 use random_sites::words::table_of;
 
-// The words of the opening, whether there is one, how many feeds there are, and the lengths of triples, summary, weights and map. The
-// lists of an intake that is not opened are junk, its counts 1.
+// The words of the opening, whether there is one, how many calls there are after it, and the lengths of triples, summary, weights and
+// map. The lists of an intake that is not opened are junk, its counts 1.
 pub struct Case {
     pub words: Vocabulary,
     pub opens: bool,
-    pub feeds: usize,
+    pub calls: usize,
     pub triples: usize,
     pub summary: usize,
     pub weights: usize,
     pub map: usize,
 }
 
-// The length of the work list, the triple, the words, and whether the spoilt roster is lent.
-pub struct Feed {
+// The length of the work list, the triple, the words, whether the spoilt roster is lent, and whether the triple is to be removed.
+pub struct Call {
     pub work: usize,
     pub subject: u32,
     pub property: u32,
     pub object: u32,
     pub words: Vocabulary,
     pub spoilt: bool,
+    pub removes: bool,
 }
 
-// No list of feeds is longer.
-pub const MOST_FEEDS: usize = 30;
+// No list of calls is longer.
+pub const MOST_CALLS: usize = 60;
 
-// The numbers of a feed in a list of feeds, in the order above.
-const NUMBERS: usize = 10;
+// The numbers of a call in a list of calls, in the order above.
+pub const NUMBERS: usize = 11;
 
-// The same case with another number of feeds.
-pub fn with_feeds(case: Case, feeds: usize) -> Case {
+// The same case with another number of calls.
+pub fn with_calls(case: Case, calls: usize) -> Case {
     let mut next = case;
-    next.feeds = feeds;
+    next.calls = calls;
     next
 }
 
-fn words_at(feeds: &[u32], k: usize) -> Vocabulary {
+fn words_at(calls: &[u32], k: usize) -> Vocabulary {
     let j = at_most(k, 1000);
     table_of(
-        get(feeds, j),
-        get(feeds, j + 1),
-        get(feeds, j + 2),
-        get(feeds, j + 3),
-        get(feeds, j + 4),
+        get(calls, j),
+        get(calls, j + 1),
+        get(calls, j + 2),
+        get(calls, j + 3),
+        get(calls, j + 4),
     )
 }
 
-// The feed at place i of a list of feeds.
-pub fn feed_at(feeds: &[u32], i: usize) -> Feed {
-    let k = NUMBERS * at_most(i, 30);
-    Feed {
-        work: get(feeds, k) as usize,
-        subject: get(feeds, k + 1),
-        property: get(feeds, k + 2),
-        object: get(feeds, k + 3),
-        words: words_at(feeds, k + 4),
-        spoilt: get(feeds, k + 9) == 1,
+// The call at place i of a list of calls.
+pub fn call_at(calls: &[u32], i: usize) -> Call {
+    let k = NUMBERS * at_most(i, 60);
+    Call {
+        work: get(calls, k) as usize,
+        subject: get(calls, k + 1),
+        property: get(calls, k + 2),
+        object: get(calls, k + 3),
+        words: words_at(calls, k + 4),
+        spoilt: get(calls, k + 9) == 1,
+        removes: get(calls, k + 10) == 1,
     }
 }
 
-fn put_words(feeds: &mut [u32], k: usize, words: Vocabulary) {
+fn put_words(calls: &mut [u32], k: usize, words: Vocabulary) {
     let j = at_most(k, 1000);
-    set(feeds, j, words.instance);
-    set(feeds, j + 1, words.subclass);
-    set(feeds, j + 2, words.subproperty);
-    set(feeds, j + 3, words.domain);
-    set(feeds, j + 4, words.range);
+    set(calls, j, words.instance);
+    set(calls, j + 1, words.subclass);
+    set(calls, j + 2, words.subproperty);
+    set(calls, j + 3, words.domain);
+    set(calls, j + 4, words.range);
 }
 
 fn number_of(yes: bool) -> u32 {
@@ -80,25 +82,34 @@ fn number_of(yes: bool) -> u32 {
     0
 }
 
-// Puts a feed at place i of a list of feeds.
-pub fn put_feed(feeds: &mut [u32], i: usize, feed: Feed) {
-    let k = NUMBERS * at_most(i, 30);
-    set(feeds, k, at_most(feed.work, 131074) as u32);
-    set(feeds, k + 1, feed.subject);
-    set(feeds, k + 2, feed.property);
-    set(feeds, k + 3, feed.object);
-    put_words(feeds, k + 4, feed.words);
-    set(feeds, k + 9, number_of(feed.spoilt));
+// Puts a call at place i of a list of calls.
+pub fn put_call(calls: &mut [u32], i: usize, call: Call) {
+    let k = NUMBERS * at_most(i, 60);
+    set(calls, k, at_most(call.work, 131074) as u32);
+    set(calls, k + 1, call.subject);
+    set(calls, k + 2, call.property);
+    set(calls, k + 3, call.object);
+    put_words(calls, k + 4, call.words);
+    set(calls, k + 9, number_of(call.spoilt));
+    set(calls, k + 10, number_of(call.removes));
 }
 
 // A feed with the roster of the opening.
-pub fn feed_of(words: Vocabulary, work: usize, s: u32, p: u32, o: u32) -> Feed {
-    Feed {
+pub fn feed_of(words: Vocabulary, work: usize, s: u32, p: u32, o: u32) -> Call {
+    Call {
         work: work,
         subject: s,
         property: p,
         object: o,
         words: words,
         spoilt: false,
+        removes: false,
     }
+}
+
+// The removal of a call's triple.
+pub fn removal_of(call: Call) -> Call {
+    let mut next = call;
+    next.removes = true;
+    next
 }

@@ -1,8 +1,9 @@
-// An intake of one engine over lent lists: opened and fed, and everything that each call leaves folded into a digest.
+// An intake of one engine over lent lists: opened, fed and removed from, and everything that each call leaves folded into a digest.
+ghost use Prim.Native.Nat.{_≤_};
+use super::inputs::Call;
 use super::inputs::Case;
-use super::inputs::Feed;
-use super::inputs::MOST_FEEDS;
-use super::inputs::feed_at;
+use super::inputs::MOST_CALLS;
+use super::inputs::call_at;
 use comparison::answers::of_done;
 use comparison::answers::of_reply;
 use comparison::engines::junk;
@@ -15,16 +16,17 @@ use comparison_report::digest::fold_place;
 use comparison_report::report::show_answer;
 use comparison_report::report::show_list;
 use comparison_report::report::wide;
-use intake_adding::FedCounts;
+use intake_calls::CalledCounts;
 use intake_opening::Counts;
 use intake_opening::OpenedCounts;
 use model::Vocabulary;
-use naive_intake::Fed;
+use naive_intake::Called;
+use naive_intake::ends_kept;
 use random_sites::random::at_most;
 use random_sites::words::plain_words;
 
-// What one call answers: a refusal's number, or 0 and a count of 1 for new; the place, which is 0 for an opening; and the record's two
-// counts.
+// What one call answers: a refusal's number, or 0 and a count, 1 for new and 2 for removed; the place, which is 0 for an opening; and the
+// record's two counts.
 struct Step {
     refused: u32,
     count: usize,
@@ -39,17 +41,33 @@ struct Weighed {
     digits: u64,
 }
 
-// The digest of all calls so far with the last answer, the last place, the last weights' sum and digits, the answer of the opening, the
-// record's two counts, and how many feeds had each answer.
+// The last call's answer and place; the two sums of the digest of all calls so far; the last weights' sum and digits, and the last map's
+// digits; the answer of the opening; the record's two counts; how many calls had each answer, and the last one's column there: a refusal's
+// number, 0 or 15 for a feed, and 16 more for a removal. A record inside it would count for two where the checker's search has a limit.
 pub struct State {
-    pub seen: Seen,
+    pub refused: u32,
+    pub count: usize,
     pub place: usize,
+    pub one: u64,
+    pub two: u64,
     pub weight_sum: u64,
     pub weight_digits: u64,
+    pub map_digits: u64,
     pub opened: u32,
     pub held: usize,
     pub summarised: usize,
-    pub answers: [u64; 16],
+    pub answers: [u64; 32],
+    pub column: usize,
+}
+
+// The last answer with the digest.
+pub fn seen_of(state: State) -> Seen {
+    Seen {
+        refused: state.refused,
+        count: state.count,
+        one: state.one,
+        two: state.two,
+    }
 }
 
 fn engine_opened(left: OpenedCounts) -> Step {
@@ -118,7 +136,7 @@ fn open(
     ))
 }
 
-fn engine_fed(left: FedCounts) -> Step {
+fn engine_called(left: CalledCounts) -> Step {
     let reply = left.answer;
     let answer = of_reply(reply);
     Step {
@@ -130,17 +148,20 @@ fn engine_fed(left: FedCounts) -> Step {
     }
 }
 
-fn one_if(yes: bool) -> usize {
-    if yes {
+fn count_of(new: bool, removed: bool) -> usize {
+    if new {
         return 1;
+    }
+    if removed {
+        return 2;
     }
     0
 }
 
-fn plain_fed(left: Fed) -> Step {
+fn plain_called(left: Called) -> Step {
     Step {
         refused: left.refused,
-        count: one_if(left.new),
+        count: count_of(left.new, left.removed),
         place: left.place,
         held: left.held,
         summarised: left.summarised,
@@ -149,7 +170,7 @@ fn plain_fed(left: Fed) -> Step {
 
 fn feed_plain(
     counts: Counts,
-    feed: Feed,
+    call: Call,
     roster: &[u8],
     triples: &mut [u32],
     summary: &mut [u32],
@@ -157,27 +178,25 @@ fn feed_plain(
     map: &mut [u32],
     work: &mut [u32],
 ) -> Step {
-    plain_fed(naive_intake::feed(
+    plain_called(naive_intake::feed(
         counts.held,
         counts.summarised,
-        plain_words(feed.words),
+        plain_words(call.words),
         roster,
         triples,
         summary,
         weights,
         map,
         work,
-        feed.subject,
-        feed.property,
-        feed.object,
+        call.subject,
+        call.property,
+        call.object,
     ))
 }
 
-// A feed with a work list of junk.
-fn feed_one(
-    run: Run,
+fn remove_plain(
     counts: Counts,
-    feed: Feed,
+    call: Call,
     roster: &[u8],
     triples: &mut [u32],
     summary: &mut [u32],
@@ -185,12 +204,34 @@ fn feed_one(
     map: &mut [u32],
     work: &mut [u32],
 ) -> Step {
-    junk(work);
-    let words = feed.words;
-    if run.plain {
-        return feed_plain(counts, feed, roster, triples, summary, weights, map, work);
-    }
-    engine_fed(intake_by_value::feed_by_value(
+    plain_called(naive_intake::remove(
+        counts.held,
+        counts.summarised,
+        plain_words(call.words),
+        roster,
+        triples,
+        summary,
+        weights,
+        map,
+        work,
+        call.subject,
+        call.property,
+        call.object,
+    ))
+}
+
+fn feed_engine(
+    counts: Counts,
+    call: Call,
+    roster: &[u8],
+    triples: &mut [u32],
+    summary: &mut [u32],
+    weights: &mut [u32],
+    map: &mut [u32],
+    work: &mut [u32],
+) -> Step {
+    let words = call.words;
+    engine_called(intake_by_value::feed_by_value(
         counts,
         words,
         roster,
@@ -199,10 +240,61 @@ fn feed_one(
         weights,
         map,
         work,
-        feed.subject,
-        feed.property,
-        feed.object,
+        call.subject,
+        call.property,
+        call.object,
     ))
+}
+
+fn remove_engine(
+    counts: Counts,
+    call: Call,
+    roster: &[u8],
+    triples: &mut [u32],
+    summary: &mut [u32],
+    weights: &mut [u32],
+    map: &mut [u32],
+    work: &mut [u32],
+) -> Step {
+    let words = call.words;
+    engine_called(intake_by_value::remove_by_value(
+        counts,
+        words,
+        roster,
+        triples,
+        summary,
+        weights,
+        map,
+        work,
+        call.subject,
+        call.property,
+        call.object,
+    ))
+}
+
+// A call with a work list of junk.
+fn call_one(
+    plain: bool,
+    counts: Counts,
+    call: Call,
+    roster: &[u8],
+    triples: &mut [u32],
+    summary: &mut [u32],
+    weights: &mut [u32],
+    map: &mut [u32],
+    work: &mut [u32],
+) -> Step {
+    junk(work);
+    if plain {
+        if call.removes {
+            return remove_plain(counts, call, roster, triples, summary, weights, map, work);
+        }
+        return feed_plain(counts, call, roster, triples, summary, weights, map, work);
+    }
+    if call.removes {
+        return remove_engine(counts, call, roster, triples, summary, weights, map, work);
+    }
+    feed_engine(counts, call, roster, triples, summary, weights, map, work)
 }
 
 fn shown(count: usize) -> u32 {
@@ -263,30 +355,111 @@ fn weigh(weights: &[u32]) -> Weighed {
     }
 }
 
-// The answers with one more: by the refusal's number, 15 for new.
-fn with_answer(answers: [u64; 16], step: Step) -> [u64; 16] {
+// A number that has the last sixteen representatives of a map as its digits to base 16, 15 where a code is absent; in a small case no code
+// is over 14.
+fn map_digits(map: &[u32]) -> u64 {
+    let mut digits = 0;
+    let mut i = 0;
+    while i < map.len() {
+        let digit = digit_of(map[i]);
+        digits = std::num::wrapping_add_u64(digits % 1152921504606846976 * 16, digit);
+        i += 1;
+    }
+    digits
+}
+
+fn digit_of(code: u32) -> u64 {
+    at_most(code as usize, 15) as u64
+}
+
+// The column of a feed's answer: 15 for new.
+fn feed_column(step: Step) -> usize
+    ensures { λ r. ⌜ r ≤ 15 ⌝ }
+{
+    if step.count == 1 {
+        return 15;
+    }
+    at_most(step.refused as usize, 15)
+}
+
+// That of a removal's answer, where `kept` says whether other triples keep the ends of the triple: 15 if so, for removed.
+fn removal_column(kept: bool, step: Step) -> usize
+    ensures { λ r. ⌜ r ≤ 15 ⌝ }
+{
+    if step.count == 2 {
+        if kept {
+            return 15;
+        }
+    }
+    at_most(step.refused as usize, 15)
+}
+
+// The columns of removals stand behind those of feeds.
+fn column_of(removes: bool, kept: bool, step: Step) -> usize
+    ensures { λ r. ⌜ r ≤ 31 ⌝ }
+{
+    if removes {
+        return 16 + removal_column(kept, step);
+    }
+    feed_column(step)
+}
+
+// The answers with one more.
+fn with_answer(answers: [u64; 32], column: usize) -> [u64; 32] {
     let mut next = answers;
-    let column = at_most(step.refused as usize + 15 * at_most(step.count, 1), 15);
-    next[column] = std::num::wrapping_add_u64(next[column], 1);
+    let i = at_most(column, 31);
+    next[i] = std::num::wrapping_add_u64(next[i], 1);
+    next
+}
+
+// The state with one answer more.
+fn counted(state: State, removes: bool, kept: bool, step: Step) -> State {
+    let column = column_of(removes, kept, step);
+    let before = state.answers;
+    let after = with_answer(before, column);
+    let mut next = state;
+    next.answers = after;
+    next.column = column;
     next
 }
 
 // Before any call.
 fn start() -> State {
     State {
-        seen: Seen {
-            refused: 0,
-            count: 0,
-            one: 1,
-            two: 1,
-        },
+        refused: 0,
+        count: 0,
         place: 0,
+        one: 1,
+        two: 1,
         weight_sum: 0,
         weight_digits: 0,
+        map_digits: 0,
         opened: 0,
         held: 1,
         summarised: 1,
-        answers: [0; 16],
+        answers: [0; 32],
+        column: 0,
+    }
+}
+
+// The state after a call that leaves these lists, with the digest of what it leaves.
+fn after(state: State, step: Step, seen: Seen, weights: &[u32], map: &[u32]) -> State {
+    let answers = state.answers;
+    let weighed = weigh(weights);
+    State {
+        refused: step.refused,
+        count: step.count,
+        place: step.place,
+        one: seen.one,
+        two: seen.two,
+        weight_sum: weighed.sum,
+        weight_digits: weighed.digits,
+        map_digits: map_digits(map),
+        opened: state.opened,
+        held: step.held,
+        summarised: step.summarised,
+        answers: answers,
+        column: state.column,
     }
 }
 
@@ -300,18 +473,11 @@ fn fold_opened(
     map: &[u32],
 ) -> State {
     let state = start();
-    let seen = fold_step(run, state.seen, step);
-    let weighed = weigh(weights);
-    State {
-        seen: fold_lists(run, seen, triples, summary, weights, map),
-        place: step.place,
-        weight_sum: weighed.sum,
-        weight_digits: weighed.digits,
-        opened: step.refused,
-        held: step.held,
-        summarised: step.summarised,
-        answers: [0; 16],
-    }
+    let seen = fold_step(run, seen_of(state), step);
+    let all = fold_lists(run, seen, triples, summary, weights, map);
+    let mut next = after(state, step, all, weights, map);
+    next.opened = step.refused;
+    next
 }
 
 fn opened(
@@ -347,7 +513,7 @@ fn begin(
     junk_all(triples, summary, weights, map);
     if case.opens {
         return opened(
-            shown_at(run, 0, case.feeds),
+            shown_at(run, 0, case.calls),
             case.words,
             roster,
             triples,
@@ -367,10 +533,12 @@ fn shown_at(run: Run, calls: usize, last: usize) -> Run {
     }
 }
 
-// Folds what a feed leaves.
-fn fold_fed(
+// Folds what a call leaves, and counts its answer.
+fn fold_called(
     run: Run,
     state: State,
+    removes: bool,
+    kept: bool,
     step: Step,
     triples: &[u32],
     summary: &[u32],
@@ -378,27 +546,32 @@ fn fold_fed(
     map: &[u32],
     work: &[u32],
 ) -> State {
-    let seen = fold_step(run, state.seen, step);
-    let next = fold_lists(run, seen, triples, summary, weights, map);
-    let before = state.answers;
-    let answers = with_answer(before, step);
-    let weighed = weigh(weights);
-    State {
-        seen: fold_list(run, next, b"work", work),
-        place: step.place,
-        weight_sum: weighed.sum,
-        weight_digits: weighed.digits,
-        opened: state.opened,
-        held: step.held,
-        summarised: step.summarised,
-        answers: answers,
-    }
+    let seen = fold_step(run, seen_of(state), step);
+    let lists = fold_lists(run, seen, triples, summary, weights, map);
+    let all = fold_list(run, lists, b"work", work);
+    after(counted(state, removes, kept, step), step, all, weights, map)
 }
 
-fn fed(
+// Whether the triple of a removal has ends that other held triples keep.
+fn kept(call: Call, roster: &[u8], triples: &[u32], held: usize) -> bool {
+    if !call.removes {
+        return false;
+    }
+    ends_kept(
+        plain_words(call.words),
+        roster,
+        triples,
+        held,
+        call.subject,
+        call.property,
+        call.object,
+    )
+}
+
+fn called(
     run: Run,
     state: State,
-    feed: Feed,
+    call: Call,
     roster: &[u8],
     triples: &mut [u32],
     summary: &mut [u32],
@@ -410,10 +583,11 @@ fn fed(
         held: state.held,
         summarised: state.summarised,
     };
-    let step = feed_one(
-        run,
+    let stays = kept(call, roster, triples, state.held);
+    let step = call_one(
+        run.plain,
         counts,
-        feed,
+        call,
         roster,
         triples,
         summary,
@@ -421,7 +595,18 @@ fn fed(
         map,
         work,
     );
-    fold_fed(run, state, step, triples, summary, weights, map, work)
+    fold_called(
+        run,
+        state,
+        call.removes,
+        stays,
+        step,
+        triples,
+        summary,
+        weights,
+        map,
+        work,
+    )
 }
 
 // The roster of the opening, or the spoilt one.
@@ -432,11 +617,11 @@ fn lent<'a>(yes: bool, roster: &'a [u8], spoilt: &'a [u8]) -> &'a [u8] {
     roster
 }
 
-// A feed with its roster and a work list of its length.
-fn fed_at<'a>(
+// A call with its roster and a work list of its length.
+fn called_at<'a>(
     run: Run,
     state: State,
-    feed: Feed,
+    call: Call,
     roster: &'a [u8],
     spoilt: &'a [u8],
     triples: &mut [u32],
@@ -445,12 +630,12 @@ fn fed_at<'a>(
     map: &mut [u32],
     work: &mut [u32],
 ) -> State {
-    let w = at_most(feed.work, work.len());
-    fed(
+    let w = at_most(call.work, work.len());
+    called(
         run,
         state,
-        feed,
-        lent(feed.spoilt, roster, spoilt),
+        call,
+        lent(call.spoilt, roster, spoilt),
         triples,
         summary,
         weights,
@@ -459,20 +644,20 @@ fn fed_at<'a>(
     )
 }
 
-// No feed follows a refused opening.
-fn feeds_after(opened: u32, feeds: usize) -> usize {
+// No call follows a refused opening.
+fn calls_after(opened: u32, calls: usize) -> usize {
     if opened != 0 {
         return 0;
     }
-    at_most(feeds, MOST_FEEDS)
+    at_most(calls, MOST_CALLS)
 }
 
-// So many feeds, one after the other.
-fn feed_all<'a>(
+// So many calls, one after the other.
+fn call_all<'a>(
     run: Run,
     state: State,
     last: usize,
-    feeds: &[u32],
+    calls: &[u32],
     roster: &'a [u8],
     spoilt: &'a [u8],
     triples: &mut [u32],
@@ -484,11 +669,11 @@ fn feed_all<'a>(
     let mut next = state;
     let mut i = 0;
     while i < last {
-        let calls = i + 1;
-        next = fed_at(
-            shown_at(run, calls, last),
+        let made = i + 1;
+        next = called_at(
+            shown_at(run, made, last),
             next,
-            feed_at(feeds, i),
+            call_at(calls, i),
             roster,
             spoilt,
             triples,
@@ -497,7 +682,7 @@ fn feed_all<'a>(
             map,
             work,
         );
-        i = calls;
+        i = made;
     }
     next
 }
@@ -506,7 +691,7 @@ fn feed_all<'a>(
 fn over<'a>(
     run: Run,
     case: Case,
-    feeds: &[u32],
+    calls: &[u32],
     roster: &'a [u8],
     spoilt: &'a [u8],
     triples: &mut [u32],
@@ -516,11 +701,11 @@ fn over<'a>(
     work: &mut [u32],
 ) -> State {
     let state = begin(run, case, roster, triples, summary, weights, map);
-    feed_all(
+    call_all(
         run,
         state,
-        feeds_after(state.opened, case.feeds),
-        feeds,
+        calls_after(state.opened, case.calls),
+        calls,
         roster,
         spoilt,
         triples,
@@ -531,7 +716,7 @@ fn over<'a>(
     )
 }
 
-fn small<'a>(run: Run, case: Case, feeds: &[u32], roster: &'a [u8], spoilt: &'a [u8]) -> State {
+fn small<'a>(run: Run, case: Case, calls: &[u32], roster: &'a [u8], spoilt: &'a [u8]) -> State {
     let mut triples = [0u32; 100];
     let mut summary = [0u32; 100];
     let mut weights = [0u32; 100];
@@ -544,7 +729,7 @@ fn small<'a>(run: Run, case: Case, feeds: &[u32], roster: &'a [u8], spoilt: &'a 
     over(
         run,
         case,
-        feeds,
+        calls,
         roster,
         spoilt,
         &mut triples[0..t],
@@ -555,7 +740,7 @@ fn small<'a>(run: Run, case: Case, feeds: &[u32], roster: &'a [u8], spoilt: &'a 
     )
 }
 
-fn large<'a>(run: Run, case: Case, feeds: &[u32], roster: &'a [u8], spoilt: &'a [u8]) -> State {
+fn large<'a>(run: Run, case: Case, calls: &[u32], roster: &'a [u8], spoilt: &'a [u8]) -> State {
     let mut triples = [0u32; 6];
     let mut summary = [0u32; 6];
     let mut weights = [0u32; 2];
@@ -565,7 +750,7 @@ fn large<'a>(run: Run, case: Case, feeds: &[u32], roster: &'a [u8], spoilt: &'a 
     over(
         run,
         case,
-        feeds,
+        calls,
         roster,
         spoilt,
         &mut triples,
@@ -580,12 +765,12 @@ fn large<'a>(run: Run, case: Case, feeds: &[u32], roster: &'a [u8], spoilt: &'a 
 pub fn all_calls<'a>(
     run: Run,
     case: Case,
-    feeds: &[u32],
+    calls: &[u32],
     roster: &'a [u8],
     spoilt: &'a [u8],
 ) -> State {
     if roster.len() <= 25 {
-        return small(run, case, feeds, roster, spoilt);
+        return small(run, case, calls, roster, spoilt);
     }
-    large(run, case, feeds, roster, spoilt)
+    large(run, case, calls, roster, spoilt)
 }

@@ -12,7 +12,7 @@ use Rattle.lists.specs.Flat.{at, RisingPart, Bound}
 use Rattle.builder.specs.Builder.{first}
 use Rattle.intake_insertion.specs.Insertion.{Inserted}
 use Rattle.intake_insertion.proofs.Insertion.{inserted-first}
-use Rattle.intake_weighing.proofs.Listed.{listed-first, listed-rest, listed-by}
+use Rattle.intake_insertion.proofs.Listed.{listed-first, listed-rest, listed-by}
 
 module _ (l l′ : List ℕ) (H : List Triple) (i : ℕ) (t : Triple) (is : l ≡ listed (length l) H) (room : 3 * length H + 2 < length l) where
   pub held-first : first l (length H) ≡ H

@@ -1,4 +1,3 @@
 pub mod Quick
 pub mod Held
-pub mod AnyState
 pub mod Adding

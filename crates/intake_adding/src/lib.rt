@@ -1,16 +1,17 @@
 // Taking in a triple that is not held.
 
-ghost use mathlib.Core.Path.{_≡_};
 ghost use Prim.Native.Nat.{_/_, _<_, _≤_};
 ghost use lib.ListN.{length};
 ghost use Rattle.model.specs.Outcomes.{replied};
 ghost use Rattle.intake_opening.specs.Opening.{atEntry, atExit};
-ghost use Rattle.intake_adding.specs.Adding.{FeedReady, AddCall, withCounts};
+ghost use Rattle.intake_calls.specs.Calls.{Ready};
+ghost use Rattle.intake_adding.specs.Adding.{AddCall};
+use intake_calls::CalledCounts;
+use intake_calls::with_counts;
 use intake_insertion::ImageAt;
 use intake_insertion::held_wrong;
 use intake_insertion::image_place;
 use intake_insertion::insert_at;
-use intake_opening::Counts;
 use intake_weighing::increment;
 use intake_weighing::renew;
 use lists::clear;
@@ -18,22 +19,6 @@ use model::Refusal;
 use model::Reply;
 use model::Triple;
 use model::Vocabulary;
-
-// What a feed leaves: the answer and the record.
-pub struct FedCounts {
-    pub answer: Reply,
-    pub counts: Counts,
-}
-
-// An answer with the counts after it.
-pub fn with_counts(answer: Reply, held: usize, summarised: usize) -> FedCounts
-    ensures { λ x. ⌜ x ≡ withCounts answer held summarised ⌝ }
-{
-    FedCounts {
-        answer,
-        counts: Counts { held, summarised },
-    }
-}
 
 // Takes in a triple that changes a class or the summary, at its place i: summary, weights and map are made anew. Only an intake
 // altered by hand holds wrong triples.
@@ -49,8 +34,8 @@ fn add_anew(
     work: &mut [u32],
     t: Triple,
     i: usize,
-) -> FedCounts
-    requires { ⌜ FeedReady words (now roster) (now triples) (now summary) (now weights) (now map) (now work) t
+) -> CalledCounts
+    requires { ⌜ Ready words (now roster) (now triples) (now summary) (now weights) (now map) (now work) t
         × (i ≤ held) × (held < length (now triples) / 3) ⌝ }
     ensures { λ r. ⌜ AddCall words (now (roster .entry))
         (atEntry triples summary weights map held summarised) (now (work .entry)) t i (replied (r .answer))
@@ -78,8 +63,8 @@ pub fn add(
     work: &mut [u32],
     t: Triple,
     i: usize,
-) -> FedCounts
-    requires { ⌜ FeedReady words (now roster) (now triples) (now summary) (now weights) (now map) (now work) t
+) -> CalledCounts
+    requires { ⌜ Ready words (now roster) (now triples) (now summary) (now weights) (now map) (now work) t
         × (i ≤ held) × (held < length (now triples) / 3) ⌝ }
     ensures { λ r. ⌜ AddCall words (now (roster .entry))
         (atEntry triples summary weights map held summarised) (now (work .entry)) t i (replied (r .answer))

@@ -1,2 +1,3 @@
 pub mod Insertion
 pub mod Places
+pub mod Listed

@@ -50,7 +50,7 @@ pub enum ImageAt {
     At(usize),
 }
 
-// The place of t's image. Where it is known, neither the map nor the summary changes with t.
+// The place of t's image. Where it is known, taking t in changes neither the map nor the summary; of taking t out it says nothing.
 pub fn image_place(summary: &[u32], summarised: usize, map: &[u32], t: Triple) -> ImageAt
     requires { ⌜ Below (length (now map)) t ⌝ }
     ensures { λ r. ⌜ ImageFound (now (summary .entry)) summarised (now (map .entry)) t r ⌝ }

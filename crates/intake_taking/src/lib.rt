@@ -2,11 +2,11 @@
 
 ghost use Rattle.model.specs.Outcomes.{replied};
 ghost use Rattle.intake_opening.specs.Opening.{atEntry, atExit};
-ghost use Rattle.intake_adding.specs.Adding.{FeedReady};
-ghost use Rattle.intake_taking.specs.Feeding.{Taken};
-use intake_adding::FedCounts;
+ghost use Rattle.model.specs.Intake.{feeding};
+ghost use Rattle.intake_calls.specs.Calls.{Ready, Passing};
 use intake_adding::add;
-use intake_adding::with_counts;
+use intake_calls::CalledCounts;
+use intake_calls::with_counts;
 use intake_insertion::stands_at;
 use lists::clear;
 use lists::lower_bound;
@@ -27,9 +27,9 @@ pub fn take_in(
     map: &mut [u32],
     work: &mut [u32],
     t: Triple,
-) -> FedCounts
-    requires { ⌜ FeedReady words (now roster) (now triples) (now summary) (now weights) (now map) (now work) t ⌝ }
-    ensures { λ r. ⌜ Taken words (now (roster .entry))
+) -> CalledCounts
+    requires { ⌜ Ready words (now roster) (now triples) (now summary) (now weights) (now map) (now work) t ⌝ }
+    ensures { λ r. ⌜ Passing words (now (roster .entry)) feeding
         (atEntry triples summary weights map held summarised) (now (work .entry)) t (replied (r .answer))
         (atExit triples summary weights map (r .counts .held) (r .counts .summarised)) (now (work .exit)) ⌝ }
 {

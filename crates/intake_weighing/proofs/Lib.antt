@@ -1,3 +1,3 @@
-pub mod Listed
 pub mod Weighing
 pub mod Renewing
+pub mod Anew

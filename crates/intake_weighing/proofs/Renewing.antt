@@ -30,7 +30,7 @@ use Rattle.lists.proofs.Places.{rising-places}
 use Rattle.builder.specs.Builder.{first}
 use Rattle.summarise.specs.Condensed.{condensedOutcome, Condensed}
 use Rattle.intake_weighing.specs.Weighing.{Weighable, Renewable, Renewed}
-use Rattle.intake_weighing.proofs.Listed.{listed-first}
+use Rattle.intake_insertion.proofs.Listed.{listed-first}
 
 module _ (v : Vocabulary) (triples : List ℕ) (count : ℕ) (roster sums weighed map₀ work : List ℕ) (R : Renewable v triples count roster sums weighed map₀ work) where
   abbrev ts : List Triple

@@ -1,22 +1,24 @@
 -- The small graphs of 01 that are marked to be proved, as one table: with the own roster, the saturation, the plain summary, the map and
 -- both clique lists of each; the last two have reserved codes of their own (02). Behind it, the saturations of small schemas, for the rules of 02,
--- the strong summaries of small graphs, and the weights of what an intake holds.
+-- the strong summaries of small graphs, the weights of what an intake holds, and what is left of it when a triple is removed.
 -- Assumes nothing.
 use Prim.Native.Nat.{ℕ}
 use mathlib.Core.Bool.{Bool, true, false, not, _&&_}
 use mathlib.Core.List.{List, [], _∷_}
 use lib.Dec.{eqb}
+use Rattle.model.specs.declared.Triple.{Triple}
 use Rattle.model.specs.declared.Vocabulary.{Vocabulary}
 use Rattle.model.specs.Codes.{absent, rdfs, vocabulary}
 use Rattle.model.specs.Lists.{any, all}
-use Rattle.model.specs.Triples.{triples, flat, sorted}
+use Rattle.model.specs.Triples.{triple, triples, flat, sorted}
 use Rattle.model.specs.Roster.{ownRoster}
 use Rattle.model.specs.Saturation.{saturation}
 use Rattle.model.specs.Cliques.{source, target, cliques}
 use Rattle.model.specs.Classes.{mapOf, strongMapOf}
 use Rattle.model.specs.Summary.{summary, weights, strongSummary}
-use Rattle.model.specs.Outcomes.{Check}
+use Rattle.model.specs.Outcomes.{Check, placeOf}
 use Rattle.model.specs.Calls.{tableChecks}
+use Rattle.model.specs.Intake.{judgedRemoval, heldThen}
 
 unfoldable pub equal : List ℕ → List ℕ → Bool
 equal [] [] = true
@@ -335,4 +337,73 @@ weightExamples =
     ∷ {- a word table that falls -}
     weightExample (vocabulary 9 8 7 6 5) 10 (0 ∷ 2 ∷ 3 ∷ 3 ∷ 9 ∷ 1 ∷ 4 ∷ 2 ∷ 3 ∷ 4 ∷ 9 ∷ 1 ∷ [])
     (0 ∷ 2 ∷ 3 ∷ 0 ∷ 9 ∷ 1 ∷ 3 ∷ 9 ∷ 1 ∷ []) (2 ∷ 1 ∷ 1 ∷ [])
+    ∷ []
+
+-- triples in rising order, as an intake holds them, with their own roster, and the removal of one of them: its place, and the lines of the summary
+-- afterwards, how many triples each stands for, and the map. 02: "Classes may fall apart, nodes may vanish from the map, and a node may come back
+-- to the typed-only class."
+pub record RemovalExample : Type 0 where
+  pub words : Vocabulary
+  pub size : ℕ
+  pub held : List ℕ
+  pub removed : Triple
+  pub place : ℕ
+  pub lines : List ℕ
+  pub counts : List ℕ
+  pub representatives : List ℕ
+
+unfoldable pub removalRight : RemovalExample → Bool
+removalRight g =
+    let v = g .words in
+    let H = triples (g .held) in
+    let own = ownRoster v (g .size) H in
+    let outcome = judgedRemoval H (g .removed) in
+    let rest = heldThen outcome (g .removed) H in
+    not (any (λ (c : Check). c .fails) (tableChecks v false (g .held) own))
+    && (equal (flat (sorted H)) (g .held)
+    && (eqb (placeOf outcome) (g .place)
+    && (equal (flat (summary v own rest)) (g .lines)
+    && (equal (weights v own rest) (g .counts)
+    && equal (mapOf v own rest) (g .representatives)))))
+
+unfoldable pub allRemovalsRight : List RemovalExample → Bool
+allRemovalsRight gs = all removalRight gs
+
+abbrev pub removal : Vocabulary → ℕ → List ℕ → Triple → ℕ → List ℕ → List ℕ → List ℕ → RemovalExample
+removal v n h t k l w m = record { words = v; size = n; held = h; removed = t; place = k; lines = l; counts = w; representatives = m }
+
+abbrev pub removals : List RemovalExample
+removals =
+    {- the middle of a chain: all four nodes were one class, whose line weighed 3; both ends stay nodes and the line keeps two, but the class falls apart -}
+    removal rdfs 11 (5 ∷ 8 ∷ 7 ∷ 7 ∷ 8 ∷ 9 ∷ 9 ∷ 8 ∷ 10 ∷ []) (triple 7 8 9) 1
+    (5 ∷ 8 ∷ 7 ∷ []) (2 ∷ [])
+    (absent ∷ absent ∷ absent ∷ absent ∷ absent ∷ 5 ∷ absent ∷ 7 ∷ absent ∷ 5 ∷ 7 ∷ [])
+    ∷ {- a loop: the line weighed 2, the subject keeps the property and both ends stay nodes, but 8 leaves the class of 5 -}
+    removal rdfs 9 (5 ∷ 6 ∷ 5 ∷ 5 ∷ 6 ∷ 8 ∷ []) (triple 5 6 5) 0
+    (5 ∷ 6 ∷ 8 ∷ []) (1 ∷ [])
+    (absent ∷ absent ∷ absent ∷ absent ∷ absent ∷ 5 ∷ absent ∷ absent ∷ 8 ∷ [])
+    ∷ {- the only data triple: 11 comes back to the typed-only class, and 12 vanishes -}
+    removal rdfs 13 (10 ∷ 0 ∷ 8 ∷ 11 ∷ 0 ∷ 9 ∷ 11 ∷ 5 ∷ 12 ∷ []) (triple 11 5 12) 2
+    (10 ∷ 0 ∷ 8 ∷ 10 ∷ 0 ∷ 9 ∷ []) (1 ∷ 1 ∷ [])
+    (absent ∷ absent ∷ absent ∷ absent ∷ absent ∷ absent ∷ absent ∷ absent ∷ 8 ∷ 9 ∷ 10 ∷ 10 ∷ absent ∷ [])
+    ∷ {- the last triple of the smallest code: another represents the class -}
+    removal rdfs 13 (10 ∷ 5 ∷ 12 ∷ 11 ∷ 5 ∷ 12 ∷ []) (triple 10 5 12) 0
+    (11 ∷ 5 ∷ 12 ∷ []) (1 ∷ [])
+    (absent ∷ absent ∷ absent ∷ absent ∷ absent ∷ absent ∷ absent ∷ absent ∷ absent ∷ absent ∷ absent ∷ 11 ∷ 12 ∷ [])
+    ∷ {- the last triple of all -}
+    removal rdfs 12 (10 ∷ 5 ∷ 11 ∷ []) (triple 10 5 11) 0
+    [] []
+    (absent ∷ absent ∷ absent ∷ absent ∷ absent ∷ absent ∷ absent ∷ absent ∷ absent ∷ absent ∷ absent ∷ absent ∷ [])
+    ∷ {- one of four with one image: its line weighs one less, and nothing else changes -}
+    removal rdfs 10 (6 ∷ 5 ∷ 8 ∷ 6 ∷ 5 ∷ 9 ∷ 7 ∷ 5 ∷ 8 ∷ 7 ∷ 5 ∷ 9 ∷ []) (triple 6 5 9) 1
+    (6 ∷ 5 ∷ 8 ∷ []) (3 ∷ [])
+    (absent ∷ absent ∷ absent ∷ absent ∷ absent ∷ absent ∷ 6 ∷ 6 ∷ 8 ∷ 8 ∷ [])
+    ∷ {- the only one with its image: the line goes, and the map stays -}
+    removal rdfs 9 (6 ∷ 1 ∷ 7 ∷ 6 ∷ 1 ∷ 8 ∷ 7 ∷ 1 ∷ 8 ∷ []) (triple 6 1 8) 1
+    (6 ∷ 1 ∷ 7 ∷ 7 ∷ 1 ∷ 8 ∷ []) (1 ∷ 1 ∷ [])
+    (absent ∷ absent ∷ absent ∷ absent ∷ absent ∷ absent ∷ 6 ∷ 7 ∷ 8 ∷ [])
+    ∷ {- other reserved codes: 4 comes back to the typed-only class, and 2 vanishes -}
+    removal (vocabulary 9 8 7 6 5) 10 (3 ∷ 9 ∷ 1 ∷ 4 ∷ 0 ∷ 2 ∷ 4 ∷ 9 ∷ 1 ∷ []) (triple 4 0 2) 1
+    (3 ∷ 9 ∷ 1 ∷ []) (2 ∷ [])
+    (absent ∷ 1 ∷ absent ∷ 3 ∷ 3 ∷ absent ∷ absent ∷ absent ∷ absent ∷ absent ∷ [])
     ∷ []

@@ -7,7 +7,7 @@ use mathlib.Core.List.{List, [], _∷_}
 use lib.Dec.{eqb, ltb}
 use lib.ListN.{length}
 use Rattle.model.specs.declared.Refusal.{Refusal}
-use Rattle.model.specs.declared.Refusal.the-variants.{Length, Roster, Code, Cover, Slots, Query, Full, Form, Words, Retired}
+use Rattle.model.specs.declared.Refusal.the-variants.{Length, Roster, Code, Cover, Slots, Query, Full, Form, Missing, Words, Retired}
 use Rattle.model.specs.declared.Done.{Done}
 use Rattle.model.specs.declared.Done.the-variants.{Accepted, Refused as done-refused}
 use Rattle.model.specs.declared.Counted.{Counted}
@@ -15,7 +15,7 @@ use Rattle.model.specs.declared.Counted.the-variants.{Count, Refused as 
 use Rattle.model.specs.declared.Found.{Found}
 use Rattle.model.specs.declared.Found.the-variants.{Yes, No, Refused as found-refused}
 use Rattle.model.specs.declared.Reply.{Reply}
-use Rattle.model.specs.declared.Reply.the-variants.{New, NotNew, Refused as reply-refused}
+use Rattle.model.specs.declared.Reply.the-variants.{New, NotNew, Removed, Refused as reply-refused}
 use Rattle.model.specs.Codes.{smallestSize, largestSize, mostTriples}
 use Rattle.model.specs.Lists.{any, zeros}
 
@@ -34,6 +34,7 @@ refusalNumber Slots = 5
 refusalNumber Query = 6
 refusalNumber Full = 7
 refusalNumber Form = 8
+refusalNumber Missing = 9
 refusalNumber Words = 10
 refusalNumber Retired = 12
 
@@ -62,12 +63,13 @@ found (found-refused r) = refused (refusalNumber r)
 
 -- what an accepted call of the intake says
 pub data Said : Type 0 where
-  new not-new : Said
+  new not-new removed : Said
 
--- feed: whether the triple was new, and its place
+-- feeding and removing: whether the triple was new or has left, and its place
 unfoldable pub replied : Reply → Outcome (Answer Said)
 replied (New k) = accepted (answer new k)
 replied (NotNew k) = accepted (answer not-new k)
+replied (Removed k) = accepted (answer removed k)
 replied (reply-refused r) = refused (refusalNumber r)
 
 -- 02: "A refused call reports place 0."

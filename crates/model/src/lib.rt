@@ -159,6 +159,7 @@ pub enum Refusal {
     Query,
     Full,
     Form,
+    Missing,
     Words,
     Retired,
 }
@@ -176,6 +177,7 @@ pub fn refusal_number(refusal: Refusal) -> u32
         Refusal::Query => 6,
         Refusal::Full => 7,
         Refusal::Form => 8,
+        Refusal::Missing => 9,
         Refusal::Words => 10,
         Refusal::Retired => 12,
     }
@@ -199,9 +201,10 @@ pub enum Found {
     Refused(Refusal),
 }
 
-// Feed: whether the triple was new, and how many of the triples held before the call come before it.
+// Feeding and removing: whether the triple was new or has left, and how many of the triples held before the call come before it.
 pub enum Reply {
     New(usize),
     NotNew(usize),
+    Removed(usize),
     Refused(Refusal),
 }

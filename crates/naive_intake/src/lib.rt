@@ -1,10 +1,13 @@
-// The plain intake. After an accepted opening and every feed its lists are H, the set of triples that were new, in rising order, its
-// summary, the weights of the summary's triples, and its map.
+// The plain intake. After an accepted opening and every call its lists are H, the set of triples that were new and not removed since, in
+// rising order, its summary, the weights of the summary's triples, and its map.
 use naive_checks::covered;
+use naive_checks::mark;
 use naive_checks::roster_wrong;
 use naive_checks::size_wrong;
 use naive_checks::triple_wrong;
 use naive_checks::words_wrong;
+use naive_cliques::end_of;
+use naive_cliques::is_data;
 use naive_lists::ABSENT;
 use naive_lists::Triple;
 use naive_lists::Words;
@@ -63,21 +66,23 @@ pub fn open(
     0
 }
 
-// The answer to a feed, a refusal's number or 0, whether the triple was new, how many triples of H, as it was before, come before it,
-// and the sizes of H and of its summary afterwards.
-pub struct Fed {
+// The answer to a call, a refusal's number or 0, whether the triple was new or was removed, how many triples of H, as it was before, come
+// before it, and the sizes of H and of its summary afterwards.
+pub struct Called {
     pub refused: u32,
     pub new: bool,
+    pub removed: bool,
     pub place: usize,
     pub held: usize,
     pub summarised: usize,
 }
 
 // Refused: all stays as it is, and the place is 0.
-fn refuse(refused: u32, held: usize, summarised: usize) -> Fed {
-    Fed {
+fn refuse(refused: u32, held: usize, summarised: usize) -> Called {
+    Called {
         refused: refused,
         new: false,
+        removed: false,
         place: 0,
         held: held,
         summarised: summarised,
@@ -85,10 +90,11 @@ fn refuse(refused: u32, held: usize, summarised: usize) -> Fed {
 }
 
 // A triple of H at a place of it.
-fn repeat(place: usize, held: usize, summarised: usize) -> Fed {
-    Fed {
+fn repeat(place: usize, held: usize, summarised: usize) -> Called {
+    Called {
         refused: 0,
         new: false,
+        removed: false,
         place: place,
         held: held,
         summarised: summarised,
@@ -100,8 +106,8 @@ fn work_wrong(n: usize, work: usize) -> bool {
     work / 2 != n || work % 2 != 0
 }
 
-// The checks 10, 2, 3, 4 of a feed: the refusal's number, or 0.
-fn feed_refusal(words: Words, roster: &[u8], t: Triple) -> u32 {
+// The checks 10, 2, 3, 4 of a call: the refusal's number, or 0.
+fn call_refusal(words: Words, roster: &[u8], t: Triple) -> u32 {
     let n = roster.len();
     if words_wrong(words, n) {
         return 10;
@@ -152,6 +158,22 @@ fn weigh(
     }
 }
 
+// Makes the summary of a table, its map and its weights anew; how many lines the summary has.
+fn renew(
+    words: Words,
+    roster: &[u8],
+    table: &[u32],
+    summary: &mut [u32],
+    weights: &mut [u32],
+    map: &mut [u32],
+    work: &mut [u32],
+) -> usize {
+    let answer = summarise(words, false, table, roster, summary, map, work);
+    let lines = answer.count;
+    weigh(table, table.len() / 3, map, summary, lines, weights);
+    lines
+}
+
 // A triple that is not in H: refused with 7 if every slot holds one, else it joins H, and the summary, the map and the weights are
 // made anew.
 fn take_in(
@@ -165,7 +187,7 @@ fn take_in(
     map: &mut [u32],
     work: &mut [u32],
     t: Triple,
-) -> Fed {
+) -> Called {
     if triples.len() / 3 <= held {
         return refuse(7, held, summarised);
     }
@@ -173,20 +195,56 @@ fn take_in(
     let count = held + 1;
     put(triples, held, t);
     sort(triples, count);
-    let answer = summarise(
+    let lines = renew(
         words,
-        false,
-        &triples[0..3 * count],
         roster,
+        &triples[0..3 * count],
         summary,
+        weights,
         map,
         work,
     );
-    let lines = answer.count;
-    weigh(triples, count, map, summary, lines, weights);
-    Fed {
+    Called {
         refused: 0,
         new: true,
+        removed: false,
+        place: before,
+        held: count,
+        summarised: lines,
+    }
+}
+
+// A triple of H: the last one takes its slot, the others are sorted again, and the summary, the map and the weights are made anew. No
+// triple is in H where nothing is held, nor where more is held than there are slots.
+fn take_out(
+    held: usize,
+    summarised: usize,
+    words: Words,
+    roster: &[u8],
+    triples: &mut [u32],
+    summary: &mut [u32],
+    weights: &mut [u32],
+    map: &mut [u32],
+    work: &mut [u32],
+    t: Triple,
+) -> Called {
+    if held == 0 {
+        return refuse(9, held, summarised);
+    }
+    let count = held - 1;
+    if triples.len() / 3 <= count {
+        return refuse(9, held, summarised);
+    }
+    let end = 3 * count;
+    let before = place(triples, held, t);
+    put(triples, before, triple_at(triples, count));
+    put(triples, count, triple_of(0, 0, 0));
+    sort(triples, count);
+    let lines = renew(words, roster, &triples[0..end], summary, weights, map, work);
+    Called {
+        refused: 0,
+        new: false,
+        removed: true,
         place: before,
         held: count,
         summarised: lines,
@@ -205,8 +263,8 @@ fn judge(
     map: &mut [u32],
     work: &mut [u32],
     t: Triple,
-) -> Fed {
-    let refused = feed_refusal(words, roster, t);
+) -> Called {
+    let refused = call_refusal(words, roster, t);
     if refused != 0 {
         return refuse(refused, held, summarised);
     }
@@ -215,6 +273,40 @@ fn judge(
         return repeat(place(triples, held, t), held, summarised);
     }
     take_in(
+        held,
+        summarised,
+        words,
+        roster,
+        triples,
+        summary,
+        weights,
+        map,
+        work,
+        t,
+    )
+}
+
+// A removal that check 1 does not refuse: refused with 9 if the triple is not in H.
+fn judge_removal(
+    held: usize,
+    summarised: usize,
+    words: Words,
+    roster: &[u8],
+    triples: &mut [u32],
+    summary: &mut [u32],
+    weights: &mut [u32],
+    map: &mut [u32],
+    work: &mut [u32],
+    t: Triple,
+) -> Called {
+    let refused = call_refusal(words, roster, t);
+    if refused != 0 {
+        return refuse(refused, held, summarised);
+    }
+    if !holds(triples, held, t) {
+        return refuse(9, held, summarised);
+    }
+    take_out(
         held,
         summarised,
         words,
@@ -242,7 +334,7 @@ pub fn feed(
     s: u32,
     p: u32,
     o: u32,
-) -> Fed {
+) -> Called {
     let n = roster.len();
     if lengths_wrong(n, triples.len(), summary.len(), weights.len(), map.len()) {
         return refuse(1, held, summarised);
@@ -262,4 +354,90 @@ pub fn feed(
         work,
         triple_of(s, p, o),
     )
+}
+
+// Removes a triple from an intake with those two counts.
+pub fn remove(
+    held: usize,
+    summarised: usize,
+    words: Words,
+    roster: &[u8],
+    triples: &mut [u32],
+    summary: &mut [u32],
+    weights: &mut [u32],
+    map: &mut [u32],
+    work: &mut [u32],
+    s: u32,
+    p: u32,
+    o: u32,
+) -> Called {
+    let n = roster.len();
+    if lengths_wrong(n, triples.len(), summary.len(), weights.len(), map.len()) {
+        return refuse(1, held, summarised);
+    }
+    if work_wrong(n, work.len()) {
+        return refuse(1, held, summarised);
+    }
+    judge_removal(
+        held,
+        summarised,
+        words,
+        roster,
+        triples,
+        summary,
+        weights,
+        map,
+        work,
+        triple_of(s, p, o),
+    )
+}
+
+// Whether u is another triple than t and keeps t's end at a side. Where that is an unmarked end of a data triple, u has the property of t
+// and the same end at that side; else u has it at either side.
+fn keeps_end(words: Words, roster: &[u8], sources: bool, t: Triple, u: Triple) -> bool {
+    if same(t, u) {
+        return false;
+    }
+    let end = end_of(t, sources);
+    if mark(roster, end) == 0 && is_data(words, t) {
+        return u.property == t.property && end_of(u, sources) == end;
+    }
+    u.subject == end || u.object == end
+}
+
+// Whether one of the first `held` triples does.
+fn end_kept(
+    words: Words,
+    roster: &[u8],
+    triples: &[u32],
+    held: usize,
+    sources: bool,
+    t: Triple,
+) -> bool {
+    let mut i = 0;
+    while i < held {
+        if keeps_end(words, roster, sources, t, triple_at(triples, i)) {
+            return true;
+        }
+        i += 1;
+    }
+    false
+}
+
+// Whether both ends of a triple are kept by other triples of H. Then its removal changes no class. The plain intake makes no use of it: the
+// programs count by it which removals they made.
+pub fn ends_kept(
+    words: Words,
+    roster: &[u8],
+    triples: &[u32],
+    held: usize,
+    s: u32,
+    p: u32,
+    o: u32,
+) -> bool {
+    let t = triple_of(s, p, o);
+    if end_kept(words, roster, triples, held, true, t) {
+        return end_kept(words, roster, triples, held, false, t);
+    }
+    false
 }

@@ -7,7 +7,7 @@ use mathlib.Core.List.{List, _++_}
 use native.Mathlib.Omega.{arith}
 use lib.ListN.{length, length-append}
 use Rattle.model.specs.declared.Refusal.{Refusal}
-use Rattle.model.specs.declared.Refusal.the-variants.{Length, Roster, Code, Cover, Slots, Query, Full, Form, Words, Retired}
+use Rattle.model.specs.declared.Refusal.the-variants.{Length, Roster, Code, Cover, Slots, Query, Full, Form, Missing, Words, Retired}
 use Rattle.model.specs.declared.Triple.{Triple}
 use Rattle.model.specs.Lists.{any, collect}
 use Rattle.model.specs.Triples.{triples}
@@ -34,6 +34,7 @@ small-number Slots = omega arith
 small-number Query = omega arith
 small-number Full = omega arith
 small-number Form = omega arith
+small-number Missing = omega arith
 small-number Words = omega arith
 small-number Retired = omega arith
 

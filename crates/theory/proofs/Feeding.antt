@@ -1,5 +1,5 @@
--- The plain intake: what it holds after a list of feeds, in any order and with repeats; and that a run of feeds from an accepted
--- opening, each keeping its promise, gives the plain intake's answers and state, and weights that add up to the triples that were new.
+-- The plain intake: what it holds after a list of feeds, in any order and with repeats; and that a run of feeds and removals from an accepted
+-- opening, each keeping its promise, gives the plain intake's answers and state, and weights that add up to the new triples less the removed ones.
 -- Assumes nothing.
 use Prim.Native.Nat.{ℕ, _+_, _≤_, _<_, _*_, _/_}
 use mathlib.Core.Path.{_≡_, refl, sym, subst, _∙_, ap}
@@ -7,28 +7,28 @@ use mathlib.Core.Logic.{_⊎_, inl, inr, ⊎-elim, _↔_}
 use mathlib.Core.Bool.{Bool, true, false, cond, not, _||_}
 use mathlib.Core.List.{List, [], _∷_, map, List·Memᴰ as Mem, List·Memᴰ·head as here, List·Memᴰ·tail as there, List·Memᴰ·not-nil as no-mem, List·Memᴰ·cases-cons as mem-cases}
 use native.Mathlib.Omega.{arith}
-use native.Mathlib.Nat.{sub-zero, zero-add}
+use native.Mathlib.Nat.{sub-zero}
 use lib.Dec.{eqb, leb, ltb}
 use lib.ListN.{length, getD, replicate, length-replicate, getD-replicate}
 use lib.Seq.{ext-getD}
-use borrow.Author.Tests.{ltb-false, leb-true, leb-false, not-false, eqb-true, eq-eqb}
+use borrow.Author.Tests.{ltb-false, leb-true, leb-false, lt-leb, not-false, eqb-true, eq-eqb}
 use Rattle.model.specs.declared.Triple.{Triple}
 use Rattle.model.specs.declared.Vocabulary.{Vocabulary}
 use Rattle.model.specs.Codes.{wrongWords, absent}
 use Rattle.model.specs.Lists.{any, all, howMany, total, zeros, padded}
-use Rattle.model.specs.Triples.{flat, slots, holds, insert, sorted, listed}
+use Rattle.model.specs.Triples.{flat, slots, holds, place, insert, without, sorted, listed}
 use Rattle.model.specs.Order.{Rising}
 use Rattle.model.specs.Roster.{coversTriple, covers, wrongRoster, wrongTriple, wrongCodes}
 use Rattle.model.specs.Cliques.{Node}
 use Rattle.model.specs.Classes.{mapOf}
 use Rattle.model.specs.Summary.{condensed, summary, weightsBy, weights}
-use Rattle.model.specs.Outcomes.{Outcome, refused, accepted, Answer, Said, check, decided, Passes, wrongSize, wrongWork}
-use Rattle.model.specs.Intake.{State, Feed, isNew, judged, plainChecks, replyTo, afterSaying, joins, answers, heldAfter, stateOf, wrongLists, openOutcome, opened, intakeChecks, Kept, Valid, Run, none, then-fed}
+use Rattle.model.specs.Outcomes.{Outcome, refused, accepted, Answer, answer, Said, new, not-new, removed, check, decided, Passes, wrongSize, wrongWork}
+use Rattle.model.specs.Intake.{State, Kind, feeding, removing, Call, isNew, isRemoved, judged, judgedRemoval, judgedAs, plainChecks, replyTo, afterSaying, heldThen, answers, heldAfter, stateOf, wrongLists, openOutcome, opened, intakeChecks, Kept, Valid, Run, none, then-called}
 use Rattle.theory.proofs.Tests.{or-false, cond-cases}
 use Rattle.theory.proofs.Lists.{any-none, none-any, all-at, at-all, mem-map}
-use Rattle.theory.proofs.Order.{holds-mem, insert-self, insert-keeps, insert-mem, insert-rising, insert-same, insert-new, rising-length, rising-unique, sorted-rising, sorted-mem, mem-sorted}
+use Rattle.theory.proofs.Order.{holds-mem, insert-self, insert-keeps, insert-mem, insert-rising, insert-same, insert-new, rising-length, without-length, mem-without, without-mem, without-rising, without-gone, insert-without, without-insert, rising-unique, sorted-rising, sorted-mem, mem-sorted}
 use Rattle.theory.specs.Tables.{AllBelow, In, Right}
-use Rattle.theory.specs.Theorems.{PlaceRight}
+use Rattle.theory.specs.Theorems.{PlaceRight, Left}
 use Rattle.theory.proofs.Places.{place-right}
 use Rattle.theory.proofs.Mapped.{length-map-of, map-absent}
 use Rattle.theory.proofs.Summaries.{condensed-length, Same, same-map-of, same-summary-of}
@@ -37,8 +37,18 @@ use Rattle.theory.proofs.Checks.{passes-first, first-passes, no-checks,
 use Rattle.theory.proofs.Flat.{length-padded, padded-past, length-listed}
 use Rattle.theory.proofs.Accepted.{below, room, size-bounds}
 
+-- ── a triple that leaves a rising list ──
+pub leaves-right : (t : Triple) (H : List Triple) → Rising H → Left t H
+leaves-right t H r =
+    record {
+      rising = without-rising t H r;
+      exact = λ u. (λ m. (without-mem t u H m, λ q. without-gone t H r (subst (λ (z : Triple). Mem z (without t H)) q m)), λ w. mem-without t u H (w .0) (w .1));
+      fed-before = insert-without t H r;
+      fed-again = λ h. without-insert t H r (holds-mem t H h);
+    }
+
 module _ (v : Vocabulary) (roster : List ℕ) where
-  -- ── one feed ──
+  -- ── one call ──
   -- what an intake may hold
   pub record Holds (space : ℕ) (H : List Triple) : Type 0 where
     pub rising : Rising H
@@ -46,30 +56,40 @@ module _ (v : Vocabulary) (roster : List ℕ) where
     pub codes : wrongCodes v (length roster) H ≡ false
     pub covered : covers v roster H ≡ true
 
-  abbrev next : ℕ → List Triple → Feed → List Triple
-  next space H f = joins (replyTo v roster space H f) (f .triple) H
+  abbrev next : ℕ → List Triple → Call → List Triple
+  next space H f = heldThen (replyTo v roster space H f) (f .triple) H
 
-  -- what a feed does to what is held, and whether it was new
+  -- what a call does to what is held, and whether its triple was new or removed
   data Step (space : ℕ) (H : List Triple) (t : Triple) (o : Outcome (Answer Said)) (K : List Triple) : Type 0 where
-    stayed : K ≡ H → isNew o ≡ false → Step space H t o K
-    added : wrongTriple v (length roster) t ≡ false → coversTriple v roster t ≡ true → holds t H ≡ false → length H < space → K ≡ insert t H → isNew o ≡ true
-        → Step space H t o K
+    stayed : K ≡ H → isNew o ≡ false → isRemoved o ≡ false → Step space H t o K
+    added : wrongTriple v (length roster) t ≡ false → coversTriple v roster t ≡ true → holds t H ≡ false → length H < space → K ≡ insert t H
+        → isNew o ≡ true → isRemoved o ≡ false → Step space H t o K
+    taken : holds t H ≡ true → K ≡ without t H → isNew o ≡ false → isRemoved o ≡ true → Step space H t o K
 
   abbrev StepOf : ℕ → List Triple → Triple → Outcome (Answer Said) → Type 0
-  StepOf space H t o = Step space H t o (joins o t H)
+  StepOf space H t o = Step space H t o (heldThen o t H)
 
   refused-step : (space : ℕ) (H : List Triple) (t : Triple) (r : ℕ) → StepOf space H t (refused r)
-  unfolding joins isNew
-  refused-step space H t r = stayed refl refl
+  unfolding heldThen isNew isRemoved
+  refused-step space H t r = stayed refl refl refl
 
   judged-step : (space : ℕ) (H : List Triple) (t : Triple) → wrongTriple v (length roster) t ≡ false → coversTriple v roster t ≡ true
       → StepOf space H t (judged space H t)
-  unfolding judged joins afterSaying isNew
+  unfolding judged heldThen afterSaying isNew isRemoved
   judged-step space H t a b =
-      cond-cases (StepOf space H t) (holds t H) (λ e. stayed refl refl)
-      (λ e. cond-cases (StepOf space H t) (leb space (length H)) (λ l. stayed refl refl) (λ l. added a b e (leb-false space (length H) l) refl refl))
+      cond-cases (StepOf space H t) (holds t H) (λ e. stayed refl refl refl)
+      (λ e. cond-cases (StepOf space H t) (leb space (length H)) (λ l. stayed refl refl refl) (λ l. added a b e (leb-false space (length H) l) refl refl refl))
 
-  step-of : (space : ℕ) (H : List Triple) (f : Feed) → StepOf space H (f .triple) (replyTo v roster space H f)
+  removal-step : (space : ℕ) (H : List Triple) (t : Triple) → StepOf space H t (judgedRemoval H t)
+  unfolding judgedRemoval heldThen afterSaying isNew isRemoved
+  removal-step space H t = cond-cases (StepOf space H t) (holds t H) (λ e. taken e refl refl refl) (λ e. stayed refl refl refl)
+
+  either-step : (kind : Kind) (space : ℕ) (H : List Triple) (t : Triple) → wrongTriple v (length roster) t ≡ false → coversTriple v roster t ≡ true
+      → StepOf space H t (judgedAs kind space H t)
+  either-step feeding space H t a b = judged-step space H t a b
+  either-step removing space H t a b = removal-step space H t
+
+  step-of : (space : ℕ) (H : List Triple) (f : Call) → StepOf space H (f .triple) (replyTo v roster space H f)
   unfolding replyTo
   step-of space H f =
       ⊎-elim
@@ -77,15 +97,15 @@ module _ (v : Vocabulary) (roster : List ℕ) where
       (λ h.
       let b = passes-first _ _ ((passes-first _ _ h) .1) in
       let d = passes-first _ _ (b .1) in
-      subst (StepOf space H (f .triple)) (sym (decided-passes (plainChecks v roster f) _ h)) (judged-step space H (f .triple) (b .0) (not-false _ (d .0))))
-      (decided-cases (plainChecks v roster f) (judged space H (f .triple)))
+      subst (StepOf space H (f .triple)) (sym (decided-passes (plainChecks v roster f) _ h)) (either-step (f .kind) space H (f .triple) (b .0) (not-false _ (d .0))))
+      (decided-cases (plainChecks v roster f) (judgedAs (f .kind) space H (f .triple)))
 
   -- the triple of an accepted feed stands at the place that is reported
   abbrev Stands : List Triple → Triple → Triple → Outcome (Answer Said) → Type 0
-  Stands H t d o = (x : Answer Said) → o ≡ accepted x → getD (joins (accepted x) t H) (x .place) d ≡ t
+  Stands H t d o = (x : Answer Said) → o ≡ accepted x → getD (heldThen (accepted x) t H) (x .place) d ≡ t
 
   judged-stands : (space : ℕ) (H : List Triple) (t d : Triple) → Rising H → Stands H t d (judged space H t)
-  unfolding judged joins afterSaying
+  unfolding judged heldThen afterSaying
   judged-stands space H t d r =
       cond-cases (Stands H t d) (holds t H)
       (λ e x q. subst (λ (y : Answer Said). getD (afterSaying (y .says) t H) (y .place) d ≡ t) (same-value q) (right .held e d))
@@ -96,14 +116,47 @@ module _ (v : Vocabulary) (roster : List ℕ) where
       right : PlaceRight t H
       right = place-right t H r
 
-  pub fed-stands : (space : ℕ) (H : List Triple) (f : Feed) (d : Triple) → Rising H → Stands H (f .triple) d (replyTo v roster space H f)
+  -- a call that is accepted passed the checks
+  judged-so : (kind : Kind) (space : ℕ) (H : List Triple) (f : Call) (x : Answer Said) → f .kind ≡ kind → replyTo v roster space H f ≡ accepted x
+      → judgedAs kind space H (f .triple) ≡ accepted x
   unfolding replyTo
-  fed-stands space H f d r x q =
+  judged-so kind space H f x k q =
       ⊎-elim (λ w. absurd (not-accepted (sym (w .1) ∙ q)))
-      (λ h. judged-stands space H (f .triple) d r x (sym (decided-passes (plainChecks v roster f) _ h) ∙ q))
-      (decided-cases (plainChecks v roster f) (judged space H (f .triple)))
+      (λ h. ap (λ (z : Kind). judgedAs z space H (f .triple)) (sym k) ∙ sym (decided-passes (plainChecks v roster f) _ h) ∙ q)
+      (decided-cases (plainChecks v roster f) (judgedAs (f .kind) space H (f .triple)))
 
-  pub next-holds : (space : ℕ) (H : List Triple) (f : Feed) → Holds space H → Holds space (next space H f)
+  pub fed-stands : (space : ℕ) (H : List Triple) (f : Call) (d : Triple) → Rising H → f .kind ≡ feeding → Stands H (f .triple) d (replyTo v roster space H f)
+  fed-stands space H f d r k x q = judged-stands space H (f .triple) d r x (judged-so feeding space H f x k q)
+
+  -- a triple that is removed was held, and stood at the place that is reported
+  removal-held : (H : List Triple) (t : Triple) (x : Answer Said) → judgedRemoval H t ≡ accepted x → (holds t H ≡ true) × (answer removed (place t H) ≡ x)
+  unfolding judgedRemoval
+  removal-held H t x =
+      cond-cases (λ (o : Outcome (Answer Said)). o ≡ accepted x → (holds t H ≡ true) × (answer removed (place t H) ≡ x)) (holds t H)
+      (λ e q. (e, same-value q)) (λ e q. absurd (not-accepted q))
+
+  pub removed-stood : (space : ℕ) (H : List Triple) (f : Call) (x : Answer Said) (d : Triple) → Rising H → f .kind ≡ removing → replyTo v roster space H f ≡ accepted x
+      → getD H (x .place) d ≡ f .triple
+  removed-stood space H f x d r k q =
+      let w = removal-held H (f .triple) x (judged-so removing space H f x k q) in
+      ap (λ (y : Answer Said). getD H (y .place) d) (sym (w .1)) ∙ place-right (f .triple) H r .held (w .0) d
+
+  -- a slot set free takes a later triple
+  new-judged : (space : ℕ) (K : List Triple) (t : Triple) → holds t K ≡ false → length K < space → judged space K t ≡ accepted (answer new (place t K))
+  unfolding judged
+  new-judged space K t e l = λ i. cond (e i) (accepted (answer not-new (place t K))) (cond (lt-leb space (length K) l i) (refused 7) (accepted (answer new (place t K))))
+
+  pub slot-freed : (space : ℕ) (H : List Triple) (c d : Call) (x : Answer Said) → length H ≤ space → c .kind ≡ removing → replyTo v roster space H c ≡ accepted x
+      → d .kind ≡ feeding → Passes (plainChecks v roster d) → holds (d .triple) (without (c .triple) H) ≡ false
+      → replyTo v roster space (without (c .triple) H) d ≡ accepted (answer new (place (d .triple) (without (c .triple) H)))
+  unfolding replyTo
+  slot-freed space H c d x few k q n p e =
+      let w = removal-held H (c .triple) x (judged-so removing space H c x k q) in
+      let K = without (c .triple) H in
+      decided-passes (plainChecks v roster d) _ p ∙ ap (λ (z : Kind). judgedAs z space K (d .triple)) n
+      ∙ new-judged space K (d .triple) e (omega (arith, few, without-length (c .triple) H (holds-mem (c .triple) H (w .0))))
+
+  pub next-holds : (space : ℕ) (H : List Triple) (f : Call) → Holds space H → Holds space (next space H f)
   unfolding wrongCodes covers
   next-holds space H f h = go (step-of space H f)
     where
@@ -111,8 +164,16 @@ module _ (v : Vocabulary) (roster : List ℕ) where
       t = f .triple
 
       go : StepOf space H t (replyTo v roster space H f) → Holds space (next space H f)
-      go (stayed e n) = subst (Holds space) (sym e) h
-      go (added right cover fresh free e n) =
+      go (stayed e n r) = subst (Holds space) (sym e) h
+      go (taken was e n r) =
+          subst (Holds space) (sym e)
+          (record {
+            rising = without-rising t H (h .rising);
+            fits = omega (arith, without-length t H (holds-mem t H was), h .fits);
+            codes = none-any (wrongTriple v (length roster)) (without t H) (λ u m. any-none (wrongTriple v (length roster)) H (h .codes) u (without-mem t u H m));
+            covered = at-all (coversTriple v roster) (without t H) (λ u m. all-at (coversTriple v roster) H (h .covered) u (without-mem t u H m));
+          })
+      go (added right cover fresh free e n r) =
           subst (Holds space) (sym e)
           (record {
             rising = insert-rising t H (h .rising);
@@ -123,36 +184,45 @@ module _ (v : Vocabulary) (roster : List ℕ) where
                 (λ u m. ⊎-elim (λ (q : u ≡ t). ap (coversTriple v roster) q ∙ cover) (λ k. all-at (coversTriple v roster) H (h .covered) u k) (insert-mem t u H m));
           })
 
-  pub held-holds : (space : ℕ) (fs : List Feed) (H : List Triple) → Holds space H → Holds space (heldAfter v roster space fs H)
+  pub held-holds : (space : ℕ) (cs : List Call) (H : List Triple) → Holds space H → Holds space (heldAfter v roster space cs H)
   unfolding heldAfter
   held-holds space [] H h = h
-  held-holds space (f ∷ fs) H h = held-holds space fs (next space H f) (next-holds space H f h)
+  held-holds space (f ∷ cs) H h = held-holds space cs (next space H f) (next-holds space H f h)
 
   -- ── how many are held ──
-  next-count : (space : ℕ) (H : List Triple) (f : Feed) → length (next space H f) ≡ length H + cond (isNew (replyTo v roster space H f)) 1 0
+  one : Bool → ℕ
+  one b = cond b 1 0
+
+  next-count : (space : ℕ) (H : List Triple) (f : Call)
+      → length (next space H f) + one (isRemoved (replyTo v roster space H f)) ≡ length H + one (isNew (replyTo v roster space H f))
+  unfolding one
   next-count space H f = go (step-of space H f)
     where
-      go : StepOf space H (f .triple) (replyTo v roster space H f) → length (next space H f) ≡ length H + cond (isNew (replyTo v roster space H f)) 1 0
-      go (stayed e n) = omega (arith, ap {B = ℕ} (λ (l : List Triple). length l) e, ap {B = ℕ} (λ (b : Bool). cond b 1 0) n)
-      go (added right cover fresh free e n) = omega (arith, ap {B = ℕ} (λ (l : List Triple). length l) e, insert-new (f .triple) H fresh, ap {B = ℕ} (λ (b : Bool). cond b 1 0) n)
+      go : StepOf space H (f .triple) (replyTo v roster space H f)
+          → length (next space H f) + one (isRemoved (replyTo v roster space H f)) ≡ length H + one (isNew (replyTo v roster space H f))
+      go (stayed e n r) = omega (arith, ap {B = ℕ} (λ (l : List Triple). length l) e, ap {B = ℕ} one n, ap {B = ℕ} one r)
+      go (added right cover fresh free e n r) = omega (arith, ap {B = ℕ} (λ (l : List Triple). length l) e, insert-new (f .triple) H fresh, ap {B = ℕ} one n, ap {B = ℕ} one r)
+      go (taken was e n r) =
+          omega (arith, ap {B = ℕ} (λ (l : List Triple). length l) e, without-length (f .triple) H (holds-mem (f .triple) H was), ap {B = ℕ} one n, ap {B = ℕ} one r)
 
-  held-count : (space : ℕ) (fs : List Feed) (H : List Triple) → length (heldAfter v roster space fs H) ≡ length H + howMany isNew (answers v roster space fs H)
-  unfolding heldAfter answers howMany
-  held-count space [] H = omega arith
-  held-count space (f ∷ fs) H = omega (arith, next-count space H f, held-count space fs (next space H f))
+  held-count : (space : ℕ) (cs : List Call) (H : List Triple)
+      → length (heldAfter v roster space cs H) + howMany isRemoved (answers v roster space cs H) ≡ length H + howMany isNew (answers v roster space cs H)
+  unfolding heldAfter answers howMany one
+  held-count space [] H = refl
+  held-count space (f ∷ cs) H = omega (arith, next-count space H f, held-count space cs (next space H f))
 
   -- ── feeding a table in any order, with repeats ──
   -- a feed that no check refuses
-  abbrev pub Good : Feed → Type 0
-  Good f = Passes (plainChecks v roster f)
+  abbrev pub Good : Call → Type 0
+  Good f = (f .kind ≡ feeding) × Passes (plainChecks v roster f)
 
   -- where all that is held and fed is among as many triples as there are slots, every feed's triple is held afterwards
   module _ (space : ℕ) (U : List Triple) (few : length U ≤ space) where
-    judged-has : (H : List Triple) (t : Triple) → Rising H → ((u : Triple) → Mem u H → Mem u U) → Mem t U → joins (judged space H t) t H ≡ insert t H
-    unfolding judged joins afterSaying
+    judged-has : (H : List Triple) (t : Triple) → Rising H → ((u : Triple) → Mem u H → Mem u U) → Mem t U → heldThen (judged space H t) t H ≡ insert t H
+    unfolding judged heldThen afterSaying
     judged-has H t r u m =
-        cond-cases (λ (o : Outcome (Answer Said)). joins o t H ≡ insert t H) (holds t H) (λ k. sym (insert-same t H r (holds-mem t H k)))
-        (λ k. cond-cases (λ (o : Outcome (Answer Said)). joins o t H ≡ insert t H) (leb space (length H))
+        cond-cases (λ (o : Outcome (Answer Said)). heldThen o t H ≡ insert t H) (holds t H) (λ k. sym (insert-same t H r (holds-mem t H k)))
+        (λ k. cond-cases (λ (o : Outcome (Answer Said)). heldThen o t H ≡ insert t H) (leb space (length H))
         (λ l. absurd (omega (arith, leb-true space (length H) l, insert-new t H k, more, few))) (λ l. refl))
       where
         more : length (insert t H) ≤ length U
@@ -160,25 +230,26 @@ module _ (v : Vocabulary) (roster : List ℕ) where
             rising-length (insert t H) U (insert-rising t H r)
             (λ x n. ⊎-elim (λ (q : x ≡ t). subst (λ (z : Triple). Mem z U) (sym q) m) (λ n. u x n) (insert-mem t x H n))
 
-    next-has : (H : List Triple) (f : Feed) → Good f → Rising H → ((t : Triple) → Mem t H → Mem t U) → Mem (f .triple) U → next space H f ≡ insert (f .triple) H
+    next-has : (H : List Triple) (f : Call) → Good f → Rising H → ((t : Triple) → Mem t H → Mem t U) → Mem (f .triple) U → next space H f ≡ insert (f .triple) H
     unfolding replyTo
     next-has H f g r u m =
-        ap (λ (o : Outcome (Answer Said)). joins o (f .triple) H) (decided-passes (plainChecks v roster f) _ g) ∙ judged-has H (f .triple) r u m
+        ap (λ (o : Outcome (Answer Said)). heldThen o (f .triple) H)
+        (decided-passes (plainChecks v roster f) _ (g .1) ∙ ap (λ (z : Kind). judgedAs z space H (f .triple)) (g .0)) ∙ judged-has H (f .triple) r u m
 
-    pub record Collected (fs : List Feed) (H out : List Triple) : Type 0 where
+    pub record Collected (cs : List Call) (H out : List Triple) : Type 0 where
       pub rising : Rising out
-      pub members : (t : Triple) → Mem t out ↔ (Mem t H ⊎ Mem t (map (λ (f : Feed). f .triple) fs))
+      pub members : (t : Triple) → Mem t out ↔ (Mem t H ⊎ Mem t (map (λ (f : Call). f .triple) cs))
 
-    pub held-all : (fs : List Feed) (H : List Triple) → ((f : Feed) → Mem f fs → Good f × Mem (f .triple) U) → Rising H
-        → ((t : Triple) → Mem t H → Mem t U) → Collected fs H (heldAfter v roster space fs H)
+    pub held-all : (cs : List Call) (H : List Triple) → ((f : Call) → Mem f cs → Good f × Mem (f .triple) U) → Rising H
+        → ((t : Triple) → Mem t H → Mem t U) → Collected cs H (heldAfter v roster space cs H)
     unfolding heldAfter
     held-all [] H g r u = record { rising = r; members = λ t. (λ m. inl m, λ w. ⊎-elim (λ m. m) (λ m. absurd (no-mem m)) w) }
-    held-all (f ∷ fs) H g r u =
+    held-all (f ∷ cs) H g r u =
         let w = g f (here refl) in
         let e = next-has H f (w .0) r u (w .1) in
-        let rest = held-all fs (insert (f .triple) H) (λ k m. g k (there m)) (insert-rising (f .triple) H r)
+        let rest = held-all cs (insert (f .triple) H) (λ k m. g k (there m)) (insert-rising (f .triple) H r)
         (λ t n. ⊎-elim (λ (q : t ≡ f .triple). subst (λ (z : Triple). Mem z U) (sym q) (w .1)) (λ n. u t n) (insert-mem (f .triple) t H n)) in
-        subst (λ (K : List Triple). Collected (f ∷ fs) H (heldAfter v roster space fs K)) (sym e)
+        subst (λ (K : List Triple). Collected (f ∷ cs) H (heldAfter v roster space cs K)) (sym e)
         (record {
           rising = rest .rising;
           members = λ t. (
@@ -233,7 +304,7 @@ module _ (v : Vocabulary) (roster : List ℕ) where
       || (not (eqb (e .in-map i) (length roster))
       || (not (eqb (e .in-triples i / 3) (e .in-summary i / 3)) || (ltb 1048576 (e .in-triples i / 3) || not (eqb (e .in-weights i) (e .in-triples i / 3)))))
 
-  -- ── a run of feeds ──
+  -- ── a run of calls ──
   -- a state that holds H, in lists of right sizes
   pub record Good-state (s : State) (H : List Triple) : Type 0 where
     pub lists : wrongLists v roster s ≡ false
@@ -259,11 +330,11 @@ module _ (v : Vocabulary) (roster : List ℕ) where
         is-state = q ∙ sym (same-state s z K e);
       }
 
-  -- with right lists and a right roster a feed's checks are the plain intake's
-  feed-outcome : (s : State) (f : Feed) (H : List Triple) → wrongLists v roster s ≡ false → wrongWords v (length roster) ≡ false → wrongRoster v roster ≡ false
-      → decided (intakeChecks v roster s (f .triple) (f .work)) (judged (space-of s) H (f .triple)) ≡ replyTo v roster (space-of s) H f
+  -- with right lists and a right roster a call's checks are the plain intake's
+  call-outcome : (s : State) (f : Call) (H : List Triple) → wrongLists v roster s ≡ false → wrongWords v (length roster) ≡ false → wrongRoster v roster ≡ false
+      → decided (intakeChecks v roster s (f .triple) (f .work)) (judgedAs (f .kind) (space-of s) H (f .triple)) ≡ replyTo v roster (space-of s) H f
   unfolding intakeChecks replyTo decided
-  feed-outcome s f H l w m = λ i.
+  call-outcome s f H l w m = λ i.
       decided
       (check 1 (l i || wrongWork (length roster) (f .work))
       ∷ check 10 (w i)
@@ -271,23 +342,23 @@ module _ (v : Vocabulary) (roster : List ℕ) where
       ∷ check 3 (wrongTriple v (length roster) (f .triple))
       ∷ check 4 (not (coversTriple v roster (f .triple)))
       ∷ [])
-      (judged (space-of s) H (f .triple))
+      (judgedAs (f .kind) (space-of s) H (f .triple))
 
-  pub run-plain : (words : wrongWords v (length roster) ≡ false) (marks : wrongRoster v roster ≡ false) {s end : State} {fs : List Feed} {os : List (Outcome (Answer Said))} → Run v roster s fs os end → (H : List Triple) → Good-state s H
-      → (os ≡ answers v roster (space-of s) fs H) × (end ≡ stateOf v roster s (heldAfter v roster (space-of s) fs H))
+  pub run-plain : (words : wrongWords v (length roster) ≡ false) (marks : wrongRoster v roster ≡ false) {s end : State} {cs : List Call} {os : List (Outcome (Answer Said))} → Run v roster s cs os end → (H : List Triple) → Good-state s H
+      → (os ≡ answers v roster (space-of s) cs H) × (end ≡ stateOf v roster s (heldAfter v roster (space-of s) cs H))
   unfolding answers heldAfter slots
   run-plain words marks none H g = (refl, g .is-state)
-  run-plain words marks {s} {end} (then-fed {after} {t} {outcome} {fs} {os} work work-after p run) H g =
-      let f : Feed = record { triple = t; work = length work } in
+  run-plain words marks {s} {end} (then-called {after} {kind} {t} {outcome} {cs} {os} work work-after p run) H g =
+      let f : Call = record { kind = kind; triple = t; work = length work } in
       let k = p .steps H (good-valid s H g) in
-      let e : outcome ≡ replyTo v roster (space-of s) H f = k .0 ∙ feed-outcome s f H (g .lists) words marks in
+      let e : outcome ≡ replyTo v roster (space-of s) H f = k .0 ∙ call-outcome s f H (g .lists) words marks in
       let K : List Triple = next (space-of s) H f in
-      let q : after ≡ stateOf v roster s K = k .1 ∙ ap (λ (o : Outcome (Answer Said)). stateOf v roster s (joins o t H)) e in
+      let q : after ≡ stateOf v roster s K = k .1 ∙ ap (λ (o : Outcome (Answer Said)). stateOf v roster s (heldThen o t H)) e in
       let h : Holds (space-of s) K = next-holds (space-of s) H f (g .holds-it) in
       let sizes : Kept s after = p .in-any-state .kept in
       let rest = run-plain words marks run K (good-next s after K (g .lists) (g .sized) h sizes q) in (
-        λ i. e i ∷ (rest .0 ∙ (λ j. answers v roster (sizes .in-triples j / 3) fs K)) i,
-        rest .1 ∙ (λ i. stateOf v roster after (heldAfter v roster (sizes .in-triples i / 3) fs K)) ∙ same-state s after _ sizes,
+        λ i. e i ∷ (rest .0 ∙ (λ j. answers v roster (sizes .in-triples j / 3) cs K)) i,
+        rest .1 ∙ (λ i. stateOf v roster after (heldAfter v roster (sizes .in-triples i / 3) cs K)) ∙ same-state s after _ sizes,
       )
 
   -- ── opening ──
@@ -364,19 +435,19 @@ module _ (v : Vocabulary) (roster : List ℕ) where
       let w = or-false (ltb 1048576 (slots (s .triples))) _ (d .1) in
       (record { equal = eqb-true _ _ (not-false _ (d .0)); weights-size = eqb-true _ _ (not-false _ (w .1)); map-size = eqb-true _ _ (not-false _ (b .0)) }, omega arith)
 
-  -- the whole list of feeds after an accepted opening
-  pub whole-list : (s end : State) (fs : List Feed) (os : List (Outcome (Answer Said))) → openOutcome v roster s ≡ accepted tt → Run v roster (opened v roster s) fs os end
-      → (os ≡ answers v roster (slots (s .triples)) fs []) × (end ≡ stateOf v roster s (heldAfter v roster (slots (s .triples)) fs []))
+  -- the whole list of calls after an accepted opening
+  pub whole-list : (s end : State) (cs : List Call) (os : List (Outcome (Answer Said))) → openOutcome v roster s ≡ accepted tt → Run v roster (opened v roster s) cs os end
+      → (os ≡ answers v roster (slots (s .triples)) cs []) × (end ≡ stateOf v roster s (heldAfter v roster (slots (s .triples)) cs []))
   unfolding slots
-  whole-list s end fs os h run =
+  whole-list s end cs os h run =
       let o = opening s h in
       let z = opening-sized s o in
       let e = opened-state s (z .0) (z .1) in
       let k = state-sizes s [] (z .0) (omega arith) in
       let g = good-next s (stateOf v roster s []) [] (o .lists) (z .0) (empty-holds (slots (s .triples))) k refl in
-      let w = run-plain (o .words) (o .marks) (subst (λ (x : State). Run v roster x fs os end) e run) [] g in (
-        w .0 ∙ (λ i. answers v roster (k .in-triples i / 3) fs []),
-        w .1 ∙ same-state s (stateOf v roster s []) _ k ∙ (λ i. stateOf v roster s (heldAfter v roster (k .in-triples i / 3) fs [])),
+      let w = run-plain (o .words) (o .marks) (subst (λ (x : State). Run v roster x cs os end) e run) [] g in (
+        w .0 ∙ (λ i. answers v roster (k .in-triples i / 3) cs []),
+        w .1 ∙ same-state s (stateOf v roster s []) _ k ∙ (λ i. stateOf v roster s (heldAfter v roster (k .in-triples i / 3) cs [])),
       )
 
   -- 02: "zero past the last summary triple"
@@ -384,38 +455,38 @@ module _ (v : Vocabulary) (roster : List ℕ) where
   unfolding stateOf
   weights-past s H k h = padded-past (length (s .weights)) (weights v roster H) k (omega (arith, weights-length (mapOf v roster H) H))
 
-  -- 02: "The counts add up to the number of fed triples that were new since opening."
-  pub weighed : (s end : State) (fs : List Feed) (os : List (Outcome (Answer Said))) → openOutcome v roster s ≡ accepted tt → Run v roster (opened v roster s) fs os end
-      → total (end .weights) ≡ howMany isNew os
+  -- 02: "the weights add up to accepted new triples less removed ones"
+  pub weighed : (s end : State) (cs : List Call) (os : List (Outcome (Answer Said))) → openOutcome v roster s ≡ accepted tt → Run v roster (opened v roster s) cs os end
+      → total (end .weights) + howMany isRemoved os ≡ howMany isNew os
   unfolding stateOf
-  weighed s end fs os h run =
-      let w = whole-list s end fs os h run in
-      let H = heldAfter v roster (slots (s .triples)) fs [] in
-      ap {B = ℕ} (λ (x : State). total (x .weights)) (w .1)
-      ∙ total-padded (length (s .weights)) (weights v roster H)
-      ∙ weights-total (mapOf v roster H) H
-      ∙ held-count (slots (s .triples)) fs []
-      ∙ zero-add (howMany isNew (answers v roster (slots (s .triples)) fs []))
-      ∙ ap {B = ℕ} (λ (xs : List (Outcome (Answer Said))). howMany isNew xs) (sym (w .0))
+  weighed s end cs os h run =
+      let w = whole-list s end cs os h run in
+      let H = heldAfter v roster (slots (s .triples)) cs [] in
+      let a : total (end .weights) ≡ length H =
+      ap {B = ℕ} (λ (x : State). total (x .weights)) (w .1) ∙ total-padded (length (s .weights)) (weights v roster H) ∙ weights-total (mapOf v roster H) H in
+      subst (λ (xs : List (Outcome (Answer Said))). total (end .weights) + howMany isRemoved xs ≡ howMany isNew xs) (sym (w .0))
+      (omega (arith, a, held-count (slots (s .triples)) cs []))
 
   -- feeding a table's triples, in any order and with repeats, into slots enough
-  pub any-order : (ts : List Triple) (R : Right v roster ts) (space : ℕ) (fs : List Feed) → length (sorted ts) ≤ space
-      → ((f : Feed) → Mem f fs → f .work ≡ 2 * length roster) → ((t : Triple) → Mem t (map (λ (f : Feed). f .triple) fs) ↔ Mem t ts)
-      → (heldAfter v roster space fs [] ≡ sorted ts) × (summary v roster (heldAfter v roster space fs []) ≡ summary v roster ts) × (mapOf v roster (heldAfter v roster space fs []) ≡ mapOf v roster ts)
+  pub any-order : (ts : List Triple) (R : Right v roster ts) (space : ℕ) (cs : List Call) → length (sorted ts) ≤ space
+      → ((f : Call) → Mem f cs → (f .kind ≡ feeding) × (f .work ≡ 2 * length roster)) → ((t : Triple) → Mem t (map (λ (f : Call). f .triple) cs) ↔ Mem t ts)
+      → (heldAfter v roster space cs [] ≡ sorted ts) × (summary v roster (heldAfter v roster space cs []) ≡ summary v roster ts) × (mapOf v roster (heldAfter v roster space cs []) ≡ mapOf v roster ts)
   unfolding wrongWork wrongCodes covers
-  any-order ts R space fs few work same =
-      let c = held-all space (sorted ts) few fs []
-      (λ f m. let k = (same (f .triple)) .0 (mem-map (λ (x : Feed). x .triple) fs f m refl) in (good f (work f m) k, mem-sorted (f .triple) ts k)) tt (λ t m. absurd (no-mem m)) in
-      let members : Same (In (heldAfter v roster space fs [])) (In ts) =
+  any-order ts R space cs few work same =
+      let c = held-all space (sorted ts) few cs []
+      (λ f m. let k = (same (f .triple)) .0 (mem-map (λ (x : Call). x .triple) cs f m refl) in (good f (work f m) k, mem-sorted (f .triple) ts k)) tt (λ t m. absurd (no-mem m)) in
+      let members : Same (In (heldAfter v roster space cs [])) (In ts) =
       λ t. (λ m. ⊎-elim (λ n. absurd (no-mem n)) (λ n. (same t) .0 n) ((c .members t) .0 m), λ m. (c .members t) .1 (inr ((same t) .1 m))) in
-      let b : AllBelow (length roster) (heldAfter v roster space fs []) = λ t m. below v roster ts R t ((members t) .0 m) in (
+      let b : AllBelow (length roster) (heldAfter v roster space cs []) = λ t m. below v roster ts R t ((members t) .0 m) in (
         rising-unique _ (sorted ts) (c .rising) (sorted-rising ts) (λ t. (λ m. mem-sorted t ts ((members t) .0 m), λ m. (members t) .1 (sorted-mem t ts m))),
         same-summary-of v roster _ ts b (below v roster ts R) (room v roster ts R) members,
         same-map-of v roster _ ts b (below v roster ts R) (room v roster ts R) members,
       )
     where
-      good : (f : Feed) → f .work ≡ 2 * length roster → Mem (f .triple) ts → Good f
-      good f e m =
-          first-passes _ _ (ap not (eq-eqb _ _ e))
-          (first-passes _ _ (any-none (wrongTriple v (length roster)) ts (R .codes) (f .triple) m)
-          (first-passes _ _ (ap not (all-at (coversTriple v roster) ts (R .cover) (f .triple) m)) no-checks))
+      good : (f : Call) → (f .kind ≡ feeding) × (f .work ≡ 2 * length roster) → Mem (f .triple) ts → Good f
+      good f e m = (
+        e .0,
+        first-passes _ _ (ap not (eq-eqb _ _ (e .1)))
+            (first-passes _ _ (any-none (wrongTriple v (length roster)) ts (R .codes) (f .triple) m)
+            (first-passes _ _ (ap not (all-at (coversTriple v roster) ts (R .cover) (f .triple) m)) no-checks)),
+      )

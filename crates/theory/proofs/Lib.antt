@@ -18,6 +18,7 @@ pub mod Partition
 pub mod Mapped
 pub mod Summaries
 pub mod Weights
+pub mod Removal
 pub mod OwnRoster
 pub mod Accepted
 pub mod Grouping

@@ -23,7 +23,7 @@ use Rattle.theory.specs.Theorems.{PlacesRight, TriplesOf, InSaturation, 
 use Rattle.theory.specs.Theorems.{SummaryExact, StrongRepresentativesExact, StrongSummaryExact, OwnRosterLeast, ShortcutBy, RoutesBy, AgainBy}
 use Rattle.theory.specs.Theorems.{AtRestBy, ShortcutHolds, RoutesAccepted, StrongShortcutHolds, StrongRoutesAccepted, WeakOfStrongHolds}
 use Rattle.theory.specs.Theorems.{Saturated, AtRestHolds, StrongAtRestHolds, AgainTheSame, StrongAgainTheSame, SaturationSaturated, AnyOrder}
-use Rattle.theory.specs.Theorems.{WholeList, FedInAnyOrder, FedStands, WeightsExact}
+use Rattle.theory.specs.Theorems.{WholeList, FedInAnyOrder, FedStands, RemovedStood, SlotFreed, LeavesRight, WeightsExact}
 use Rattle.theory.proofs.Tests.{or-false}
 use Rattle.theory.proofs.Checks.{passes-first}
 use Rattle.theory.proofs.Flat.{triples-flat}
@@ -46,6 +46,9 @@ use Rattle.theory.proofs.Feeding as feeding
 
 pub places-right : PlacesRight
 places-right t ts r = place-right t ts r
+
+pub leaves-right : LeavesRight
+leaves-right t H r = feeding.leaves-right t H r
 
 module _ (v : Vocabulary) where
   pub saturation-exact : SaturationExact v
@@ -256,21 +259,27 @@ module _ (v : Vocabulary) where
       record { triples = grouping.weak-of-strong v roster (triples table) R; maps = grouping.strong-then-weak v roster (triples table) R }
 
   pub any-order : AnyOrder v
-  any-order table roster h space few fs work same =
+  any-order table roster h space few cs work same =
       let R = accept.accepted-right v table roster h in
-      let c = feeding.any-order v roster (triples table) R space fs few work same in
+      let c = feeding.any-order v roster (triples table) R space cs few work same in
       record { held = c .0; summarised = c .1; mapped = c .2 }
 
   pub fed-stands : FedStands v
-  fed-stands roster space H f x d r q = feeding.fed-stands v roster space H f d r x q
+  fed-stands roster space H c x d r k q = feeding.fed-stands v roster space H c d r k x q
+
+  pub removed-stood : RemovedStood v
+  removed-stood roster space H c x d r k q = feeding.removed-stood v roster space H c x d r k q
+
+  pub slot-freed : SlotFreed v
+  slot-freed roster space H c d x few k q n p e = feeding.slot-freed v roster space H c d x few k q n p e
 
   pub whole-list : WholeList v
-  whole-list roster s end fs os h run =
-      let w = feeding.whole-list v roster s end fs os h run in
+  whole-list roster s end cs os h run =
+      let w = feeding.whole-list v roster s end cs os h run in
       let o = feeding.opening v roster s h in
       let z = feeding.opening-few v roster s o in
-      let k = feeding.held-holds v roster (slots (s .triples)) fs [] (feeding.empty-holds v roster (slots (s .triples))) in
-      let R : Right v roster (heldAfter v roster (slots (s .triples)) fs []) =
+      let k = feeding.held-holds v roster (slots (s .triples)) cs [] (feeding.empty-holds v roster (slots (s .triples))) in
+      let R : Right v roster (heldAfter v roster (slots (s .triples)) cs []) =
       record { size = z .0; words = o .words; marks = o .marks; codes = k .codes; cover = k .covered } in
       record {
         answered = w .0;
@@ -278,7 +287,7 @@ module _ (v : Vocabulary) where
         rising = k .rising;
         accepted-table = accept.right-accepted v roster _ R (omega (arith, k .fits, z .1));
         past = subst (λ (x : State). (k : ℕ) → x .summarised ≤ k → getD (x .weights) k 0 ≡ 0) (sym (w .1)) (feeding.weights-past v roster s _);
-        weighed = feeding.weighed v roster s end fs os h run;
+        weighed = feeding.weighed v roster s end cs os h run;
       }
 
   pub weights-exact : WeightsExact v
@@ -294,10 +303,10 @@ module _ (v : Vocabulary) where
 
   pub fed-in-any-order : FedInAnyOrder v
   unfolding stateOf
-  fed-in-any-order table roster h s end fs os op few work same run =
-      let c = any-order table roster h (slots (s .triples)) few fs work same in
-      let e = whole-list roster s end fs os op run .state in
-      let K = heldAfter v roster (slots (s .triples)) fs [] in
+  fed-in-any-order table roster h s end cs os op few work same run =
+      let c = any-order table roster h (slots (s .triples)) few cs work same in
+      let e = whole-list roster s end cs os op run .state in
+      let K = heldAfter v roster (slots (s .triples)) cs [] in
       record {
         triples = ap (λ (x : State). x .triples) e ∙ ap (listed (length (s .triples))) (c .held);
         summary = ap (λ (x : State). x .summary) e ∙ ap (listed (length (s .summary))) (c .summarised);

@@ -1,23 +1,26 @@
--- How many triples each line of a summary stands for: the weights stand beside the lines and add up, and what a new triple adds.
+-- How many triples each line of a summary stands for: the weights stand beside the lines and add up, what a new triple adds, and what one that
+-- leaves takes away.
 -- Assumes nothing.
 use Prim.Native.Nat.{ℕ, zero, suc, _+_, _-_, _≤_, _<_}
 use mathlib.Core.Path.{_≡_, refl, sym, _∙_, ap, subst}
-use mathlib.Core.Logic.{⊎-elim}
+use mathlib.Core.Logic.{_⊎_, inl, inr, ⊎-elim}
 use mathlib.Core.Bool.{Bool, true, false, cond, true≢false}
 use mathlib.Core.List.{List, [], _∷_, _++_, map, List·Memᴰ as Mem, List·Memᴰ·head as here, List·Memᴰ·tail as there, List·Memᴰ·not-nil as no-mem, List·Memᴰ·cases-cons as mem-cases}
 use native.Mathlib.Omega.{arith}
 use native.Mathlib.Nat.{zero-add}
 use lib.ListN.{length, getD, set, length-map}
+use lib.Seq.{getD-set-same}
 use Rattle.model.specs.declared.Triple.{Triple}
-use Rattle.model.specs.Lists.{howMany, total, zeros, padded}
-use Rattle.model.specs.Triples.{before, same, holds, insert}
+use Rattle.model.specs.Lists.{any, howMany, total, zeros, padded}
+use Rattle.model.specs.Triples.{before, same, holds, insert, without}
 use Rattle.model.specs.Order.{Lt, Rising}
 use Rattle.model.specs.Partition.{label}
-use Rattle.model.specs.Summary.{moved, condensed, weight, weightsBy}
-use Rattle.theory.proofs.Tests.{cond-cases, not-true-false}
-use Rattle.theory.proofs.Lists.{many-le, many-none, many-some, mem-getD}
-use Rattle.theory.proofs.Order.{lt-irrefl, same-eq, same-refl, mem-holds, holds-mem}
-use Rattle.theory.proofs.Summaries.{condensed-rising, condensed-exact}
+use Rattle.model.specs.Summary.{moved, Image, condensed, weight, weightsBy}
+use Rattle.theory.specs.Tables.{In}
+use Rattle.theory.proofs.Tests.{cond-cases, bool-cases, not-true-false}
+use Rattle.theory.proofs.Lists.{any-found, any-none, many-le, many-none, many-some, mem-getD}
+use Rattle.theory.proofs.Order.{lt-irrefl, same-eq, same-refl, mem-holds, holds-mem, mem-without, without-mem, without-rising, without-gone, without-insert}
+use Rattle.theory.proofs.Summaries.{condensed-rising, condensed-exact, condensed-unique}
 
 -- ── sums ──
 total-append : (xs ys : List ℕ) → total (xs ++ ys) ≡ total xs + total ys
@@ -145,3 +148,153 @@ module _ (f : ℕ → ℕ) (t : Triple) (ts : List Triple) (new : holds t ts ≡
       let a : weight f (insert t ts) u ≡ weight f ts u =
       other u (λ q. lt-irrefl (subst (Lt u) (e ∙ sym q) (r .0 (getD us j d) (mem-getD us d j (omega arith))))) in
       λ i. a i ∷ weights-more us j d (r .1) (omega arith) e i
+
+-- ── a triple that leaves ──
+-- a list without the number at place j
+pub dropAt : ℕ → List ℕ → List ℕ
+dropAt j [] = []
+dropAt zero (x ∷ xs) = xs
+dropAt (suc j) (x ∷ xs) = x ∷ dropAt j xs
+
+pub length-drop : (j : ℕ) (xs : List ℕ) → j < length xs → length xs ≡ length (dropAt j xs) + 1
+unfolding dropAt
+length-drop j [] h = absurd (omega arith)
+length-drop zero (x ∷ xs) h = omega arith
+length-drop (suc j) (x ∷ xs) h = omega (arith, length-drop j xs (omega arith))
+
+pub drop-front : (j : ℕ) (xs : List ℕ) (k : ℕ) → k < j → getD (dropAt j xs) k 0 ≡ getD xs k 0
+unfolding dropAt
+drop-front j [] k h = refl
+drop-front zero (x ∷ xs) k h = absurd (omega arith)
+drop-front (suc j) (x ∷ xs) zero h = refl
+drop-front (suc j) (x ∷ xs) (suc k) h = drop-front j xs k (omega arith)
+
+pub drop-back : (j : ℕ) (xs : List ℕ) (k : ℕ) → j ≤ k → getD (dropAt j xs) k 0 ≡ getD xs (suc k) 0
+unfolding dropAt
+drop-back j [] k h = refl
+drop-back zero (x ∷ xs) k h = refl
+drop-back (suc j) (x ∷ xs) zero h = absurd (omega arith)
+drop-back (suc j) (x ∷ xs) (suc k) h = drop-back j xs k (omega arith)
+
+-- the number that goes may be any
+drop-set : (j : ℕ) (xs : List ℕ) (y : ℕ) → dropAt j (set xs j y) ≡ dropAt j xs
+unfolding dropAt
+drop-set j [] y = refl
+drop-set zero (x ∷ xs) y = refl
+drop-set (suc j) (x ∷ xs) y = ap (λ (l : List ℕ). x ∷ l) (drop-set j xs y)
+
+-- one more, taken back
+set-back : (xs : List ℕ) (j : ℕ) → j < length xs → xs ≡ set (set xs j (getD xs j 0 + 1)) j (getD xs j 0)
+set-back [] j h = absurd (omega arith)
+set-back (x ∷ xs) zero h = refl
+set-back (x ∷ xs) (suc j) h = ap (λ (l : List ℕ). x ∷ l) (set-back xs j (omega arith))
+
+-- of a rising list without the triple at place j, the numbers are those without the number at place j
+map-without : (g : Triple → ℕ) (u : Triple) (us : List Triple) (j : ℕ) (d : Triple) → Rising us → j < length us → getD us j d ≡ u
+    → map g (without u us) ≡ dropAt j (map g us)
+unfolding without dropAt
+map-without g u [] j d r h e = absurd (omega arith)
+map-without g u (x ∷ xs) zero d r h e =
+    ap (λ (b : Bool). map g (cond b xs (x ∷ without u xs))) (same-refl u x (sym e))
+map-without g u (x ∷ xs) (suc j) d r h e =
+    ap (λ (b : Bool). map g (cond b xs (x ∷ without u xs)))
+    (not-true-false (same u x) (λ s. lt-irrefl (subst (Lt x) (e ∙ same-eq u x s) (r .0 (getD xs j d) (mem-getD xs d j (omega arith))))))
+    ∙ ap (λ (l : List ℕ). g x ∷ l) (map-without g u xs j d (r .1) (omega arith) e)
+
+-- by any map: what becomes of the images and of their weights
+module _ (m : List ℕ) (t : Triple) (H : List Triple) (rising : Rising H) (held : Mem t H) where
+  abbrev f : ℕ → ℕ
+  f = label m
+
+  abbrev K : List Triple
+  K = without t H
+
+  abbrev lines : List Triple
+  lines = condensed m H
+
+  again : insert t K ≡ H
+  again = without-insert t H rising held
+
+  left-out : holds t K ≡ false
+  left-out = not-true-false (holds t K) (λ e. without-gone t H rising (holds-mem t K e))
+
+  -- an image is t's, or that of another held triple
+  image-or : (x : Triple) → Image f (In H) x → (x ≡ moved f t) ⊎ Image f (In K) x
+  image-or x w =
+      ⊎-elim (λ (e : same t (w .0) ≡ true). inl (w .2 ∙ ap (moved f) (sym (same-eq t (w .0) e))))
+      (λ e. inr (w .0, mem-without t (w .0) H (w .1) (λ q. true≢false (sym (same-refl t (w .0) (sym q)) ∙ e)), w .2)) (bool-cases (same t (w .0)))
+
+  image-still : (x : Triple) → Image f (In K) x → Image f (In H) x
+  image-still x w = (w .0, without-mem t (w .0) H (w .1), w .2)
+
+  -- another held triple with t's image counts for it
+  counted : Image f (In K) (moved f t) → 1 ≤ weight f K (moved f t)
+  unfolding weight
+  counted w = many-some (λ u. same (moved f t) (moved f u)) K (w .0) (w .1) (same-refl _ _ (w .2))
+
+  counted-by : 1 ≤ weight f K (moved f t) → Image f (In K) (moved f t)
+  unfolding weight
+  counted-by h =
+      ⊎-elim (λ e. let y = any-found (λ u. same (moved f t) (moved f u)) K e in (y .0, y .1, same-eq _ _ (y .2)))
+      (λ e. absurd (omega (arith, many-none (λ u. same (moved f t) (moved f u)) K (λ u k. any-none (λ u. same (moved f t) (moved f u)) K e u k))))
+      (bool-cases (any (λ u. same (moved f t) (moved f u)) K))
+
+  lines-stay : 1 ≤ weight f K (moved f t) → lines ≡ condensed m K
+  lines-stay h =
+      condensed-unique m K lines (condensed-rising m H)
+      (λ x. (
+        λ k. ⊎-elim (λ (q : x ≡ moved f t). subst (Image f (In K)) (sym q) (counted-by h)) (λ w. w) (image-or x ((condensed-exact m H x) .0 k)),
+        λ w. (condensed-exact m H x) .1 (image-still x w),
+      ))
+
+  line-goes : weight f K (moved f t) ≡ 0 → without (moved f t) lines ≡ condensed m K
+  line-goes h =
+      condensed-unique m K (without (moved f t) lines) (without-rising (moved f t) lines (condensed-rising m H))
+      (λ x. (
+        λ k. ⊎-elim
+            (λ (q : x ≡ moved f t). absurd (without-gone (moved f t) lines (condensed-rising m H) (subst (λ (z : Triple). Mem z (without (moved f t) lines)) q k)))
+            (λ w. w) (image-or x ((condensed-exact m H x) .0 (without-mem (moved f t) x lines k))),
+        λ w. mem-without (moved f t) x lines ((condensed-exact m H x) .1 (image-still x w))
+            (λ q. absurd (omega (arith, h, counted (subst (Image f (In K)) q w)))),
+      ))
+
+  -- t's image stands at place j
+  module _ (j : ℕ) (d : Triple) (h : j < length lines) (e : getD lines j d ≡ moved f t) where
+    abbrev few : List ℕ
+    few = map (weight f K) lines
+
+    inside : j < length few
+    inside = omega (arith, length-map lines (weight f K))
+
+    heavier : weightsBy m H ≡ set few j (getD few j 0 + 1)
+    unfolding weightsBy
+    heavier =
+        ap (λ (ts : List Triple). map (weight f ts) lines) (sym again)
+        ∙ weights-more f t K left-out lines j d (condensed-rising m H) h e
+
+    here-is : getD few j 0 ≡ weight f K (moved f t)
+    here-is = map-at (weight f K) lines j d h ∙ ap (weight f K) e
+
+    weighs : getD (weightsBy m H) j 0 ≡ getD few j 0 + 1
+    weighs = ap (λ (l : List ℕ). getD l j 0) heavier ∙ getD-set-same few j _ 0 inside
+
+    -- others have the image: its line weighs one less
+    pub lighter : 2 ≤ getD (weightsBy m H) j 0
+        → (condensed m K ≡ lines) × (weightsBy m K ≡ set (weightsBy m H) j (getD (weightsBy m H) j 0 - 1))
+    unfolding weightsBy
+    lighter l =
+        let stay = lines-stay (omega (arith, weighs, here-is)) in
+        let x : getD few j 0 ≡ getD (weightsBy m H) j 0 - 1 = omega (arith, weighs) in (
+          sym stay,
+          ap (map (weight f K)) (sym stay) ∙ set-back few j inside ∙ (λ i. set (sym heavier i) j (x i)),
+        )
+
+    -- no other has it: its line goes
+    pub gone : getD (weightsBy m H) j 0 ≤ 1 → (condensed m K ≡ without (moved f t) lines) × (weightsBy m K ≡ dropAt j (weightsBy m H))
+    unfolding weightsBy
+    gone l =
+        let go = line-goes (omega (arith, weighs, here-is)) in (
+          sym go,
+          ap (map (weight f K)) (sym go) ∙ map-without (weight f K) (moved f t) lines j d (condensed-rising m H) h e
+              ∙ sym (drop-set j few _) ∙ ap (dropAt j) (sym heavier),
+        )

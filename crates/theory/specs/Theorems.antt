@@ -1,6 +1,6 @@
 -- What is shown of the definitions, each statement under its own name; `proofs/Theorems.antt` proves each.
 -- Assumes nothing.
-use Prim.Native.Nat.{ℕ, _≤_, _<_, _*_}
+use Prim.Native.Nat.{ℕ, _+_, _≤_, _<_, _*_}
 use mathlib.Core.Path.{_≡_}
 use mathlib.Core.Logic.{_⊎_, _↔_}
 use mathlib.Core.Bool.{true, false}
@@ -10,7 +10,7 @@ use Rattle.model.specs.declared.Triple.{Triple}
 use Rattle.model.specs.declared.Vocabulary.{Vocabulary}
 use Rattle.model.specs.Codes.{absent, kind, reserved, mostTriples}
 use Rattle.model.specs.Lists.{howMany, total, padded}
-use Rattle.model.specs.Triples.{triple, triples, flat, slots, before, same, holds, place, insert, sorted, listed}
+use Rattle.model.specs.Triples.{triple, triples, flat, slots, before, same, holds, place, insert, without, sorted, listed}
 use Rattle.model.specs.Order.{Rising}
 use Rattle.model.specs.Roster.{mark, isClass, isProperty, covers, ownRoster, wrongRoster, wrongCodes}
 use Rattle.model.specs.Rules.{Derives}
@@ -19,9 +19,9 @@ use Rattle.model.specs.Partition.{label}
 use Rattle.model.specs.Cliques.{Graph, Side, Node, Has, Clique, cliques}
 use Rattle.model.specs.Classes.{DataNode, Weakly, Strongly, RepresentsBy, mapOf, strongMapOf}
 use Rattle.model.specs.Summary.{moved, Image, condensed, summary, weights, strongSummary}
-use Rattle.model.specs.Outcomes.{Outcome, accepted, Answer, Said}
+use Rattle.model.specs.Outcomes.{Outcome, accepted, Answer, answer, Said, new, Passes}
 use Rattle.model.specs.Calls.{Accepted}
-use Rattle.model.specs.Intake.{State, Feed, isNew, replyTo, joins, answers, heldAfter, stateOf, openOutcome, opened, Run}
+use Rattle.model.specs.Intake.{State, feeding, removing, Call, isNew, isRemoved, plainChecks, replyTo, heldThen, answers, heldAfter, stateOf, openOutcome, opened, Run}
 
 -- the triples of a table, as a set
 abbrev pub TriplesOf : List ℕ → Graph
@@ -40,6 +40,18 @@ pub record PlaceRight (t : Triple) (ts : List Triple) : Type 0 where
 
 abbrev pub PlacesRight : Type 0
 PlacesRight = (t : Triple) (ts : List Triple) → Rising ts → PlaceRight t ts
+
+-- ── a triple that leaves ──
+-- 02: "its triple leaves H": it is gone, every other triple stays, and the order does; a triple that is fed and removed again leaves what was held,
+-- and so does one that is removed and fed again
+pub record Left (t : Triple) (H : List Triple) : Type 0 where
+  pub rising : Rising (without t H)
+  pub exact : (u : Triple) → Mem u (without t H) ↔ (Mem u H × (u ≡ t → ⊥))
+  pub fed-before : holds t H ≡ false → without t (insert t H) ≡ H
+  pub fed-again : holds t H ≡ true → insert t (without t H) ≡ H
+
+abbrev pub LeavesRight : Type 0
+LeavesRight = (t : Triple) (H : List Triple) → Rising H → Left t H
 
 module _ (v : Vocabulary) where
   abbrev pub saturationOf : List ℕ → List ℕ → List Triple
@@ -201,15 +213,30 @@ module _ (v : Vocabulary) where
   abbrev pub AnyOrder : Type 0
   AnyOrder =
       (table roster : List ℕ) → Accepted v table roster → (space : ℕ) → length (sorted (triples table)) ≤ space
-      → (fs : List Feed) → ((f : Feed) → Mem f fs → f .work ≡ 2 * length roster) → ((t : Triple) → Mem t (map (λ (f : Feed). f .triple) fs) ↔ Mem t (triples table))
-      → Collected table roster (heldAfter v roster space fs [])
+      → (cs : List Call) → ((c : Call) → Mem c cs → (c .kind ≡ feeding) × (c .work ≡ 2 * length roster))
+      → ((t : Triple) → Mem t (map (λ (c : Call). c .triple) cs) ↔ Mem t (triples table))
+      → Collected table roster (heldAfter v roster space cs [])
 
   -- 02: "Feeding the intake reports the same place within the triples it held before the call, for a repeat too." In what is held after an
   -- accepted feed, new or not, its triple stands at that place.
   abbrev pub FedStands : Type 0
   FedStands =
-      (roster : List ℕ) (space : ℕ) (H : List Triple) (f : Feed) (x : Answer Said) (d : Triple) → Rising H → replyTo v roster space H f ≡ accepted x
-      → getD (joins (accepted x) (f .triple) H) (x .place) d ≡ f .triple
+      (roster : List ℕ) (space : ℕ) (H : List Triple) (c : Call) (x : Answer Said) (d : Triple) → Rising H → c .kind ≡ feeding
+      → replyTo v roster space H c ≡ accepted x → getD (heldThen (accepted x) (c .triple) H) (x .place) d ≡ c .triple
+
+  -- 02: "the answer is "removed" with its place in H". In what was held before an accepted removal, its triple stood at that place.
+  abbrev pub RemovedStood : Type 0
+  RemovedStood =
+      (roster : List ℕ) (space : ℕ) (H : List Triple) (c : Call) (x : Answer Said) (d : Triple) → Rising H → c .kind ≡ removing
+      → replyTo v roster space H c ≡ accepted x → getD H (x .place) d ≡ c .triple
+
+  -- 02: "A slot set free takes a later triple." After an accepted removal, also from an intake whose every slot held a triple, a feed that passes
+  -- the checks and whose triple is not held is new, whether its triple is the one that left or another.
+  abbrev pub SlotFreed : Type 0
+  SlotFreed =
+      (roster : List ℕ) (space : ℕ) (H : List Triple) (c d : Call) (x : Answer Said) → length H ≤ space → c .kind ≡ removing → replyTo v roster space H c ≡ accepted x
+      → d .kind ≡ feeding → Passes (plainChecks v roster d) → holds (d .triple) (without (c .triple) H) ≡ false
+      → replyTo v roster space (without (c .triple) H) d ≡ accepted (answer new (place (d .triple) (without (c .triple) H)))
 
   -- 02: "The intake keeps, beside each summary triple, the count of held triples whose image it is". The weights by their places, whatever is
   -- held; each line stands for at least one triple, and together they stand for what is held.
@@ -223,21 +250,23 @@ module _ (v : Vocabulary) where
   abbrev pub WeightsExact : Type 0
   WeightsExact = (roster : List ℕ) (H : List Triple) → WeightsRight roster H
 
-  -- the demand: every list of feeds, refusals and repeats included, gives the plain intake's answers and state, as one claim about the whole list
-  pub record Plain (roster : List ℕ) (s : State) (fs : List Feed) (os : List (Outcome (Answer Said))) (end : State) : Type 0 where
-    pub answered : os ≡ answers v roster (slots (s .triples)) fs []
-    pub state : end ≡ stateOf v roster s (heldAfter v roster (slots (s .triples)) fs [])
+  -- the demand: every list of calls, refusals and repeats included, gives the plain intake's answers and state, as one claim about the whole list;
+  -- 02: "After any mixture of feeding and removing from opening, .., the answers are the plain intake's, the lists and both counts must be those of
+  -- H and its summary"
+  pub record Plain (roster : List ℕ) (s : State) (cs : List Call) (os : List (Outcome (Answer Said))) (end : State) : Type 0 where
+    pub answered : os ≡ answers v roster (slots (s .triples)) cs []
+    pub state : end ≡ stateOf v roster s (heldAfter v roster (slots (s .triples)) cs [])
     -- what is held is a table in rising order, accepted with the roster: demand 2 says what its summary and its map are
-    pub rising : Rising (heldAfter v roster (slots (s .triples)) fs [])
-    pub accepted-table : Accepted v (flat (heldAfter v roster (slots (s .triples)) fs [])) roster
-    -- 02: "zero past the last summary triple. The counts add up to the number of fed triples that were new since opening."
+    pub rising : Rising (heldAfter v roster (slots (s .triples)) cs [])
+    pub accepted-table : Accepted v (flat (heldAfter v roster (slots (s .triples)) cs [])) roster
+    -- 02: "zero past the last summary triple"; "the weights add up to accepted new triples less removed ones"
     pub past : (k : ℕ) → end .summarised ≤ k → getD (end .weights) k 0 ≡ 0
-    pub weighed : total (end .weights) ≡ howMany isNew os
+    pub weighed : total (end .weights) + howMany isRemoved os ≡ howMany isNew os
 
   abbrev pub WholeList : Type 0
   WholeList =
-      (roster : List ℕ) (s end : State) (fs : List Feed) (os : List (Outcome (Answer Said))) → openOutcome v roster s ≡ accepted tt
-      → Run v roster (opened v roster s) fs os end → Plain roster s fs os end
+      (roster : List ℕ) (s end : State) (cs : List Call) (os : List (Outcome (Answer Said))) → openOutcome v roster s ≡ accepted tt
+      → Run v roster (opened v roster s) cs os end → Plain roster s cs os end
 
   -- the demand: feeding in any order, with repeats, ends in the plain summary, of the lists and the record that a run of feeds leaves
   pub record Filled (table roster : List ℕ) (s end : State) : Type 0 where
@@ -250,10 +279,11 @@ module _ (v : Vocabulary) where
 
   abbrev pub FedInAnyOrder : Type 0
   FedInAnyOrder =
-      (table roster : List ℕ) → Accepted v table roster → (s end : State) (fs : List Feed) (os : List (Outcome (Answer Said))) → openOutcome v roster s ≡ accepted tt
+      (table roster : List ℕ) → Accepted v table roster → (s end : State) (cs : List Call) (os : List (Outcome (Answer Said))) → openOutcome v roster s ≡ accepted tt
       → length (sorted (triples table)) ≤ slots (s .triples)
-      → ((f : Feed) → Mem f fs → f .work ≡ 2 * length roster) → ((t : Triple) → Mem t (map (λ (f : Feed). f .triple) fs) ↔ Mem t (triples table))
-      → Run v roster (opened v roster s) fs os end → Filled table roster s end
+      → ((c : Call) → Mem c cs → (c .kind ≡ feeding) × (c .work ≡ 2 * length roster))
+      → ((t : Triple) → Mem t (map (λ (c : Call). c .triple) cs) ↔ Mem t (triples table))
+      → Run v roster (opened v roster s) cs os end → Filled table roster s end
 
   -- ── a shipped summary is at rest ──
   -- 02: "a saturated table": it holds all that the rules give from it, in whatever order; repeats are allowed

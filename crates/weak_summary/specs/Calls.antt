@@ -14,14 +14,14 @@ use Rattle.model.specs.Cliques.{source, target}
 use Rattle.model.specs.Outcomes.{Outcome, refused, Answer, Said, refusalNumber, check, decided}
 use Rattle.model.specs.Calls.{Summarised, ownRosterOutcome, ownRosterLeaves, saturateOutcome, saturateLeaves, cliquesOutcome, cliquesLeave}
 use Rattle.model.specs.Calls.{summariseOutcome, summariseLeaves, strongSummariseOutcome, strongSummariseLeaves}
-use Rattle.model.specs.Intake.{State, openOutcome, openLeaves, Fed}
+use Rattle.model.specs.Intake.{State, openOutcome, openLeaves, Fed, Removes}
 use Rattle.query.specs.Ask.{askOutcome}
 use Rattle.site_form.specs.declared.Site.{Site}
 use Rattle.site_form.specs.declared.Form.{Form}
 use Rattle.site_form.specs.declared.Form.the-variants.{Read, Refused}
 use Rattle.site_form.specs.Reading.{readOutcome, readSite, readList}
 use Rattle.site_form.specs.Writing.{writeOutcome, writeList}
-use Rattle.call_numbers.specs.Status.{statusOf, bits, newBit, Stores, Reports}
+use Rattle.call_numbers.specs.Status.{statusOf, bits, newBit, Stores, Reports, ReportsPlace}
 use Rattle.flat_queries.specs.Flat.{flatQuery, flatQueries}
 use Rattle.call_numbers.specs.Words.{ByWords}
 
@@ -84,6 +84,12 @@ module _ (v : Vocabulary) where
     pub fed : Fed v roster s work t outcome after work′
     pub reports : Reports newBit outcome new status new′ place′
 
+  -- removing: the status and the number `place` tell an outcome, and of that outcome holds what a removal promises
+  pub record RemoveStatus (roster : List ℕ) (s : State) (work : List ℕ) (t : Triple) (status place′ : ℕ) (after : State) (work′ : List ℕ) : Type 0 where
+    pub outcome : Outcome (Answer Said)
+    pub removed : Removes v roster s work t outcome after work′
+    pub reports : ReportsPlace outcome status place′
+
 -- ── the calls that are lent the five codes as a list ──
 -- own roster: roster (lent)
 abbrev pub OwnRosterByWords : (words table roster : List ℕ) (status : ℕ) (roster′ : List ℕ) → Type 0
@@ -134,6 +140,11 @@ OpenByWords words roster s status after = ByWords words ((status ≡ 1) × (afte
 abbrev pub FeedByWords : (words roster : List ℕ) (s : State) (work : List ℕ) (new : ℕ) (t : Triple) (status : ℕ) (after : State) (work′ : List ℕ) (new′ place′ : ℕ) → Type 0
 FeedByWords words roster s work new t status after work′ new′ place′ =
     ByWords words ((status ≡ 1) × (new′ ≡ new) × (place′ ≡ 0) × (work′ ≡ work) × (after ≡ s)) (λ v. FeedStatus v roster s work t new status new′ place′ after work′)
+
+-- removing: the lists and counts, the work list and the number `place` (lent)
+abbrev pub RemoveByWords : (words roster : List ℕ) (s : State) (work : List ℕ) (t : Triple) (status : ℕ) (after : State) (work′ : List ℕ) (place′ : ℕ) → Type 0
+RemoveByWords words roster s work t status after work′ place′ =
+    ByWords words ((status ≡ 1) × (place′ ≡ 0) × (work′ ≡ work) × (after ≡ s)) (λ v. RemoveStatus v roster s work t status place′ after work′)
 
 -- writing: out (lent), count (lent)
 abbrev pub WriteByWords : (words : List ℕ) (n : ℕ) (table out : List ℕ) (count status : ℕ) (out′ : List ℕ) (count′ : ℕ) → Type 0

@@ -7,13 +7,14 @@ ghost use Rattle.model.specs.Triples.{triple};
 ghost use Rattle.model.specs.Calls.{lookUpOutcome};
 ghost use Rattle.intake_opening.specs.Opening.{atEntry, atExit};
 ghost use Rattle.call_numbers.specs.Status.{bit, Reports};
-ghost use Rattle.weak_summary.specs.Calls.{OwnRosterByWords, SaturateByWords, CliquesByWords, SummariseByWords, SummariseStrongByWords, AskByWords, OpenByWords, FeedByWords, WriteByWords, lent, formStatus, ReadStatus};
+ghost use Rattle.weak_summary.specs.Calls.{OwnRosterByWords, SaturateByWords, CliquesByWords, SummariseByWords, SummariseStrongByWords, AskByWords, OpenByWords, FeedByWords, RemoveByWords, WriteByWords, lent, formStatus, ReadStatus};
 use ask::ask;
 use call_numbers::WORDS_NUMBERS;
 use call_numbers::asked_status;
 use call_numbers::counted_status;
 use call_numbers::done_status;
 use call_numbers::found_status;
+use call_numbers::place_status;
 use call_numbers::put_words;
 use call_numbers::refused_status;
 use call_numbers::reply_status;
@@ -25,6 +26,7 @@ use flat_queries::put_queries;
 use flat_queries::query_of;
 use intake_feeding::feed_lists;
 use intake_opening::open_counts;
+use intake_removing::remove_lists;
 use look_up::look_up;
 use model::Refusal;
 use model::Triple;
@@ -242,6 +244,51 @@ pub extern "C" fn ws_feed(
     *held = fed.counts.held;
     *summarised = fed.counts.summarised;
     reply_status(answer, new, place)
+}
+
+#[no_mangle]
+pub extern "C" fn ws_remove(
+    words: &[u32],
+    roster: &[u8],
+    triples: &mut [u32],
+    summary: &mut [u32],
+    weights: &mut [u32],
+    map: &mut [u32],
+    work: &mut [u32],
+    s: u32,
+    p: u32,
+    o: u32,
+    held: &mut usize,
+    summarised: &mut usize,
+    place: &mut usize,
+) -> u32
+    ensures { λ r. ⌜ RemoveByWords (now (words .entry)) (now (roster .entry))
+        (atEntry triples summary weights map (now (held .entry)) (now (summarised .entry))) (now (work .entry))
+        (triple s p o) r
+        (atExit triples summary weights map (now (held .exit)) (now (summarised .exit))) (now (work .exit)) (now (place .exit)) ⌝ }
+{
+    if words.len() != WORDS_NUMBERS {
+        return refused_status(Refusal::Length, place);
+    }
+    let loaded = words_of(words);
+    let removed = remove_lists(
+        *held,
+        *summarised,
+        loaded,
+        roster,
+        triples,
+        summary,
+        weights,
+        map,
+        work,
+        s,
+        p,
+        o,
+    );
+    let answer = removed.answer;
+    *held = removed.counts.held;
+    *summarised = removed.counts.summarised;
+    place_status(answer, place)
 }
 
 #[no_mangle]

@@ -1,8 +1,9 @@
 //! What the tests share.
 #![allow(dead_code)]
 
+use weak_summary::calls::{self, State};
 use weak_summary::{own_roster, saturate, summarise, summarise_strong};
-use weak_summary::{End, Pattern, Query, Refusal, Words, ABSENT};
+use weak_summary::{End, Intake, Pattern, Query, Refusal, Triple, Words, ABSENT};
 
 /// The words of the scope paper.
 pub const RDFS: Words = Words::RDFS;
@@ -88,4 +89,61 @@ pub fn map_with(n: usize, nodes: &[(usize, u32)]) -> Vec<u32> {
         map[code] = representative;
     }
     map
+}
+
+/// A line of a summary and its weight.
+pub type Line = (Triple, u32);
+
+/// An intake's summary line by line, with the weights.
+pub fn lines(intake: &Intake) -> Vec<Line> {
+    assert_eq!(intake.summary().len(), 3 * intake.weights().len());
+    intake.summary().chunks_exact(3).map(|t| [t[0], t[1], t[2]]).zip(intake.weights().iter().copied()).collect()
+}
+
+/// All that an intake of 24 codes is lent.
+#[derive(Clone, PartialEq, Debug)]
+pub struct Lent {
+    pub triples: Vec<u32>,
+    pub summary: Vec<u32>,
+    pub weights: Vec<u32>,
+    pub map: Vec<u32>,
+    pub work: Vec<u32>,
+    pub counts: [usize; 2],
+    pub is_new: u32,
+    pub place: usize,
+}
+
+impl Lent {
+    /// Lists of nines: triples, summary and weights of these lengths.
+    pub fn nines([triples, summary, weights]: [usize; 3]) -> Lent {
+        let [triples, summary, weights, map, work] = [triples, summary, weights, 24, 48].map(|length| vec![9; length]);
+        Lent { triples, summary, weights, map, work, counts: [9; 2], is_new: 9, place: 9 }
+    }
+
+    /// The lists, the work list, and the two numbers that take a feed's answers.
+    fn parts(&mut self) -> (State<'_>, &mut [u32], &mut u32, &mut usize) {
+        let Lent { triples, summary, weights, map, work, counts: [held, summarised], is_new, place } = self;
+        (State { triples, summary, weights, map, held, summarised }, work, is_new, place)
+    }
+
+    pub fn open(&mut self, words: &[u32], roster: &[u8]) -> u32 {
+        calls::open(words, roster, self.parts().0)
+    }
+
+    pub fn feed(&mut self, words: &[u32], roster: &[u8], t: Triple) -> u32 {
+        let (state, work, is_new, place) = self.parts();
+        calls::feed(calls::Lent { words, roster, state, work }, t, is_new, place)
+    }
+
+    pub fn remove(&mut self, words: &[u32], roster: &[u8], t: Triple) -> u32 {
+        let (state, work, _, place) = self.parts();
+        calls::remove(calls::Lent { words, roster, state, work }, t, place)
+    }
+
+    /// The same with nines in the work list and in the numbers that take answers.
+    pub fn spoilt(mut self) -> Lent {
+        self.work.fill(9);
+        (self.is_new, self.place) = (9, 9);
+        self
+    }
 }

@@ -1,7 +1,7 @@
 -- `call_numbers::reply_status` meets its contract.
 -- Assumes nothing.
 use borrow.Author.Needs.{needs}
-use Rattle.call_numbers.proofs.Outcomes.{reply-new, reply-not-new, reply-refuses}
+use Rattle.call_numbers.proofs.Outcomes.{reply-new, reply-not-new, reply-removed, reply-refuses}
 use Rattle.call_numbers.proofs.reply_status.Statement.{statement}
 use Rattle.call_numbers.proofs.reply_status.Tie as tie
 
@@ -14,6 +14,9 @@ enum-known-a-2 c = search needs
 enum-known-a-3 : tie.Need-enum-known-a-3
 enum-known-a-3 c = search needs
 
+enum-known-a-4 : tie.Need-enum-known-a-4
+enum-known-a-4 c = search needs
+
 refused-status-requires : tie.Need-refused-status-requires
 refused-status-requires c κs = search needs
 
@@ -24,7 +27,10 @@ returns-2 : tie.Need-returns-2
 returns-2 c = reply-not-new _ _ _ (c .before .a2 .given .1)
 
 returns-3 : tie.Need-returns-3
-returns-3 c = reply-refuses _ _ _ _ (c .before .before .before .a3 .given .1) _ (c .refused-status .ensures)
+returns-3 c = reply-removed _ _ _ (c .before .a3 .given .1)
+
+returns-4 : tie.Need-returns-4
+returns-4 c = reply-refuses _ _ _ _ (c .before .before .before .a4 .given .1) _ (c .refused-status .ensures)
 
 pub reply-status-spec : {M : Type 1} → statement M
 reply-status-spec =
@@ -33,7 +39,9 @@ reply-status-spec =
     enum-known-a
     enum-known-a-2
     enum-known-a-3
+    enum-known-a-4
     refused-status-requires
     returns
     returns-2
-    returns-3)
+    returns-3
+    returns-4)

@@ -48,12 +48,12 @@ use Rattle.model.specs.Outcomes.{replied}
 use Rattle.model.specs.Intake.{Fed}
 use Rattle.intake_opening.specs.Opening.{stateWith}
 use Rattle.intake_opening.specs.declared.Counts.{Counts}
-use Rattle.intake_adding.specs.declared.FedCounts.{FedCounts}
+use Rattle.intake_calls.specs.declared.CalledCounts.{CalledCounts}
 use Rattle.model.specs.declared.Reply.{Reply}
 use Rattle.intake_opening.proofs.Counts as T
 use Rattle.intake_opening.proofs.Counts.Laws as T′
-use Rattle.intake_adding.proofs.FedCounts as F
-use Rattle.intake_adding.proofs.FedCounts.Laws as F′
+use Rattle.intake_calls.proofs.CalledCounts as F
+use Rattle.intake_calls.proofs.CalledCounts.Laws as F′
 use Rattle.model.proofs.Reply as E
 use Rattle.model.proofs.Reply.Laws as E′
 use Rattle.model.specs.declared.Vocabulary.{Vocabulary}
@@ -138,7 +138,7 @@ module _ {M : Type 1} (𝓤 : URA M) (H : Heap 𝓤) (A : Atoms 𝓤) (W : Given
   abbrev ans : Reply → Val
   ans y = EL.val E.the-type E′.the-laws y
 
-  abbrev after : FedCounts → Counts
+  abbrev after : CalledCounts → Counts
   after r = r .counts
 
   abbrev Post : Val → SProp 𝓤
@@ -155,10 +155,10 @@ module _ {M : Type 1} (𝓤 : URA M) (H : Heap 𝓤) (A : Atoms 𝓤) (W : Given
   goes fit-held fit-summarised = qed W ((‵ (flft κ1 q1) ⊛ ‵ (flft κ2 q2) ⊛ ‵ (flft κ3 q3) ⊛ ‵ (flft κ4 q4) ⊛ ‵ (flft κ5 q5) ⊛ ‵ (flft κ6 q6) ⊛ ‵ ftrue) ∷ ‵ (owns (X0.the-row ∷ ShrSlice (named 1) κ1 u8 ∷ MutSlice (named 2) κ2 u32 ∷ MutSlice (named 3) κ3 u32 ∷ MutSlice (named 4) κ4 u32 ∷ MutSlice (named 5) κ5 u32 ∷ MutSlice (named 6) κ6 u32 ∷ u32 ∷ u32 ∷ u32 ∷ []) rest restv) ∷ []) ∵ move ! (1 ∷ 0 ∷ []) $ owned ! usize (Is usize) (uint-makes 𝓤 H A W w64) (h .summarised) _ (refl, fit-summarised) $ fjoin ! $ owned ! usize (Is usize) (uint-makes 𝓤 H A W w64) (h .held) _ (refl, fit-held) $ fjoin ! $ move ! (1 ∷ 0 ∷ []) $ join ! $ frame ! $ done !
 
   -- what the callee ensures of its result and of the last lists
-  abbrev Said : FedCounts → List ℕ → List ℕ → List ℕ → List ℕ → List ℕ → Type 0
+  abbrev Said : CalledCounts → List ℕ → List ℕ → List ℕ → List ℕ → List ℕ → Type 0
   Said r z3 z4 z5 z6 z7 = Fed v1 y2 (stateWith y3 y4 y5 y6 (h .held) (h .summarised)) y7 (triple v8 v9 v10) (replied (r .answer)) (stateWith z3 z4 z5 z6 (r .counts .held) (r .counts .summarised)) z7
 
-  exits : (r : FedCounts) (z3 : List ℕ) (z4 : List ℕ) (z5 : List ℕ) (z6 : List ℕ) (z7 : List ℕ) → Said r z3 z4 z5 z6 z7 → length z3 ≡ length y3 → length z4 ≡ length y4 → length z5 ≡ length y5 → length z6 ≡ length y6 → length z7 ≡ length y7 → Is E.the-row (r .answer) (ans (r .answer) ∷ []) → ent 𝓤 (⋆ 𝓤 H A (‵ (fobs γ (T.the-row .coded .code (after r))) ∷ ‵ (fbor κ0 (Body (mem T.the-row) b o γ)) ∷ ‵ (flft κ0 q0) ∷ (‵ (flft κ1 q1) ⊛ ‵ (flft κ2 q2) ⊛ ‵ (flft κ3 q3) ⊛ ‵ (flft κ4 q4) ⊛ ‵ (flft κ5 q5) ⊛ ‵ (flft κ6 q6) ⊛ ‵ ftrue) ∷ ‵ (finally u32 γ3 z3) ∷ ‵ (finally u32 γ4 z4) ∷ ‵ (finally u32 γ5 z5) ∷ ‵ (finally u32 γ6 z6) ∷ ‵ (finally u32 γ7 z7) ∷ [])) (Post (ans (r .answer)))
+  exits : (r : CalledCounts) (z3 : List ℕ) (z4 : List ℕ) (z5 : List ℕ) (z6 : List ℕ) (z7 : List ℕ) → Said r z3 z4 z5 z6 z7 → length z3 ≡ length y3 → length z4 ≡ length y4 → length z5 ≡ length y5 → length z6 ≡ length y6 → length z7 ≡ length y7 → Is E.the-row (r .answer) (ans (r .answer) ∷ []) → ent 𝓤 (⋆ 𝓤 H A (‵ (fobs γ (T.the-row .coded .code (after r))) ∷ ‵ (fbor κ0 (Body (mem T.the-row) b o γ)) ∷ ‵ (flft κ0 q0) ∷ (‵ (flft κ1 q1) ⊛ ‵ (flft κ2 q2) ⊛ ‵ (flft κ3 q3) ⊛ ‵ (flft κ4 q4) ⊛ ‵ (flft κ5 q5) ⊛ ‵ (flft κ6 q6) ⊛ ‵ ftrue) ∷ ‵ (finally u32 γ3 z3) ∷ ‵ (finally u32 γ4 z4) ∷ ‵ (finally u32 γ5 z5) ∷ ‵ (finally u32 γ6 z6) ∷ ‵ (finally u32 γ7 z7) ∷ [])) (Post (ans (r .answer)))
   exits r z3 z4 z5 z6 z7 e l3 l4 l5 l6 l7 is =
       qed W (‵ (fobs γ (T.the-row .coded .code (after r))) ∷ ‵ (fbor κ0 (Body (mem T.the-row) b o γ)) ∷ ‵ (flft κ0 q0) ∷ (‵ (flft κ1 q1) ⊛ ‵ (flft κ2 q2) ⊛ ‵ (flft κ3 q3) ⊛ ‵ (flft κ4 q4) ⊛ ‵ (flft κ5 q5) ⊛ ‵ (flft κ6 q6) ⊛ ‵ ftrue) ∷ ‵ (finally u32 γ3 z3) ∷ ‵ (finally u32 γ4 z4) ∷ ‵ (finally u32 γ5 z5) ∷ ‵ (finally u32 γ6 z6) ∷ ‵ (finally u32 γ7 z7) ∷ []) ∵
       suffices ! _ (ends-at 𝓤 H A f.ended stayed (f.clauses 𝓤 H A at-mem run) W (((κ0, (κ1, (κ2, (κ3, (κ4, (κ5, (κ6, tt))))))), (q0, (q1, (q2, (q3, (q4, (q5, (q6, tt))))))), bounds, a, vals), tt) (ans (r .answer)) (r .answer) (after r, (tt, (tt, (z3, (z4, (z5, (z6, (z7, (tt, (tt, (tt, tt))))))))))) (tt, (tt, (tt, (l3, (l4, (l5, (l6, (l7, (tt, (tt, (tt, tt)))))))))))) $
@@ -197,7 +197,7 @@ module _ {M : Type 1} (𝓤 : URA M) (H : Heap 𝓤) (A : Atoms 𝓤) (W : Given
         -- the other arguments go to the callee
         move ! (5 ∷ 6 ∷ []) $ use2 W (raw (G 𝓤 H A at-mem run .pre to)) (goes (fit-held k) (fit-summarised k)) $
         calls-at ! fm (G 𝓤 H A at-mem run) known to (and-then ! (load ! (from ! (stop !)) (look ! 28 refl)) (and-then ! (load ! (from ! (stop !)) (look ! 26 refl)) (and-then ! (load ! (from ! (stop !)) (look ! 50 refl)) (and-then ! (load ! (from ! (stop !)) (look ! 48 refl)) (and-then ! (load ! (from ! (stop !)) (look ! 22 refl)) (and-then ! (load ! (from ! (stop !)) (look ! 18 refl)) (and-then ! (load ! (from ! (stop !)) (look ! 14 refl)) (and-then ! (load ! (from ! (stop !)) (look ! 10 refl)) (and-then ! (load ! (from ! (stop !)) (look ! 6 refl)) (and-then ! (load ! (from ! (stop !)) (look ! 36 refl)) (and-then ! (load ! (from ! (stop !)) (look ! 34 refl)) (and-then ! (load ! (from ! (stop !)) (look ! 32 refl)) (no-more !))))))))))))) (λ w.
-        use1 W (later (some (λ (r : FedCounts). ((‵ (flft κ1 q1) ⊛ ‵ (flft κ2 q2) ⊛ ‵ (flft κ3 q3) ⊛ ‵ (flft κ4 q4) ⊛ ‵ (flft κ5 q5) ⊛ ‵ (flft κ6 q6) ⊛ ‵ ftrue) ⊛ ‵ (F.the-row .own r (w ∷ []))) ⊛ raw (ensured 𝓤 H A g.ended (g.clauses 𝓤 H A at-mem run) (κ1, (κ2, (κ3, (κ4, (κ5, (κ6, tt)))))) args tt r)))) (id⊢ 𝓤 _) $ await ! tt $ pick ! (λ r.
+        use1 W (later (some (λ (r : CalledCounts). ((‵ (flft κ1 q1) ⊛ ‵ (flft κ2 q2) ⊛ ‵ (flft κ3 q3) ⊛ ‵ (flft κ4 q4) ⊛ ‵ (flft κ5 q5) ⊛ ‵ (flft κ6 q6) ⊛ ‵ ftrue) ⊛ ‵ (F.the-row .own r (w ∷ []))) ⊛ raw (ensured 𝓤 H A g.ended (g.clauses 𝓤 H A at-mem run) (κ1, (κ2, (κ3, (κ4, (κ5, (κ6, tt)))))) args tt r)))) (id⊢ 𝓤 _) $ await ! tt $ pick ! (λ r.
         -- what the callee ensures, at some last lists
         split ! $ move ! (1 ∷ []) $ use1 W (some (λ (zs : Unit {0} × (Unit {0} × ((Unit {0} × (Unit {0} × (List ℕ × (List ℕ × (List ℕ × (List ℕ × (List ℕ × (Unit {0} × (Unit {0} × (Unit {0} × Unit {0}))))))))))))). ‵ (lasts g.ended (κ1, (κ2, (κ3, (κ4, (κ5, (κ6, tt)))))) args zs) ⊛ raw (fact 𝓤 (Said r (zs .1 .1 .1 .1 .0) (zs .1 .1 .1 .1 .1 .0) (zs .1 .1 .1 .1 .1 .1 .0) (zs .1 .1 .1 .1 .1 .1 .1 .0) (zs .1 .1 .1 .1 .1 .1 .1 .1 .0))))) (id⊢ 𝓤 _) $ pick ! (λ zs.
         split ! $ move ! (1 ∷ []) $ heard ! (Said r (zs .1 .1 .1 .1 .0) (zs .1 .1 .1 .1 .1 .0) (zs .1 .1 .1 .1 .1 .1 .0) (zs .1 .1 .1 .1 .1 .1 .1 .0) (zs .1 .1 .1 .1 .1 .1 .1 .1 .0)) (λ e.

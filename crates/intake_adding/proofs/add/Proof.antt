@@ -1,7 +1,9 @@
 -- `intake_adding::add` meets its contract.
 -- Assumes nothing.
 use Rattle.intake_insertion.proofs.Places.{found-at}
-use Rattle.intake_adding.proofs.Adding.{below-map, weight-there, as-counted, added-quick}
+use Rattle.intake_calls.proofs.Calls.{as-counted}
+use Rattle.intake_adding.specs.Adding.{AddCall}
+use Rattle.intake_adding.proofs.Adding.{below-map, weight-there, added-quick}
 use borrow.Author.Needs.{needs}
 use Rattle.intake_adding.proofs.add.Statement.{statement}
 use Rattle.intake_adding.proofs.add.Tie as tie
@@ -90,8 +92,7 @@ returns-2 c =
     let start = back16 .before .before .before .before .before .before .before .before .before in
     let a = start .args in
     let p = start .pre in
-    as-counted _ (a .roster .now) (a .triples .now) (a .summary .now) (a .weights .now) (a .map .now) (a .work .now) (a .held) (a .summarised) (a .t)
-    (a .i) (p .0) (p .1) (p .2) _ _ _ _ (c .with-counts .ensures) _ _ _ _ _
+    as-counted (AddCall _ (a .roster .now) _ (a .work .now) (a .t) (a .i)) _ _ _ _ (c .with-counts .ensures) _ _ _ _ _
     (added-quick _ (a .roster .now) (a .triples .now) (a .summary .now) (a .weights .now) (a .map .now) (a .work .now) (a .held) (a .summarised)
     (a .t) (a .i) (p .0) (p .1) (p .2) _ (back11 .insert-at .ensures) _
     (found-at _ _ _ _ _ _ (back16 .image-place .ensures) (back14 .j .given .1)) _ (back7 .increment .ensures) _ (back3 .clear .ensures))

@@ -1,7 +1,9 @@
 -- `intake_adding::add_anew` meets its contract.
 -- Assumes nothing.
 use mathlib.Core.Path.{sym, _∙_}
-use Rattle.intake_adding.proofs.Adding.{as-counted, added-wrong, renewable, added-slow}
+use Rattle.intake_calls.proofs.Calls.{as-counted}
+use Rattle.intake_adding.specs.Adding.{AddCall}
+use Rattle.intake_adding.proofs.Adding.{added-wrong, renewable, added-slow}
 use borrow.Author.Needs.{needs}
 use Rattle.intake_adding.proofs.add_anew.Statement.{statement}
 use Rattle.intake_adding.proofs.add_anew.Tie as tie
@@ -20,8 +22,7 @@ returns c =
     let start = c .before .before .before .before .before .before .before .before .before .before in
     let a = start .args in
     let p = start .pre in
-    as-counted _ (a .roster .now) (a .triples .now) (a .summary .now) (a .weights .now) (a .map .now) (a .work .now) (a .held) (a .summarised) (a .t)
-    (a .i) (p .0) (p .1) (p .2) _ _ _ _ (c .with-counts .ensures) _ _ _ _ _
+    as-counted (AddCall _ (a .roster .now) _ (a .work .now) (a .t) (a .i)) _ _ _ _ (c .with-counts .ensures) _ _ _ _ _
     (added-wrong _ (a .roster .now) (a .triples .now) (a .summary .now) (a .weights .now) (a .map .now) (a .work .now) (a .held) (a .summarised)
     (a .t) (a .i) (p .0) (p .1) (p .2)
     (sym (c .before .before .held-wrong .ensures) ∙ c .before .if1 .taken))
@@ -66,13 +67,14 @@ returns-2 : tie.Need-returns-2
 returns-2 c =
     let back9 = c .before .before .before .before .before .before .before .before .before in
     let back17 = back9 .before .before .before .before .before .before .before .before in
-    let start = back17 .before .before .before .before .before .before .before .before .before .before .before in
+    let back19 = back17 .before .before in
+    let back20 = back19 .before in
+    let start = back20 .before .before .before .before .before .before .before .before in
     let a = start .args in
     let p = start .pre in
-    as-counted _ (a .roster .now) (a .triples .now) (a .summary .now) (a .weights .now) (a .map .now) (a .work .now) (a .held) (a .summarised) (a .t)
-    (a .i) (p .0) (p .1) (p .2) _ _ _ _ (c .with-counts2 .ensures) _ _ _ _ _
+    as-counted (AddCall _ (a .roster .now) _ (a .work .now) (a .t) (a .i)) _ _ _ _ (c .with-counts2 .ensures) _ _ _ _ _
     (added-slow _ (a .roster .now) (a .triples .now) (a .summary .now) (a .weights .now) (a .map .now) (a .work .now) (a .held) (a .summarised)
-    (a .t) (a .i) (p .0) (p .1) (p .2) _ (back17 .insert-at .ensures) _ _ _ _ _
+    (a .t) (a .i) (p .0) (p .1) (p .2) _ (back17 .insert-at .ensures) (sym (back20 .held-wrong .ensures) ∙ back19 .if1 .left) _ _ _ _ _
     (back9 .renew .ensures))
 
 pub add-anew-spec : {M : Type 1} → statement M

@@ -50,12 +50,12 @@ use Rattle.model.specs.Outcomes.{replied}
 use Rattle.model.specs.Intake.{Fed}
 use Rattle.intake_opening.specs.Opening.{stateWith}
 use Rattle.intake_opening.specs.declared.Counts.{Counts}
-use Rattle.intake_adding.specs.declared.FedCounts.{FedCounts}
+use Rattle.intake_calls.specs.declared.CalledCounts.{CalledCounts}
 use Rattle.model.specs.declared.Reply.{Reply}
 use Rattle.intake_opening.proofs.Counts as T
 use Rattle.intake_opening.proofs.Counts.Laws as T′
-use Rattle.intake_adding.proofs.FedCounts as F
-use Rattle.intake_adding.proofs.FedCounts.Laws as F′
+use Rattle.intake_calls.proofs.CalledCounts as F
+use Rattle.intake_calls.proofs.CalledCounts.Laws as F′
 use Rattle.model.proofs.Reply as E
 use Rattle.model.proofs.Reply.Laws as E′
 use Rattle.model.specs.declared.Vocabulary.{Vocabulary}
@@ -160,7 +160,7 @@ module _ {M : Type 1} (𝓤 : URA M) (H : Heap 𝓤) (A : Atoms 𝓤) (W : Given
   abbrev Said : Reply → Counts → List ℕ → List ℕ → List ℕ → List ℕ → List ℕ → Type 0
   Said y z z3 z4 z5 z6 z7 = Fed v1 y2 (stateWith y3 y4 y5 y6 (h .held) (h .summarised)) y7 (triple v8 v9 v10) (replied y) (stateWith z3 z4 z5 z6 (z .held) (z .summarised)) z7
 
-  abbrev result : Reply → Counts → FedCounts
+  abbrev result : Reply → Counts → CalledCounts
   result y z = record { answer = y; counts = z }
 
   abbrev out : Reply → Counts → Val

@@ -1,13 +1,14 @@
 -- `intake_feeding::feed_lists` meets its contract.
 -- Assumes nothing.
 use Rattle.model.specs.Triples.{triple}
-use Rattle.intake_taking.proofs.Taking.{by-refusal, ready, by-taking}
+use Rattle.model.specs.Intake.{feeding, Promises}
+use Rattle.intake_calls.proofs.Calls.{as-counted, by-refusal, ready, by-passing}
 use borrow.Author.Needs.{needs}
 use Rattle.intake_feeding.proofs.feed_lists.Statement.{statement}
 use Rattle.intake_feeding.proofs.feed_lists.Tie as tie
 
-feed-refusal-requires : tie.Need-feed-refusal-requires
-feed-refusal-requires c κs = search needs
+call-refusal-requires : tie.Need-call-refusal-requires
+call-refusal-requires c κs = search needs
 
 enum-known-r : tie.Need-enum-known-r
 enum-known-r c = search needs
@@ -25,7 +26,7 @@ take-in-requires c κs =
     let start = back7 .before .before .before .before .before .before .before .before .before .before .before .before in
     let a = start .args in
     ready _ (a .roster .now) (a .triples .now) (a .summary .now) (a .weights .now) (a .map .now) (a .work .now) (a .held) (a .summarised)
-    (triple (a .s) (a .p) (a .o)) _ (back7 .feed-refusal .ensures) (back5 .enum-told .given .1)
+    (triple (a .s) (a .p) (a .o)) _ (back7 .call-refusal .ensures) (back5 .enum-told .given .1)
 
 same-length : tie.Need-same-length
 same-length c = search needs
@@ -47,8 +48,9 @@ returns c =
     let back4 = c .before .before .before .before in
     let start = back4 .before .before .before .before .before .before .before .before .before .before .before .before in
     let a = start .args in
-    by-refusal _ (a .roster .now) (a .triples .now) (a .summary .now) (a .weights .now) (a .map .now) (a .work .now) (a .held) (a .summarised)
-    (triple (a .s) (a .p) (a .o)) _ (back4 .feed-refusal .ensures) _ (c .before .before .r .given .1) _ (c .with-counts .ensures)
+    as-counted (Promises _ (a .roster .now) feeding _ (a .work .now) (triple (a .s) (a .p) (a .o))) _ _ _ _ (c .with-counts .ensures) _ _ _ _ _
+    (by-refusal _ (a .roster .now) (a .triples .now) (a .summary .now) (a .weights .now) (a .map .now) (a .work .now) (a .held) (a .summarised)
+    (triple (a .s) (a .p) (a .o)) _ (back4 .call-refusal .ensures) _ (c .before .before .r .given .1) feeding)
 
 same-length-6 : tie.Need-same-length-6
 same-length-6 c = search needs
@@ -72,14 +74,14 @@ returns-2 c =
     let back18 = back16 .before .before in
     let start = back18 .before .before .before .before .before .before .before .before .before .before .before .before in
     let a = start .args in
-    by-taking _ (a .roster .now) (a .triples .now) (a .summary .now) (a .weights .now) (a .map .now) (a .work .now) (a .held) (a .summarised)
-    (triple (a .s) (a .p) (a .o)) _ (back18 .feed-refusal .ensures) (back16 .enum-told .given .1) _ _ _ (back10 .take-in .ensures)
+    by-passing _ (a .roster .now) (a .triples .now) (a .summary .now) (a .weights .now) (a .map .now) (a .work .now) (a .held) (a .summarised)
+    (triple (a .s) (a .p) (a .o)) _ (back18 .call-refusal .ensures) (back16 .enum-told .given .1) feeding _ _ _ (back10 .take-in .ensures)
 
 pub feed-lists-spec : {M : Type 1} → statement M
 feed-lists-spec =
     tie.close
     (tie.spec
-    feed-refusal-requires
+    call-refusal-requires
     enum-known-r
     with-counts-requires
     enum-told

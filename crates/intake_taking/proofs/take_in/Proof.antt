@@ -1,6 +1,9 @@
 -- `intake_taking::take_in` meets its contract.
 -- Assumes nothing.
-use Rattle.intake_taking.proofs.Taking.{as-counted, taken-over, taken-same, taken-full, taken-new}
+use Rattle.model.specs.Intake.{feeding}
+use Rattle.intake_calls.specs.Calls.{Passing}
+use Rattle.intake_calls.proofs.Calls.{as-counted}
+use Rattle.intake_taking.proofs.Taking.{taken-over, taken-same, taken-full, taken-new}
 use borrow.Author.Needs.{needs}
 use Rattle.intake_taking.proofs.take_in.Statement.{statement}
 use Rattle.intake_taking.proofs.take_in.Tie as tie
@@ -12,8 +15,7 @@ returns : tie.Need-returns
 returns c =
     let start = c .before .before .before .before .before .before .before .before in
     let a = start .args in
-    as-counted _ (a .roster .now) (a .triples .now) (a .summary .now) (a .weights .now) (a .map .now) (a .work .now) (a .held) (a .summarised) (a .t)
-    _ _ (c .with-counts .ensures) _
+    as-counted (Passing _ (a .roster .now) feeding _ (a .work .now) (a .t)) _ _ _ _ (c .with-counts .ensures) _ _ _ _ _
     (taken-over _ (a .roster .now) (a .triples .now) (a .summary .now) (a .weights .now) (a .map .now) (a .work .now) (a .held) (a .summarised)
     (a .t) (c .before .if1 .taken))
 
@@ -43,8 +45,7 @@ returns-2 c =
     let back8 = back6 .before .before in
     let start = back8 .before .before .before .before .before .before .before .before .before in
     let a = start .args in
-    as-counted _ (a .roster .now) (a .triples .now) (a .summary .now) (a .weights .now) (a .map .now) (a .work .now) (a .held) (a .summarised) (a .t)
-    _ _ (c .with-counts2 .ensures) _
+    as-counted (Passing _ (a .roster .now) feeding _ (a .work .now) (a .t)) _ _ _ _ (c .with-counts2 .ensures) _ _ _ _ _
     (taken-same _ (a .roster .now) (a .triples .now) (a .summary .now) (a .weights .now) (a .map .now) (a .work .now) (a .held) (a .summarised)
     (a .t) _ (back8 .lower-bound .ensures) _ (back6 .stands-at .ensures) (back5 .if2 .taken) _ (back3 .clear .ensures))
 
@@ -90,8 +91,7 @@ returns-4 c =
     let back5 = back3 .before .before in
     let start = back5 .before .before .before .before .before .before .before .before .before in
     let a = start .args in
-    as-counted _ (a .roster .now) (a .triples .now) (a .summary .now) (a .weights .now) (a .map .now) (a .work .now) (a .held) (a .summarised) (a .t)
-    _ _ (c .with-counts3 .ensures) _
+    as-counted (Passing _ (a .roster .now) feeding _ (a .work .now) (a .t)) _ _ _ _ (c .with-counts3 .ensures) _ _ _ _ _
     (taken-full _ (a .roster .now) (a .triples .now) (a .summary .now) (a .weights .now) (a .map .now) (a .work .now) (a .held) (a .summarised)
     (a .t) _ (back5 .lower-bound .ensures) _ (back3 .stands-at .ensures) (c .before .before .if2 .left) (c .before .if3 .left))
 

@@ -6,10 +6,10 @@ use Rattle.compare_feeds.proofs.feeds.fill_feeds.Statement.{statement}
 use Rattle.compare_feeds.proofs.feeds.fill_feeds.Tie as tie
 
 abbrev Inv-loop : tie.InvT-loop
-Inv-loop seed words table n feeds₀ i₀ feeds i = (length feeds ≡ length feeds₀)
+Inv-loop seed words table n calls₀ i₀ calls i = (length calls ≡ length calls₀)
 
 abbrev μ-loop : tie.MeasureT-loop
-μ-loop seed words table n feeds₀ i₀ feeds i = 30 - i
+μ-loop seed words table n calls₀ i₀ calls i = 30 - i
 
 loop-holds : tie.Need-loop-holds Inv-loop μ-loop
 loop-holds c = search needs
@@ -17,8 +17,8 @@ loop-holds c = search needs
 random-feed-requires : tie.Need-random-feed-requires Inv-loop μ-loop
 random-feed-requires c κs = search needs
 
-put-feed-requires : tie.Need-put-feed-requires Inv-loop μ-loop
-put-feed-requires c κs = search needs
+put-call-requires : tie.Need-put-call-requires Inv-loop μ-loop
+put-call-requires c κs = search needs
 
 add-i : tie.Need-add-i Inv-loop μ-loop
 add-i c = search needs
@@ -43,7 +43,7 @@ fill-feeds-spec =
     μ-loop
     loop-holds
     random-feed-requires
-    put-feed-requires
+    put-call-requires
     add-i
     loop-less
     loop-again

@@ -7,7 +7,7 @@ abbrev Inv-loop : tie.InvT-loop
 Inv-loop tally call₀ t3 t4 call = Unit {0}
 
 abbrev μ-loop : tie.MeasureT-loop
-μ-loop tally call₀ t3 t4 call = 9 - call
+μ-loop tally call₀ t3 t4 call = 10 - call
 
 loop-holds : tie.Need-loop-holds Inv-loop μ-loop
 loop-holds c = search needs

@@ -4,10 +4,10 @@ use Rattle.fed_intakes.proofs.both.first_difference.Statement.{statemen
 use Rattle.fed_intakes.proofs.both.first_difference.Tie as tie
 
 abbrev Inv-loop : tie.InvT-loop
-Inv-loop case feeds roster spoilt last k₀ k = Unit {0}
+Inv-loop case calls roster spoilt last k₀ k = Unit {0}
 
 abbrev μ-loop : tie.MeasureT-loop
-μ-loop case feeds roster spoilt last k₀ k = last - k
+μ-loop case calls roster spoilt last k₀ k = last - k
 
 at-most-requires : tie.Need-at-most-requires Inv-loop μ-loop
 at-most-requires c κs = search needs
@@ -15,8 +15,8 @@ at-most-requires c κs = search needs
 loop-holds : tie.Need-loop-holds Inv-loop μ-loop
 loop-holds c = search needs
 
-with-feeds-requires : tie.Need-with-feeds-requires Inv-loop μ-loop
-with-feeds-requires c κs = search needs
+with-calls-requires : tie.Need-with-calls-requires Inv-loop μ-loop
+with-calls-requires c κs = search needs
 
 agree-requires : tie.Need-agree-requires Inv-loop μ-loop
 agree-requires c κs = search needs
@@ -44,7 +44,7 @@ first-difference-spec =
     μ-loop
     at-most-requires
     loop-holds
-    with-feeds-requires
+    with-calls-requires
     agree-requires
     returns
     add-k

@@ -1,0 +1,3 @@
+pub mod AnyState
+pub mod Parts
+pub mod Calls
