@@ -312,12 +312,12 @@ uint32_t ws_feed(const uint32_t *words, size_t words_length, const uint8_t *rost
  * They alter nothing but *place, not even the work list.
  * If lists or counts were altered between calls, or the words or the roster are others than at opening, the call still ends
  * safely, and this holds: refusals 1, 10, 2, 3 and 4 are as above; after 9 nothing is altered but *place, which is 0; after
- * WS_OK the work list is zero, *held is one less, *held and *summarised are at most the slots, and *place is at most what
- * *held was before the call. Open are which of WS_OK and 9 is answered and, after WS_OK, what *place is, what triples, summary,
+ * WS_OK the work list is zero, *held is one less, *held and *summarised are at most the slots, and *place is at most *held.
+ * Open are which of WS_OK and 9 is answered and, after WS_OK, what *place is, what triples, summary,
  * weights and map hold and what *summarised is. Counts that were altered stay so after 9: compare them with the slots before
  * they are used as lengths.
- * Time, measured and not proved: where other triples held keep both ends of this one, the call takes a pass over the triples for
- * each end; else it makes the summary anew, as a feed does whose line is not there yet. An unmarked end of a data triple is kept
+ * Time, measured and not proved: where other triples held keep both ends of this one, the call takes at most a pass over the
+ * triples for each end; else it makes the summary anew, as a feed does whose line is not there yet. An unmarked end of a data triple is kept
  * by a triple with the same property and that end at the same side, any other end by a triple with it as subject or object.
  */
 uint32_t ws_remove(const uint32_t *words, size_t words_length, const uint8_t *roster, size_t roster_length,
