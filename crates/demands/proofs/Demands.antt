@@ -5,17 +5,20 @@ use Rattle.model.proofs.Graphs as graphs
 use Rattle.query.proofs.Exact.{ask-exact}
 use Rattle.query.proofs.Retired.{retired-exact}
 use Rattle.roster_values.proofs.Bytes.{word-test-exact}
+use Rattle.theory.proofs.SmallSites as sites
 use Rattle.theory.proofs.Theorems as theorems
 use Rattle.site_form.proofs.Whole.{reads-exactly}
 use Rattle.site_form.proofs.Back.{written-is-read}
 use Rattle.site_form.proofs.Queries.{counts-patterns}
 use Rattle.site_form.proofs.Example.{sign-bytes, prints-example, prints-retired}
 use Rattle.site_form.proofs.Answers.{retired-printed}
-use Rattle.demands.specs.Demands.{GraphsRight, StrongGraphsRight, ClosuresRight, WeightExamplesRight, RemovalExamplesRight, Demand2, Demand3, AtRest, Places, Weights, Removals, RosterByWords, SiteForms}
+use Rattle.demands.specs.Demands.{GraphsRight, StrongGraphsRight, ClosuresRight, WeightExamplesRight, RemovalExamplesRight, SmallSitesRight}
+use Rattle.demands.specs.Demands.{StrongNeedsMore, Demand2, Demand3, AtRest, Places, Weights, Removals, Slots, RosterByWords, SiteForms}
 use Rattle.demands.proofs.NoneMeansNone.{none-means-none}
 use Rattle.demands.proofs.Feeds.{list-of-calls, weights-add-up, repeat-alters-no-weight}
 use Rattle.demands.proofs.Routes.{accepted-calls, routes-of-calls, strong-routes-of-calls, shortcut-of-calls, strong-shortcut-of-calls}
 use Rattle.demands.proofs.Routes.{weak-of-strong-calls, at-rest-of-calls, strong-at-rest-of-calls, leaves-saturated, none-of-calls}
+use Rattle.demands.proofs.Slots.{never-five, slots-suffice}
 use Rattle.demands.proofs.Printed.{ask-refuses-queries, six-for-wrong, retired-read}
 
 pub graphs-right : GraphsRight
@@ -32,6 +35,12 @@ weight-examples-right = graphs.weights-right
 
 pub removal-examples-right : RemovalExamplesRight
 removal-examples-right = graphs.removals-right
+
+pub small-sites-right : SmallSitesRight
+small-sites-right = sites.small-sites-right
+
+pub strong-needs-more : StrongNeedsMore
+strong-needs-more = sites.strong-needs-more
 
 pub demand-2 : Demand2
 demand-2 =
@@ -92,6 +101,9 @@ weights = record { weights-exact = theorems.weights-exact; weights-add-up = weig
 
 pub removals : Removals
 removals = record { leaves-right = theorems.leaves-right; removed-stood = theorems.removed-stood; slot-freed = theorems.slot-freed }
+
+pub slots : Slots
+slots = record { summary-bounded = theorems.summary-bounded; never-five = never-five; slots-suffice = slots-suffice }
 
 pub roster-by-words : RosterByWords
 roster-by-words = record { word-test = word-test-exact }

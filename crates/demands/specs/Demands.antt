@@ -17,14 +17,16 @@ use Rattle.site_form.specs.Reading.{ReadsExactly, CountsPatterns, loaded}
 use Rattle.site_form.specs.Writing.{WrittenIsRead, lineOf}
 use Rattle.site_form.specs.Example.{SignBytes, PrintsExample, PrintsRetired}
 use Rattle.site_form.specs.Answers.{RetiredPrinted}
+use Rattle.theory.specs.SmallSites.{smallSites, allSitesRight, strongNeedsMore}
 use Rattle.theory.specs.Theorems.{SaturationExact, ConstraintsFollow, CliquesExact, RepresentativesExact, SummaryExact, StrongRepresentativesExact}
 use Rattle.theory.specs.Theorems.{StrongSummaryExact, OwnRosterLeast, ShortcutHolds, RoutesAccepted, StrongShortcutHolds, StrongRoutesAccepted}
 use Rattle.theory.specs.Theorems.{WeakOfStrongHolds, AtRestHolds, StrongAtRestHolds, AgainTheSame, StrongAgainTheSame, AnyOrder, FedInAnyOrder}
-use Rattle.theory.specs.Theorems.{WholeList, PlacesRight, FedStands, WeightsExact, LeavesRight, RemovedStood, SlotFreed}
+use Rattle.theory.specs.Theorems.{WholeList, PlacesRight, FedStands, WeightsExact, LeavesRight, RemovedStood, SlotFreed, SummaryBounded}
 use Rattle.demands.specs.NoneMeansNone.{NoneMeansNone, StrongNoneMeansNone}
 use Rattle.demands.specs.Feeds.{ListOfCalls, WeightsAddUp, RepeatAltersNoWeight}
 use Rattle.demands.specs.Routes.{AcceptedCalls, RoutesOfCalls, StrongRoutesOfCalls, ShortcutOfCalls, StrongShortcutOfCalls, WeakOfStrongCalls}
 use Rattle.demands.specs.Routes.{AtRestOfCalls, StrongAtRestOfCalls, LeavesSaturated, NoneOfCalls, StrongNoneOfCalls}
+use Rattle.demands.specs.Slots.{NeverFive, SlotsSuffice}
 use Rattle.demands.specs.Printed.{AskRefusesQueries, SixForWrong, RetiredRead}
 
 -- the small graphs of 01, computed, with the saturation that 02 gives the six triples, and two graphs with reserved codes of their own
@@ -46,6 +48,14 @@ WeightExamplesRight = T (allWeightsRight weightExamples)
 -- small intakes from which a triple is removed: the summary afterwards, its weights and the map, computed
 abbrev pub RemovalExamplesRight : Type 0
 RemovalExamplesRight = T (allRemovalsRight removals)
+
+-- small sites with the slots that their summaries may need and the summaries themselves, computed
+abbrev pub SmallSitesRight : Type 0
+SmallSitesRight = T (allSitesRight smallSites)
+
+-- a small site whose strong summary does not fit into the slots that its weak one may need, computed
+abbrev pub StrongNeedsMore : Type 0
+StrongNeedsMore = T strongNeedsMore
 
 pub record Demand2 : Type 0 where
   pub saturation : (v : Vocabulary) → SaturationExact v
@@ -117,6 +127,13 @@ pub record Removals : Type 0 where
   -- it stood at the place that is reported
   pub removed-stood : (v : Vocabulary) → RemovedStood v
   pub slot-freed : (v : Vocabulary) → SlotFreed v
+
+-- 02: "The controller's lists are cut at build time." How many slots a weak summary may need: per property, over all, and exactly where no data
+-- triple touches a marked node; and that a list with so many slots is never too short.
+pub record Slots : Type 0 where
+  pub summary-bounded : (v : Vocabulary) → SummaryBounded v
+  pub never-five : (v : Vocabulary) → NeverFive v
+  pub slots-suffice : (v : Vocabulary) → SlotsSuffice v
 
 -- 02: "The check should take eight roster bytes as one u64 word at a time; show for every u64 that one test of the word passes exactly if
 -- none of its eight bytes is over 3." The code has the test in roster_values' `word_over_three`, which is called for each word; that rosters of

@@ -1,5 +1,6 @@
 pub mod NoneMeansNone
 pub mod Routes
+pub mod Slots
 pub mod Printed
 pub mod Feeds
 pub mod Demands

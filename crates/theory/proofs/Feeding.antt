@@ -32,7 +32,8 @@ use Rattle.theory.specs.Theorems.{PlaceRight, Left}
 use Rattle.theory.proofs.Places.{place-right}
 use Rattle.theory.proofs.Mapped.{length-map-of, map-absent}
 use Rattle.theory.proofs.Summaries.{condensed-length, Same, same-map-of, same-summary-of}
-use Rattle.theory.proofs.Weights.{total-padded, weights-length, weights-total}
+use Rattle.theory.proofs.Counting.{total-padded}
+use Rattle.theory.proofs.Weights.{weights-length, weights-total}
 use Rattle.theory.proofs.Checks.{passes-first, first-passes, no-checks, decided-passes, decided-cases, passed, not-accepted, same-value}
 use Rattle.theory.proofs.Flat.{length-padded, padded-past, length-listed}
 use Rattle.theory.proofs.Accepted.{below, room, size-bounds}

@@ -16,9 +16,12 @@ pub mod Quotient
 pub mod Strong
 pub mod Partition
 pub mod Mapped
+pub mod Counting
 pub mod Summaries
 pub mod Weights
 pub mod Removal
+pub mod Bounds
+pub mod SmallSites
 pub mod OwnRoster
 pub mod Accepted
 pub mod Grouping

@@ -23,7 +23,7 @@ use Rattle.theory.specs.Theorems.{PlacesRight, TriplesOf, InSaturation, 
 use Rattle.theory.specs.Theorems.{SummaryExact, StrongRepresentativesExact, StrongSummaryExact, OwnRosterLeast, ShortcutBy, RoutesBy, AgainBy}
 use Rattle.theory.specs.Theorems.{AtRestBy, ShortcutHolds, RoutesAccepted, StrongShortcutHolds, StrongRoutesAccepted, WeakOfStrongHolds}
 use Rattle.theory.specs.Theorems.{Saturated, AtRestHolds, StrongAtRestHolds, AgainTheSame, StrongAgainTheSame, SaturationSaturated, AnyOrder}
-use Rattle.theory.specs.Theorems.{WholeList, FedInAnyOrder, FedStands, RemovedStood, SlotFreed, LeavesRight, WeightsExact}
+use Rattle.theory.specs.Theorems.{WholeList, FedInAnyOrder, FedStands, RemovedStood, SlotFreed, LeavesRight, WeightsExact, SummaryBounded}
 use Rattle.theory.proofs.Tests.{or-false}
 use Rattle.theory.proofs.Checks.{passes-first}
 use Rattle.theory.proofs.Flat.{triples-flat}
@@ -42,6 +42,7 @@ use Rattle.theory.proofs.Grouping.{Grouping, weakly, strongly}
 use Rattle.theory.proofs.Constraints.{origin-of, schema-kept}
 use Rattle.theory.proofs.Places.{place-right}
 use Rattle.theory.proofs.Weights.{weights-length, weights-at, weights-some, weights-total}
+use Rattle.theory.proofs.Bounds as bounds
 use Rattle.theory.proofs.Feeding as feeding
 
 pub places-right : PlacesRight
@@ -167,6 +168,11 @@ module _ (v : Vocabulary) where
 
   pub summary-exact : SummaryExact v
   summary-exact table roster h = record { rising = summaries.condensed-rising _ (triples table); exact = summaries.condensed-exact _ (triples table) }
+
+  pub summary-bounded : SummaryBounded v
+  summary-bounded table roster h =
+      let R = accept.accepted-right v table roster h in
+      bounds.bounded v roster (triples table) (accept.below v roster (triples table) R) (accept.room v roster (triples table) R)
 
   pub strong-representatives-exact : StrongRepresentativesExact v
   strong-representatives-exact table roster h =

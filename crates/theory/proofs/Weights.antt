@@ -5,58 +5,23 @@ use Prim.Native.Nat.{ℕ, zero, suc, _+_, _-_, _≤_, _<_}
 use mathlib.Core.Path.{_≡_, refl, sym, _∙_, ap, subst}
 use mathlib.Core.Logic.{_⊎_, inl, inr, ⊎-elim}
 use mathlib.Core.Bool.{Bool, true, false, cond, true≢false}
-use mathlib.Core.List.{List, [], _∷_, _++_, map, List·Memᴰ as Mem, List·Memᴰ·head as here, List·Memᴰ·tail as there, List·Memᴰ·not-nil as no-mem, List·Memᴰ·cases-cons as mem-cases}
+use mathlib.Core.List.{List, [], _∷_, map, List·Memᴰ as Mem, List·Memᴰ·head as here, List·Memᴰ·tail as there, List·Memᴰ·not-nil as no-mem, List·Memᴰ·cases-cons as mem-cases}
 use native.Mathlib.Omega.{arith}
 use native.Mathlib.Nat.{zero-add}
 use lib.ListN.{length, getD, set, length-map}
 use lib.Seq.{getD-set-same}
 use Rattle.model.specs.declared.Triple.{Triple}
-use Rattle.model.specs.Lists.{any, howMany, total, zeros, padded}
+use Rattle.model.specs.Lists.{any, howMany, total}
 use Rattle.model.specs.Triples.{before, same, holds, insert, without}
 use Rattle.model.specs.Order.{Lt, Rising}
 use Rattle.model.specs.Partition.{label}
 use Rattle.model.specs.Summary.{moved, Image, condensed, weight, weightsBy}
 use Rattle.theory.specs.Tables.{In}
 use Rattle.theory.proofs.Tests.{cond-cases, bool-cases, not-true-false}
-use Rattle.theory.proofs.Lists.{any-found, any-none, many-le, many-none, many-some, mem-getD}
+use Rattle.theory.proofs.Lists.{any-found, any-none, many-le, many-none, many-all, many-some, mem-getD}
 use Rattle.theory.proofs.Order.{lt-irrefl, same-eq, same-refl, mem-holds, holds-mem, mem-without, without-mem, without-rising, without-gone, without-insert}
+use Rattle.theory.proofs.Counting.{total-many, map-same, many-turned}
 use Rattle.theory.proofs.Summaries.{condensed-rising, condensed-exact, condensed-unique}
-
--- ── sums ──
-total-append : (xs ys : List ℕ) → total (xs ++ ys) ≡ total xs + total ys
-unfolding total
-total-append [] ys = omega arith
-total-append (x ∷ xs) ys = omega (arith, total-append xs ys)
-
-total-zeros : (n : ℕ) → total (zeros n) ≡ 0
-unfolding total zeros
-total-zeros zero = refl
-total-zeros (suc n) = omega (arith, total-zeros n)
-
--- the zeros behind add nothing
-pub total-padded : (n : ℕ) (xs : List ℕ) → total (padded n xs) ≡ total xs
-unfolding padded
-total-padded n xs = total-append xs _ ∙ omega (arith, total-zeros (n - length xs))
-
-module _ {A : Type 0} where
-  total-add : (g h : A → ℕ) (us : List A) → total (map (λ u. g u + h u) us) ≡ total (map g us) + total (map h us)
-  unfolding total
-  total-add g h [] = refl
-  total-add g h (u ∷ us) = omega (arith, total-add g h us)
-
-  total-none : (us : List A) → total (map (λ (u : A). 0) us) ≡ 0
-  unfolding total
-  total-none [] = refl
-  total-none (u ∷ us) = omega (arith, total-none us)
-
-  total-many : (f : A → Bool) (us : List A) → total (map (λ u. cond (f u) 1 0) us) ≡ howMany f us
-  unfolding total howMany
-  total-many f [] = refl
-  total-many f (u ∷ us) = ap (λ (n : ℕ). cond (f u) 1 0 + n) (total-many f us)
-
-  map-same : (g h : A → ℕ) (us : List A) → ((u : A) → Mem u us → g u ≡ h u) → map g us ≡ map h us
-  map-same g h [] e = refl
-  map-same g h (u ∷ us) e = λ i. e u (here refl) i ∷ map-same g h us (λ x m. e x (there m)) i
 
 -- ── counting triples ──
 -- a triple that is not in a list counts once more when it is put in
@@ -88,11 +53,11 @@ one-place y (u ∷ us) r m =
 -- where the image of each triple is one of the rising triples, the counts add up
 weights-add : (g : Triple → Triple) (us ts : List Triple) → Rising us → ((t : Triple) → Mem t ts → Mem (g t) us)
     → total (map (λ u. howMany (λ t. same u (g t)) ts) us) ≡ length ts
-unfolding howMany
-weights-add g us [] r h = total-none us
-weights-add g us (t ∷ ts) r h =
-    total-add (λ u. cond (same u (g t)) 1 0) (λ u. howMany (λ x. same u (g x)) ts) us
-    ∙ omega (arith, total-many (λ u. same u (g t)) us, one-place (g t) us r (h t (here refl)), weights-add g us ts r (λ x m. h x (there m)))
+weights-add g us ts r h =
+    many-turned (λ u t. same u (g t)) us ts
+    ∙ ap total (map-same (λ t. howMany (λ u. same u (g t)) us) (λ t. 1) ts (λ t m. one-place (g t) us r (h t m)))
+    ∙ total-many (λ t. true) ts
+    ∙ many-all (λ t. true) ts (λ t m. refl)
 
 -- ── the weights of a summary ──
 module _ (m : List ℕ) (ts : List Triple) where

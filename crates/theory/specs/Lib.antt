@@ -1,2 +1,4 @@
 pub mod Tables
+pub mod Bounds
 pub mod Theorems
+pub mod SmallSites

@@ -22,6 +22,7 @@ use Rattle.model.specs.Summary.{moved, Image, condensed, summary, weights, stro
 use Rattle.model.specs.Outcomes.{Outcome, accepted, Answer, answer, Said, new, Passes}
 use Rattle.model.specs.Calls.{Accepted}
 use Rattle.model.specs.Intake.{State, feeding, removing, Call, isNew, isRemoved, plainChecks, replyTo, heldThen, answers, heldAfter, stateOf, openOutcome, opened, Run}
+use Rattle.theory.specs.Bounds.{Bounded}
 
 -- the triples of a table, as a set
 abbrev pub TriplesOf : List ℕ → Graph
@@ -284,6 +285,11 @@ module _ (v : Vocabulary) where
       → ((c : Call) → Mem c cs → (c .kind ≡ feeding) × (c .work ≡ 2 * length roster))
       → ((t : Triple) → Mem t (map (λ (c : Call). c .triple) cs) ↔ Mem t (triples table))
       → Run v roster (opened v roster s) cs os end → Filled table roster s end
+
+  -- ── slots a summary may need ──
+  -- 02: "State a bound on the data triples of a weak summary". It is of the table that is summarised, saturated or not.
+  abbrev pub SummaryBounded : Type 0
+  SummaryBounded = (table roster : List ℕ) → Accepted v table roster → Bounded v roster (triples table)
 
   -- ── a shipped summary is at rest ──
   -- 02: "a saturated table": it holds all that the rules give from it, in whatever order; repeats are allowed
