@@ -89,7 +89,7 @@ pub record InAnyState (s : State) (work : List ℕ) (outcome : Outcome (Answer S
   pub unaltered : alters outcome ≡ false → after ≡ s
   -- the work list is zero after "new", "not new" and "removed", and as it was after a refusal (no call of an intake gives 5 or 8)
   pub work-is : work-after ≡ left outcome work (zeros (length work))
-  -- with a new triple one more is held, with a removed one one less
+  -- with a new triple one more is held; with a removed one one less, and its place is at most the number held afterwards
   pub one-more : isNew outcome ≡ true → after .held ≡ s .held + 1
   pub one-less : isRemoved outcome ≡ true → (after .held + 1 ≡ s .held) × (placeOf outcome ≤ after .held)
   -- where the state is altered, both counts are at most the slots
