@@ -18,7 +18,7 @@ use Rattle.demands.proofs.NoneMeansNone.{none-means-none}
 use Rattle.demands.proofs.Feeds.{list-of-calls, weights-add-up, repeat-alters-no-weight}
 use Rattle.demands.proofs.Routes.{accepted-calls, routes-of-calls, strong-routes-of-calls, shortcut-of-calls, strong-shortcut-of-calls}
 use Rattle.demands.proofs.Routes.{weak-of-strong-calls, at-rest-of-calls, strong-at-rest-of-calls, leaves-saturated, none-of-calls}
-use Rattle.demands.proofs.Slots.{never-five, slots-suffice}
+use Rattle.demands.proofs.Slots.{never-five, part-never-five, slots-suffice, saturation-slots}
 use Rattle.demands.proofs.Printed.{ask-refuses-queries, six-for-wrong, retired-read}
 
 pub graphs-right : GraphsRight
@@ -103,7 +103,15 @@ pub removals : Removals
 removals = record { leaves-right = theorems.leaves-right; removed-stood = theorems.removed-stood; slot-freed = theorems.slot-freed }
 
 pub slots : Slots
-slots = record { summary-bounded = theorems.summary-bounded; never-five = never-five; slots-suffice = slots-suffice }
+slots =
+    record {
+      summary-bounded = theorems.summary-bounded;
+      part-bounded = theorems.part-bounded;
+      never-five = never-five;
+      part-never-five = part-never-five;
+      slots-suffice = slots-suffice;
+      saturation-slots = saturation-slots;
+    }
 
 pub roster-by-words : RosterByWords
 roster-by-words = record { word-test = word-test-exact }

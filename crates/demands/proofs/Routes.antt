@@ -59,12 +59,12 @@ query-decides b k c d e y p x q = rw (p, x, q)
 
 module _ (v : Vocabulary) where
   -- an accepted saturate
-  record Sat (table roster out : List ℕ) (c : ℕ) : Type 0 where
-    accepts : Accepted v table roster
-    counts : length (saturation v (length roster) (triples table)) ≡ c
-    is : out ≡ flat (saturation v (length roster) (triples table))
+  pub record Sat (table roster out : List ℕ) (c : ℕ) : Type 0 where
+    pub accepts : Accepted v table roster
+    pub counts : length (saturation v (length roster) (triples table)) ≡ c
+    pub is : out ≡ flat (saturation v (length roster) (triples table))
 
-  sat-is : (table roster result out : List ℕ) (c : ℕ) → Saturates v table roster result c out → Sat table roster out c
+  pub sat-is : (table roster result out : List ℕ) (c : ℕ) → Saturates v table roster result c out → Sat table roster out c
   unfolding saturateOutcome saturateLeaves saturated tableChecks left
   sat-is table roster result out c h =
       let a = passed _ _ _ c (h .returns) in

@@ -21,12 +21,12 @@ use Rattle.theory.specs.SmallSites.{smallSites, allSitesRight, strongNeedsMore}
 use Rattle.theory.specs.Theorems.{SaturationExact, ConstraintsFollow, CliquesExact, RepresentativesExact, SummaryExact, StrongRepresentativesExact}
 use Rattle.theory.specs.Theorems.{StrongSummaryExact, OwnRosterLeast, ShortcutHolds, RoutesAccepted, StrongShortcutHolds, StrongRoutesAccepted}
 use Rattle.theory.specs.Theorems.{WeakOfStrongHolds, AtRestHolds, StrongAtRestHolds, AgainTheSame, StrongAgainTheSame, AnyOrder, FedInAnyOrder}
-use Rattle.theory.specs.Theorems.{WholeList, PlacesRight, FedStands, WeightsExact, LeavesRight, RemovedStood, SlotFreed, SummaryBounded}
+use Rattle.theory.specs.Theorems.{WholeList, PlacesRight, FedStands, WeightsExact, LeavesRight, RemovedStood, SlotFreed, SummaryBounded, PartBounded}
 use Rattle.demands.specs.NoneMeansNone.{NoneMeansNone, StrongNoneMeansNone}
 use Rattle.demands.specs.Feeds.{ListOfCalls, WeightsAddUp, RepeatAltersNoWeight}
 use Rattle.demands.specs.Routes.{AcceptedCalls, RoutesOfCalls, StrongRoutesOfCalls, ShortcutOfCalls, StrongShortcutOfCalls, WeakOfStrongCalls}
 use Rattle.demands.specs.Routes.{AtRestOfCalls, StrongAtRestOfCalls, LeavesSaturated, NoneOfCalls, StrongNoneOfCalls}
-use Rattle.demands.specs.Slots.{NeverFive, SlotsSuffice}
+use Rattle.demands.specs.Slots.{NeverFive, PartNeverFive, SlotsSuffice, SaturationSlots}
 use Rattle.demands.specs.Printed.{AskRefusesQueries, SixForWrong, RetiredRead}
 
 -- the small graphs of 01, computed, with the saturation that 02 gives the six triples, and two graphs with reserved codes of their own
@@ -128,12 +128,15 @@ pub record Removals : Type 0 where
   pub removed-stood : (v : Vocabulary) → RemovedStood v
   pub slot-freed : (v : Vocabulary) → SlotFreed v
 
--- 02: "The controller's lists are cut at build time." How many slots a weak summary may need: per property, over all, and exactly where no data
--- triple touches a marked node; and that a list with so many slots is never too short.
+-- 02: "The controller's lists are cut at build time." How many slots a weak summary may need: by property, over all, and the exact number where no
+-- data triple touches a marked node; and that a list with so many slots is never too short, for the table, for any part of it, and behind a saturate.
 pub record Slots : Type 0 where
   pub summary-bounded : (v : Vocabulary) → SummaryBounded v
+  pub part-bounded : (v : Vocabulary) → PartBounded v
   pub never-five : (v : Vocabulary) → NeverFive v
+  pub part-never-five : (v : Vocabulary) → PartNeverFive v
   pub slots-suffice : (v : Vocabulary) → SlotsSuffice v
+  pub saturation-slots : (v : Vocabulary) → SaturationSlots v
 
 -- 02: "The check should take eight roster bytes as one u64 word at a time; show for every u64 that one test of the word passes exactly if
 -- none of its eight bytes is over 3." The code has the test in roster_values' `word_over_three`, which is called for each word; that rosters of

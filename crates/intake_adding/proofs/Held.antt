@@ -16,7 +16,7 @@ use Rattle.intake_insertion.proofs.Listed.{listed-first, listed-rest, listed-by
 
 module _ (l l′ : List ℕ) (H : List Triple) (i : ℕ) (t : Triple) (is : l ≡ listed (length l) H) (room : 3 * length H + 2 < length l) where
   pub held-first : first l (length H) ≡ H
-  held-first = ap (λ (x : List ℕ). first x (length H)) is ∙ listed-first (length l) H (omega arith)
+  held-first = listed-first l (length l) H is (omega arith)
 
   pub inserted-listed : RisingPart (at l) 0 (length H) → Bound (at l) 0 (length H) t i → holds t H ≡ false → Inserted l l′ (length H) i t → l′ ≡ listed (length l) (insert t H)
   inserted-listed r b f s =

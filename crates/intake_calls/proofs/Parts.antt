@@ -78,7 +78,7 @@ module _ (v : Vocabulary) where
       fits = omega (arith, W .fits)
 
       pub first-is : first triples held ≡ H
-      first-is = ap (first triples) held-is ∙ ap (λ (x : List ℕ). first x (length H)) triples-is ∙ listed-first (length triples) H fits
+      first-is = ap (first triples) held-is ∙ listed-first triples (length triples) H triples-is fits
 
       pub rising : RisingPart (at triples) 0 held
       rising =
@@ -107,15 +107,16 @@ module _ (v : Vocabulary) where
         sum-fits = subst (λ (n : ℕ). 3 * n ≤ length sums) summarised-is few
 
         pub lines-are : first sums summarised ≡ summary v roster H
-        lines-are =
-            ap (first sums) summarised-is ∙ ap (λ (x : List ℕ). first x (length (summary v roster H))) sums-is
-            ∙ listed-first (length sums) (summary v roster H) sum-fits
+        lines-are = ap (first sums) summarised-is ∙ listed-first sums (length sums) (summary v roster H) sums-is sum-fits
 
         -- the image of t stands at place j of the summary
+        pub image-is : (t : Triple) (j : ℕ) → KnownAt sums summarised map₀ t j → at sums j ≡ moved (label (mapOf v roster H)) t
+        image-is t j K = K .image ∙ ap (λ (z : List ℕ). moved (label z) t) map-is
+
         pub line-is : (t : Triple) (j : ℕ) → KnownAt sums summarised map₀ t j → getD (summary v roster H) j t ≡ moved (label (mapOf v roster H)) t
         line-is t j K =
             ap (λ (l : List Triple). getD l j t) (sym lines-are) ∙ tabulate-at (at sums) t 0 summarised j (K .inside) ∙ ap (at sums) (zero-add j)
-            ∙ K .image ∙ ap (λ (z : List ℕ). moved (label z) t) map-is
+            ∙ image-is t j K
 
     -- the place that bisection finds for t, and whether t stands there
     module _ (t : Triple) (i : ℕ) (P : Place (at triples) 0 held t i) (r : Bool) (S : StandsAt triples held i t r) where

@@ -240,9 +240,6 @@ module _ (v : Vocabulary) (roster triples sums weighed map₀ work : List ℕ) (
                 count = l .0 ∙ count-lines ∙ ap {B = ℕ} (λ (z : List Triple). length z) (sym (x .0));
               }
 
-          image-is : at sums j ≡ moved (label (mapOf v roster H)) t
-          image-is = K .image ∙ ap (λ (z : List ℕ). moved (label z) t) (parts.map-is v roster triples sums weighed map₀ held summarised H W)
-
           lines-rise : RisingPart (at sums) 0 (length sum)
           lines-rise =
               let r = rising-places (at sums) 0 (length sum) (subst Rising (sym (ap (first sums) (sym count-lines) ∙ parts.lines-are v roster triples sums weighed map₀ held summarised H W (K .fits)))
@@ -260,7 +257,7 @@ module _ (v : Vocabulary) (roster triples sums weighed map₀ work : List ℕ) (
               record {
                 in-summary = deleted-listed sums sums′ sum j sums-is (parts.sum-fits v roster triples sums weighed map₀ held summarised H W (K .fits)) lines-rise inside
                     (subst (λ (n : ℕ). Deleted sums sums′ n j) count-lines (l .1))
-                    ∙ (λ k. listed (length sums) (without (image-is k) sum)) ∙ ap (listed (length sums)) (sym (x .0));
+                    ∙ (λ k. listed (length sums) (without (parts.image-is v roster triples sums weighed map₀ held summarised H W (K .fits) t j K k) sum)) ∙ ap (listed (length sums)) (sym (x .0));
                 in-weights = number-deleted weighed weighed′ ws j weighed-is (omega (arith, as-many, count-lines, K .fits, R .equal, R .weights-size)) (omega (arith, inside, as-many))
                     (subst (λ (n : ℕ). NumberDeleted weighed weighed′ n j) (count-lines ∙ sym as-many) (l .2))
                     ∙ ap (padded (length weighed)) (sym (x .1));

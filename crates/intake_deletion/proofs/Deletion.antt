@@ -195,9 +195,8 @@ rising-bound f n i r h =
 pub deleted-listed : (l l′ : List ℕ) (H : List Triple) (i : ℕ) → l ≡ listed (length l) H → 3 * length H ≤ length l → RisingPart (at l) 0 (length H)
     → i < length H → Deleted l l′ (length H) i → l′ ≡ listed (length l) (without (at l i) H)
 deleted-listed l l′ H i is room r h d =
-    let held : first l (length H) ≡ H = ap (λ (x : List ℕ). first x (length H)) is ∙ listed-first (length l) H room in
     let e : first l′ (length H - 1) ≡ without (at l i) H =
-    deleted-first l l′ (length H) i (at l i) d h refl (rising-bound (at l) (length H) i r h) ∙ ap (without (at l i)) held in
+    deleted-first l l′ (length H) i (at l i) d h refl (rising-bound (at l) (length H) i r h) ∙ ap (without (at l i)) (listed-first l (length l) H is room) in
     listed-by l′ (length H - 1) (without (at l i) H) (omega (arith, d .size)) e (λ w x y. behind w x (decLt w (3 * length H)))
     ∙ ap (λ (k : ℕ). listed k (without (at l i) H)) (d .size)
   where

@@ -13,17 +13,18 @@ use Rattle.theory.proofs.Flat.{length-flat, triples-flat, padded-past, padded-b
 use Rattle.lists.proofs.Places.{flat-places, triples-places}
 use Rattle.builder.specs.Builder.{first}
 
-module _ (m : ℕ) (H : List Triple) (h : 3 * length H ≤ m) where
-  pub listed-first : first (listed m H) (length H) ≡ H
-  unfolding listed padded
-  listed-first =
-      sym (triples-places (listed m H) (length H) (omega (arith, length-listed m H h)))
-      ∙ ap triples (ap (λ (k : ℕ). take k (flat H ++ zeros (m - length (flat H)))) (sym (length-flat H)) ∙ take-append-seam (flat H) _)
-      ∙ triples-flat H
+-- what such a list begins with
+pub listed-first : (l : List ℕ) (m : ℕ) (H : List Triple) → l ≡ listed m H → 3 * length H ≤ m → first l (length H) ≡ H
+unfolding listed padded
+listed-first l m H is h =
+    ap (λ (x : List ℕ). first x (length H)) is
+    ∙ sym (triples-places (listed m H) (length H) (omega (arith, length-listed m H h)))
+    ∙ ap triples (ap (λ (k : ℕ). take k (flat H ++ zeros (m - length (flat H)))) (sym (length-flat H)) ∙ take-append-seam (flat H) _)
+    ∙ triples-flat H
 
-  pub listed-rest : (w : ℕ) → 3 * length H ≤ w → getD (listed m H) w 0 ≡ 0
-  unfolding listed
-  listed-rest w a = padded-past m (flat H) w (omega (arith, length-flat H))
+pub listed-rest : (m : ℕ) (H : List Triple) → 3 * length H ≤ m → (w : ℕ) → 3 * length H ≤ w → getD (listed m H) w 0 ≡ 0
+unfolding listed
+listed-rest m H h w a = padded-past m (flat H) w (omega (arith, length-flat H))
 
 -- triples in front and zeros behind make the list
 pub listed-by : (l : List ℕ) (n : ℕ) (K : List Triple) → 3 * n ≤ length l → first l n ≡ K → ((w : ℕ) → 3 * n ≤ w → w < length l → getD l w 0 ≡ 0) → l ≡ listed (length l) K

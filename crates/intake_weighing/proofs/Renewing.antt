@@ -73,7 +73,7 @@ module _ (v : Vocabulary) (triples : List ℕ) (count : ℕ) (roster sums weighe
       map-is = C .in-map ∙ left-after _ _ _ _ ok
 
       first-is : first sums′ k ≡ us
-      first-is = (λ i. first (sums-is i) (k-is i)) ∙ listed-first (length sums) us few-enough
+      first-is = ap (first sums′) k-is ∙ listed-first sums′ (length sums) us sums-is few-enough
 
       sums-size : length sums′ ≡ length sums
       sums-size = ap {B = ℕ} (λ (x : List ℕ). length x) sums-is ∙ length-listed (length sums) us few-enough

@@ -7,7 +7,7 @@ use mathlib.Core.Logic.{⊎-elim}
 use mathlib.Core.Bool.{Bool, true, false, cond, not, _&&_, true≢false}
 use mathlib.Core.List.{List, _∷_, map, List·Memᴰ as Mem, List·Memᴰ·head as here, List·Memᴰ·tail as there}
 use native.Mathlib.Omega.{arith}
-use native.Mathlib.Nat.{le-refl, le-min, min-le-left, min-le-right}
+use native.Mathlib.Nat.{le-refl, le-trans, le-min, min-le-left, min-le-right, mul-le-mul}
 use lib.Dec.{eqb, leb}
 use lib.ListN.{length, length-map}
 use borrow.Author.Tests.{eqb-true, eq-eqb}
@@ -24,8 +24,8 @@ use Rattle.model.specs.Summary.{moved, summary}
 use Rattle.theory.specs.Tables.{AllBelow, In, by-side}
 use Rattle.theory.specs.Bounds.{codesBelow, withProperty, dataProperty, markedEnds, propertyBound, dataBound, slotsBound, present, Untouched, Bounded}
 use Rattle.theory.proofs.Tests.{bool-cases, and-true, and-both, not-both, not-true-false}
-use Rattle.theory.proofs.Lists.{any-found, any-holds, any-none, many-none, many-some, mem-collect, mem-map, mem-tabulate}
-use Rattle.theory.proofs.Order.{sorted-mem, mem-sorted, rising-many}
+use Rattle.theory.proofs.Lists.{any-found, any-holds, any-none, many-none, many-some, many-more, mem-collect, mem-map, mem-tabulate}
+use Rattle.theory.proofs.Order.{sorted-rising, sorted-mem, mem-sorted, rising-many}
 use Rattle.theory.proofs.Covered.{Marked, Plain, by-mark}
 use Rattle.theory.proofs.Mapped.{node-below, map-reps, map-agrees}
 use Rattle.theory.proofs.Summaries.{condensed-rising, condensed-exact}
@@ -96,7 +96,7 @@ module _ (v : Vocabulary) (roster : List ℕ) (ts : List Triple) where
       codes-at : Side → List ℕ
       codes-at e = (one e) .0 ∷ kept (markedEnd e) (codesBelow (length roster))
 
-      codes-length : (e : Side) → length (codes-at e) ≡ markedEnds v roster ts e p + 1
+      codes-length : (e : Side) → length (codes-at e) ≡ markedEnds roster ts e p + 1
       unfolding codes-at markedEnds
       codes-length e = omega (arith, kept-length (markedEnd e) (codesBelow (length roster)))
 
@@ -114,7 +114,7 @@ module _ (v : Vocabulary) (roster : List ℕ) (ts : List Triple) where
           (λ (k : Plain roster c). here ((one e) .1 u m q k))
           (by-mark roster c)
 
-      in-grid : howMany (withProperty p) out ≤ (markedEnds v roster ts source p + 1) * (markedEnds v roster ts target p + 1)
+      in-grid : howMany (withProperty p) out ≤ (markedEnds roster ts source p + 1) * (markedEnds roster ts target p + 1)
       in-grid =
           let cell : ℕ → ℕ → Triple = λ s o. triple s p o in
           let h = rising-many (withProperty p) out (collect (λ s. map (cell s) (codes-at target)) (codes-at source)) (condensed-rising (mapOf v roster ts) ts)
@@ -126,7 +126,7 @@ module _ (v : Vocabulary) (roster : List ℕ) (ts : List Triple) where
           (mem-map (cell (f (u .subject))) (codes-at target) (f (u .object)) (end-in target u (w .1) q) (w .2 ∙ (λ i. triple (f (u .subject)) (q i) (f (u .object)))))) in
           subst (λ (k : ℕ). howMany (withProperty p) out ≤ k) (grid-length cell (codes-at source) (codes-at target) ∙ (λ i. codes-length source i * codes-length target i)) h
 
-      each : howMany (withProperty p) out ≤ propertyBound v roster ts p
+      each : howMany (withProperty p) out ≤ propertyBound roster ts p
       unfolding propertyBound
       each = le-min (fewer (withProperty p) (λ u. refl)) in-grid
 
@@ -150,20 +150,21 @@ module _ (v : Vocabulary) (roster : List ℕ) (ts : List Triple) where
             many-none (λ p. dataWith p t) (codesBelow (length roster))
             (λ p m. ⊎-elim (λ q. ap (λ (z : Bool). z && withProperty p t) (own p q ∙ e)) (λ q. ap (λ (z : Bool). dataProperty v p && z) q ∙ and-no (dataProperty v p)) (bool-cases (withProperty p t)))
 
-    by-property : howMany (isData v) out ≡ total (map (λ p. howMany (dataWith p) out) (codesBelow (length roster)))
-    by-property =
-        sym (many-turned dataWith (codesBelow (length roster)) out
-        ∙ ap total (map-same (λ t. howMany (λ p. dataWith p t) (codesBelow (length roster))) (λ t. cond (isData v t) 1 0) out (λ t m. at-own t (below t m)))
-        ∙ total-many (isData v) out)
+    by-property : (us : List Triple) → ((t : Triple) → Mem t us → t .property < length roster)
+        → howMany (isData v) us ≡ total (map (λ p. howMany (dataWith p) us) (codesBelow (length roster)))
+    by-property us h =
+        sym (many-turned dataWith (codesBelow (length roster)) us
+        ∙ ap total (map-same (λ t. howMany (λ p. dataWith p t) (codesBelow (length roster))) (λ t. cond (isData v t) 1 0) us (λ t m. at-own t (h t m)))
+        ∙ total-many (isData v) us)
 
     -- what is shown of each property adds up
     together : howMany (isData v) out ≤ dataBound v roster ts
     unfolding dataBound
     together =
-        subst (λ (k : ℕ). k ≤ total (map (λ p. cond (dataProperty v p) (propertyBound v roster ts p) 0) (codesBelow (length roster)))) (sym by-property)
-        (total-le (λ p. howMany (dataWith p) out) (λ p. cond (dataProperty v p) (propertyBound v roster ts p) 0) (codesBelow (length roster)) (λ p. at p (dataProperty v p) refl))
+        subst (λ (k : ℕ). k ≤ total (map (λ p. cond (dataProperty v p) (propertyBound roster ts p) 0) (codesBelow (length roster)))) (sym (by-property out below))
+        (total-le (λ p. howMany (dataWith p) out) (λ p. cond (dataProperty v p) (propertyBound roster ts p) 0) (codesBelow (length roster)) (λ p. at p (dataProperty v p) refl))
       where
-        at : (p : ℕ) (c : Bool) → dataProperty v p ≡ c → howMany (λ t. c && withProperty p t) out ≤ cond c (propertyBound v roster ts p) 0
+        at : (p : ℕ) (c : Bool) → dataProperty v p ≡ c → howMany (λ t. c && withProperty p t) out ≤ cond c (propertyBound roster ts p) 0
         at p true e = each p e
         at p false e = omega (arith, many-none (λ (t : Triple). false) out (λ t m. refl))
 
@@ -173,9 +174,20 @@ module _ (v : Vocabulary) (roster : List ℕ) (ts : List Triple) where
         let h = fewer (λ t. not (isData v t)) (λ u. ap not (data-of (moved f u) (u .property) refl ∙ sym (data-of u (u .property) refl))) in
         omega (arith, many-parts (isData v) out, together, h)
 
+    no-more : slotsBound v roster ts ≤ length (sorted ts)
+    unfolding slotsBound dataBound propertyBound
+    no-more =
+        let few = total-le (λ p. cond (dataProperty v p) (propertyBound roster ts p) 0) (λ p. howMany (dataWith p) (sorted ts)) (codesBelow (length roster)) (λ p. at p (dataProperty v p)) in
+        let all = by-property (sorted ts) (λ t m. (b t (sorted-mem t ts m)) .property) in
+        omega (arith, few, all, many-parts (isData v) (sorted ts))
+      where
+        at : (p : ℕ) (c : Bool) → cond c (propertyBound roster ts p) 0 ≤ howMany (λ t. c && withProperty p t) (sorted ts)
+        at p true = min-le-left (howMany (withProperty p) (sorted ts)) ((markedEnds roster ts source p + 1) * (markedEnds roster ts target p + 1))
+        at p false = omega arith
+
     -- ── no data triple with a marked end ──
     module _ (plain : Untouched v roster ts) where
-      no-ends : (p : ℕ) → dataProperty v p ≡ true → (e : Side) → markedEnds v roster ts e p ≡ 0
+      no-ends : (p : ℕ) → dataProperty v p ≡ true → (e : Side) → markedEnds roster ts e p ≡ 0
       unfolding markedEnds
       no-ends p d e =
           many-none (markedEnd p d e) (codesBelow (length roster))
@@ -187,7 +199,7 @@ module _ (v : Vocabulary) (roster : List ℕ) (ts : List Triple) where
           true≢false (sym (z .0) ∙ ap not u)))
 
       -- a data property has one line if it is present, and none if it is not; and so says its bound
-      cells : (p : ℕ) → dataProperty v p ≡ true → (markedEnds v roster ts source p + 1) * (markedEnds v roster ts target p + 1) ≡ 1
+      cells : (p : ℕ) → dataProperty v p ≡ true → (markedEnds roster ts source p + 1) * (markedEnds roster ts target p + 1) ≡ 1
       cells p d = λ i. (no-ends p d source i + 1) * (no-ends p d target i + 1)
 
       lines : (p : ℕ) → dataProperty v p ≡ true → (c : Bool) → any (withProperty p) ts ≡ c → howMany (withProperty p) out ≡ cond c 1 0
@@ -201,7 +213,7 @@ module _ (v : Vocabulary) (roster : List ℕ) (ts : List Triple) where
           let u = from t m in
           ap (λ (z : Triple). withProperty p z) (u .2) ∙ any-none (withProperty p) ts h (u .0) (u .1))
 
-      bounds : (p : ℕ) → dataProperty v p ≡ true → (c : Bool) → any (withProperty p) ts ≡ c → propertyBound v roster ts p ≡ cond c 1 0
+      bounds : (p : ℕ) → dataProperty v p ≡ true → (c : Bool) → any (withProperty p) ts ≡ c → propertyBound roster ts p ≡ cond c 1 0
       unfolding propertyBound
       bounds p d true h =
           let n = howMany (withProperty p) (sorted ts) in
@@ -210,7 +222,7 @@ module _ (v : Vocabulary) (roster : List ℕ) (ts : List Triple) where
           ap (min n) (cells p d) ∙ omega (arith, le-min low (le-refl 1), min-le-right n 1)
       bounds p d false h =
           let none : howMany (withProperty p) (sorted ts) ≡ 0 = many-none (withProperty p) (sorted ts) (λ t m. any-none (withProperty p) ts h t (sorted-mem t ts m)) in
-          omega (arith, none, min-le-left (howMany (withProperty p) (sorted ts)) ((markedEnds v roster ts source p + 1) * (markedEnds v roster ts target p + 1)))
+          omega (arith, none, min-le-left (howMany (withProperty p) (sorted ts)) ((markedEnds roster ts source p + 1) * (markedEnds roster ts target p + 1)))
 
       abbrev presentAt : ℕ → Bool
       presentAt p = dataProperty v p && any (withProperty p) ts
@@ -218,7 +230,7 @@ module _ (v : Vocabulary) (roster : List ℕ) (ts : List Triple) where
       exact : howMany (isData v) out ≡ present v roster ts
       unfolding present
       exact =
-          by-property
+          by-property out below
           ∙ ap total (map-same (λ p. howMany (dataWith p) out) (λ p. cond (presentAt p) 1 0) (codesBelow (length roster)) (λ p m. at p (dataProperty v p) refl))
           ∙ total-many presentAt (codesBelow (length roster))
         where
@@ -229,12 +241,39 @@ module _ (v : Vocabulary) (roster : List ℕ) (ts : List Triple) where
       tight : dataBound v roster ts ≡ present v roster ts
       unfolding dataBound present
       tight =
-          ap total (map-same (λ p. cond (dataProperty v p) (propertyBound v roster ts p) 0) (λ p. cond (presentAt p) 1 0) (codesBelow (length roster)) (λ p m. at p (dataProperty v p) refl))
+          ap total (map-same (λ p. cond (dataProperty v p) (propertyBound roster ts p) 0) (λ p. cond (presentAt p) 1 0) (codesBelow (length roster)) (λ p m. at p (dataProperty v p) refl))
           ∙ total-many presentAt (codesBelow (length roster))
         where
-          at : (p : ℕ) (c : Bool) → dataProperty v p ≡ c → cond c (propertyBound v roster ts p) 0 ≡ cond (c && any (withProperty p) ts) 1 0
+          at : (p : ℕ) (c : Bool) → dataProperty v p ≡ c → cond c (propertyBound roster ts p) 0 ≡ cond (c && any (withProperty p) ts) 1 0
           at p true e = bounds p e (any (withProperty p) ts) refl
           at p false e = refl
 
     pub bounded : Bounded v roster ts
-    bounded = record { each = each; together = together; whole = whole; exact = exact; tight = tight }
+    bounded = record { each = each; together = together; whole = whole; no-more = no-more; exact = exact; tight = tight }
+
+-- ── without some of the triples ──
+module _ (v : Vocabulary) (roster : List ℕ) (part ts : List Triple) (among : (t : Triple) → Mem t part → Mem t ts) where
+  fewer-ends : (e : Side) (p : ℕ) → markedEnds roster part e p ≤ markedEnds roster ts e p
+  unfolding markedEnds
+  fewer-ends e p = many-more _ _ (codesBelow (length roster)) (λ c h.
+      let k = and-true (not (unmarked roster c)) _ h in
+      let w = any-found (λ t. withProperty p t && eqb c (end e t)) part (k .1) in
+      and-both (not (unmarked roster c)) _ (k .0) (any-holds (λ t. withProperty p t && eqb c (end e t)) ts (w .0) (among (w .0) (w .1)) (w .2)))
+
+  fewer-triples : (f : Triple → Bool) → howMany f (sorted part) ≤ howMany f (sorted ts)
+  fewer-triples f =
+      let h = rising-many f (sorted part) (kept f (sorted ts)) (sorted-rising part) (λ t m e. mem-kept f (sorted ts) t (mem-sorted t ts (among t (sorted-mem t part m))) e) in
+      omega (arith, h, kept-length f (sorted ts))
+
+  pub part-bounded : slotsBound v roster part ≤ slotsBound v roster ts
+  unfolding slotsBound dataBound propertyBound
+  part-bounded = omega (arith, total-le _ _ (codesBelow (length roster)) (λ p. at p (dataProperty v p)), fewer-triples (λ t. not (isData v t)))
+    where
+      at : (p : ℕ) (c : Bool) → cond c (propertyBound roster part p) 0 ≤ cond c (propertyBound roster ts p) 0
+      at p false = omega arith
+      at p true =
+          le-min (le-trans (min-le-left _ _) (fewer-triples (withProperty p)))
+          (le-trans (min-le-right (howMany (withProperty p) (sorted part)) _) (mul-le-mul (more (fewer-ends source p)) (more (fewer-ends target p))))
+        where
+          more : {m n : ℕ} → m ≤ n → m + 1 ≤ n + 1
+          more h = omega arith

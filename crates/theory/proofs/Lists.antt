@@ -75,6 +75,12 @@ module _ {A : Type 0} where
   many-some f (x ∷ us) u m e =
       ⊎-elim (λ (q : u ≡ x). let h : f x ≡ true = ap f (sym q) ∙ e in rw h (omega arith)) (λ k. omega (arith, many-some f us u k e)) (mem-cases m)
 
+  pub many-more : (f g : A → Bool) (xs : List A) → ((x : A) → f x ≡ true → g x ≡ true) → howMany f xs ≤ howMany g xs
+  unfolding howMany
+  many-more f g [] h = omega arith
+  many-more f g (x ∷ xs) h =
+      ⊎-elim (λ (e : f x ≡ true). rw (e, h x e) (omega (arith, many-more f g xs h))) (λ (e : f x ≡ false). rw e (omega (arith, many-more f g xs h))) (bool-cases (f x))
+
   -- ── one or none ──
   pub when-mem : {b : Bool} {x y : A} → Mem y (when b x) → (b ≡ true) × (y ≡ x)
   when-mem {b} {x} {y} =

@@ -20,5 +20,5 @@ unfolding tableChecks wrongWords repeated wrongSize wrongLength wrongRoster wron
 small-sites-right = tt
 
 pub strong-needs-more : T strongNeedsMore
-unfolding kind any howMany collect tabulate total triples isData before same insert sorted unmarked isNode union merged pairs links shares hasClique cliques alike cliqueOf placed mapBy strongMapOf condensed markedEnds propertyBound dataBound slotsBound
+unfolding tableChecks wrongWords repeated wrongSize wrongLength wrongRoster wrongCodes wrongTriple wrongEnd covers coversTriple kind reserved any all howMany collect among tabulate total triples flat isData before same insert sorted isClass isProperty unmarked classRoles propertyRoles isNode union merged pairs links shares hasClique cliques together alike cliqueOf placed mapBy mapOf strongMapOf condensed markedEnds propertyBound dataBound slotsBound equal siteRight strongNeedsMore
 strong-needs-more = tt

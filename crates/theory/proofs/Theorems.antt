@@ -23,7 +23,7 @@ use Rattle.theory.specs.Theorems.{PlacesRight, TriplesOf, InSaturation, 
 use Rattle.theory.specs.Theorems.{SummaryExact, StrongRepresentativesExact, StrongSummaryExact, OwnRosterLeast, ShortcutBy, RoutesBy, AgainBy}
 use Rattle.theory.specs.Theorems.{AtRestBy, ShortcutHolds, RoutesAccepted, StrongShortcutHolds, StrongRoutesAccepted, WeakOfStrongHolds}
 use Rattle.theory.specs.Theorems.{Saturated, AtRestHolds, StrongAtRestHolds, AgainTheSame, StrongAgainTheSame, SaturationSaturated, AnyOrder}
-use Rattle.theory.specs.Theorems.{WholeList, FedInAnyOrder, FedStands, RemovedStood, SlotFreed, LeavesRight, WeightsExact, SummaryBounded}
+use Rattle.theory.specs.Theorems.{WholeList, FedInAnyOrder, FedStands, RemovedStood, SlotFreed, LeavesRight, WeightsExact, SummaryBounded, PartBounded}
 use Rattle.theory.proofs.Tests.{or-false}
 use Rattle.theory.proofs.Checks.{passes-first}
 use Rattle.theory.proofs.Flat.{triples-flat}
@@ -173,6 +173,9 @@ module _ (v : Vocabulary) where
   summary-bounded table roster h =
       let R = accept.accepted-right v table roster h in
       bounds.bounded v roster (triples table) (accept.below v roster (triples table) R) (accept.room v roster (triples table) R)
+
+  pub part-bounded : PartBounded v
+  part-bounded roster part ts among = bounds.part-bounded v roster part ts among
 
   pub strong-representatives-exact : StrongRepresentativesExact v
   strong-representatives-exact table roster h =

@@ -22,24 +22,24 @@ codesBelow n = tabulate (λ c. c) 0 n
 abbrev pub withProperty : ℕ → Triple → Bool
 withProperty p t = eqb p (t .property)
 
+module _ (roster : List ℕ) (ts : List Triple) where
+  -- 02: "A counts its marked subjects in the table and B its marked objects"; a subject of several triples counts once
+  unfoldable pub markedEnds : Side → ℕ → ℕ
+  markedEnds e p = howMany (λ c. not (unmarked roster c) && any (λ t. withProperty p t && eqb c (end e t)) ts) (codesBelow (length roster))
+
+  -- 02: "for each data property, at most the smaller of its distinct triples and (A + 1) × (B + 1)"
+  unfoldable pub propertyBound : ℕ → ℕ
+  propertyBound p = min (howMany (withProperty p) (sorted ts)) ((markedEnds source p + 1) * (markedEnds target p + 1))
+
 module _ (v : Vocabulary) where
   -- the property of a data triple: 02, "a data triple is one whose property is none of them"
   abbrev pub dataProperty : ℕ → Bool
   dataProperty p = leb 5 (kind v p)
 
   module _ (roster : List ℕ) (ts : List Triple) where
-    -- 02: "A counts its marked subjects in the table and B its marked objects"; a subject of several triples counts once
-    unfoldable pub markedEnds : Side → ℕ → ℕ
-    markedEnds e p =
-        howMany (λ c. not (unmarked roster c) && any (λ t. withProperty p t && eqb c (end e t)) ts) (codesBelow (length roster))
-
-    -- 02: "for each data property, at most the smaller of its distinct triples and (A + 1) × (B + 1)"
-    unfoldable pub propertyBound : ℕ → ℕ
-    propertyBound p = min (howMany (withProperty p) (sorted ts)) ((markedEnds source p + 1) * (markedEnds target p + 1))
-
     -- 02: "a bound on the data triples": that of each data property, together
     unfoldable pub dataBound : ℕ
-    dataBound = total (map (λ p. cond (dataProperty p) (propertyBound p) 0) (codesBelow (length roster)))
+    dataBound = total (map (λ p. cond (dataProperty p) (propertyBound roster ts p) 0) (codesBelow (length roster)))
 
     -- 02: "this bound plus the distinct schema and type triples"
     unfoldable pub slotsBound : ℕ
@@ -55,9 +55,11 @@ module _ (v : Vocabulary) where
 
     -- what is shown of the weak summary of these triples
     pub record Bounded : Type 0 where
-      pub each : (p : ℕ) → dataProperty p ≡ true → howMany (withProperty p) (summary v roster ts) ≤ propertyBound p
+      pub each : (p : ℕ) → dataProperty p ≡ true → howMany (withProperty p) (summary v roster ts) ≤ propertyBound roster ts p
       pub together : howMany (isData v) (summary v roster ts) ≤ dataBound
       pub whole : length (summary v roster ts) ≤ slotsBound
+      -- the bound is no more than the distinct triples, each of which has a slot in a list as long as the table
+      pub no-more : slotsBound ≤ length (sorted ts)
       -- 02: "Where no data triple touches a marked node, the number is exactly that of the data properties present.": the number of data triples
       -- in the summary, and the bound too
       pub exact : Untouched → howMany (isData v) (summary v roster ts) ≡ present

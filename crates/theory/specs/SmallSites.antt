@@ -15,7 +15,7 @@ use Rattle.model.specs.Calls.{tableChecks}
 use Rattle.model.specs.Graphs.{equal}
 use Rattle.theory.specs.Bounds.{dataBound, slotsBound}
 
--- a table with a roster that covers it, the bound on the data triples of its summary, that on all of them, and its summary
+-- reserved codes, a table with a roster that covers it, the bound on the data triples of its summary, that on all of them, and its summary
 pub record SmallSite : Type 0 where
   pub words : Vocabulary
   pub roster : List ℕ
@@ -62,6 +62,9 @@ smallSites =
     ∷ {- repeats count once -}
     smallSite rdfs (0 ∷ 0 ∷ 0 ∷ 0 ∷ 0 ∷ 2 ∷ 1 ∷ 0 ∷ 0 ∷ []) (7 ∷ 5 ∷ 8 ∷ 7 ∷ 0 ∷ 6 ∷ 7 ∷ 5 ∷ 8 ∷ 7 ∷ 0 ∷ 6 ∷ []) 1 2
     (7 ∷ 0 ∷ 6 ∷ 7 ∷ 5 ∷ 8 ∷ [])
+    ∷ {- each property has its own marked ends: 7 is one of 5, and 6 has none; repeats of data triples count once; a schema triple -}
+    smallSite rdfs (0 ∷ 0 ∷ 0 ∷ 0 ∷ 0 ∷ 2 ∷ 2 ∷ 1 ∷ 0 ∷ 0 ∷ 0 ∷ 0 ∷ []) (7 ∷ 5 ∷ 8 ∷ 7 ∷ 5 ∷ 8 ∷ 9 ∷ 6 ∷ 10 ∷ 11 ∷ 6 ∷ 10 ∷ 5 ∷ 3 ∷ 7 ∷ []) 2 3
+    (5 ∷ 3 ∷ 7 ∷ 7 ∷ 5 ∷ 8 ∷ 9 ∷ 6 ∷ 10 ∷ [])
     ∷ {- type triples may become one: the bound counts both -}
     smallSite rdfs (0 ∷ 0 ∷ 0 ∷ 0 ∷ 0 ∷ 1 ∷ 0 ∷ 0 ∷ []) (6 ∷ 0 ∷ 5 ∷ 7 ∷ 0 ∷ 5 ∷ []) 0 2
     (6 ∷ 0 ∷ 5 ∷ [])
@@ -70,10 +73,12 @@ smallSites =
     (3 ∷ 9 ∷ 1 ∷ 4 ∷ 0 ∷ 2 ∷ 4 ∷ 9 ∷ 1 ∷ [])
     ∷ []
 
--- The bound is for the weak summary only: the strong one keeps more nodes apart. 5 and 6 are data properties, 7 to 11 are unmarked: two slots
--- are enough for the weak summary, and the strong one has three lines, because only one of the two objects of 5 is also a subject.
-abbrev pub strongNeedsMore : Bool
-strongNeedsMore =
-    let roster : List ℕ = 0 ∷ 0 ∷ 0 ∷ 0 ∷ 0 ∷ 2 ∷ 2 ∷ 0 ∷ 0 ∷ 0 ∷ 0 ∷ 0 ∷ 0 ∷ [] in
-    let ts = triples (7 ∷ 5 ∷ 9 ∷ 8 ∷ 5 ∷ 10 ∷ 10 ∷ 6 ∷ 11 ∷ []) in
-    eqb (slotsBound rdfs roster ts) 2 && eqb (length (strongSummary rdfs roster ts)) 3
+-- The bound is for the weak summary only: the strong one keeps more nodes apart. Here two slots are enough for the weak summary, and the strong
+-- one has three lines, because only one of the two objects of 5 is also a subject.
+abbrev pub chain : SmallSite
+chain =
+    smallSite rdfs (0 ∷ 0 ∷ 0 ∷ 0 ∷ 0 ∷ 2 ∷ 2 ∷ 0 ∷ 0 ∷ 0 ∷ 0 ∷ 0 ∷ []) (7 ∷ 5 ∷ 9 ∷ 8 ∷ 5 ∷ 10 ∷ 10 ∷ 6 ∷ 11 ∷ []) 2 2
+    (7 ∷ 5 ∷ 9 ∷ 9 ∷ 6 ∷ 11 ∷ [])
+
+unfoldable pub strongNeedsMore : Bool
+strongNeedsMore = siteRight chain && eqb (length (strongSummary rdfs (chain .roster) (triples (chain .table)))) 3

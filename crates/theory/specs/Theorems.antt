@@ -22,7 +22,7 @@ use Rattle.model.specs.Summary.{moved, Image, condensed, summary, weights, stro
 use Rattle.model.specs.Outcomes.{Outcome, accepted, Answer, answer, Said, new, Passes}
 use Rattle.model.specs.Calls.{Accepted}
 use Rattle.model.specs.Intake.{State, feeding, removing, Call, isNew, isRemoved, plainChecks, replyTo, heldThen, answers, heldAfter, stateOf, openOutcome, opened, Run}
-use Rattle.theory.specs.Bounds.{Bounded}
+use Rattle.theory.specs.Bounds.{slotsBound, Bounded}
 
 -- the triples of a table, as a set
 abbrev pub TriplesOf : List ℕ → Graph
@@ -290,6 +290,11 @@ module _ (v : Vocabulary) where
   -- 02: "State a bound on the data triples of a weak summary". It is of the table that is summarised, saturated or not.
   abbrev pub SummaryBounded : Type 0
   SummaryBounded = (table roster : List ℕ) → Accepted v table roster → Bounded v roster (triples table)
+
+  -- Without some of its triples a table may have a longer summary, because classes fall apart, but no higher bound.
+  abbrev pub PartBounded : Type 0
+  PartBounded =
+      (roster : List ℕ) (part ts : List Triple) → ((t : Triple) → Mem t part → Mem t ts) → slotsBound v roster part ≤ slotsBound v roster ts
 
   -- ── a shipped summary is at rest ──
   -- 02: "a saturated table": it holds all that the rules give from it, in whatever order; repeats are allowed
