@@ -17,7 +17,7 @@ use Rattle.query.specs.declared.Query.{Query}
 use Rattle.query.specs.declared.Asked.the-variants.{Maybe, None, Refused}
 use Rattle.theory.proofs.Tests.{neither-right}
 use Rattle.query.proofs.Exact.{node-below}
-use Rattle.query_parts.specs.Parts.{InOrder}
+use Rattle.query_places.specs.Places.{InOrder}
 use Rattle.query_settling.specs.Settling.{Searchable}
 use Rattle.query.specs.Ask.{unbound, search, wrongQuery, retired, askChecks, askOutcome, asked}
 

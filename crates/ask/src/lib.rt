@@ -2,7 +2,7 @@
 
 ghost use mathlib.Core.Path.{_≡_};
 ghost use Rattle.query.specs.Ask.{asked, askOutcome};
-ghost use Rattle.query_parts.specs.Parts.{InOrder};
+ghost use Rattle.query_places.specs.Places.{InOrder};
 use lists::rises;
 use model::Refusal;
 use model::Vocabulary;

@@ -1,5 +1,3 @@
 pub mod Exchange
 pub mod Arranged
-pub mod Parts
-pub mod TwoParts
 pub mod Best

@@ -27,7 +27,7 @@ use Rattle.query.specs.Ask.{patternAt, fitEnd, fitTriple, wrongQuery}
 use Rattle.query.specs.Match.{standsFor, patternTriple}
 use Rattle.query.specs.Choices.{Agrees, Puts, CanPut, Present}
 use Rattle.query.proofs.Steps.{Good, GoodQuery, good-query, Fitting, triple-complete, Tried, triple-sound}
-use Rattle.query_parts.specs.Parts.{FirstFit}
+use Rattle.query_places.specs.Places.{FirstFit}
 use Rattle.query_rows.specs.Rows.{allows, Within}
 use Rattle.query_search.specs.Search.{Sure, Sought, SoughtAt, Spent}
 

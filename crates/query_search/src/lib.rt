@@ -8,11 +8,11 @@ ghost use Rattle.model.specs.Triples.{triples};
 ghost use Rattle.lists.specs.Flat.{at};
 ghost use Rattle.query.specs.Ask.{patternAt, wrongQuery};
 ghost use Rattle.query.specs.Choices.{Present};
-ghost use Rattle.query_parts.specs.Parts.{InOrder};
+ghost use Rattle.query_places.specs.Places.{InOrder};
 ghost use Rattle.query_search.specs.Search.{Sought, SoughtAt, Spent};
 use query::Query;
-use query_parts::first_fit;
 use query_parts::fit_end;
+use query_places::first_fit;
 use query_rows::allowed;
 
 // Takes a cost off the steps of a limited search. Whether it must give up.

@@ -20,9 +20,10 @@ use Rattle.query.proofs.Exact.{search-exact, nodes-present}
 use Rattle.query_rows.specs.Rows.{inRow, Within, RowCopied}
 use Rattle.query_rows.proofs.Rows.{sized-as, allows-row, allows-short}
 use Rattle.query_domains.specs.Domains.{SweptAll}
-use Rattle.query_order.specs.Order.{firstPatterns, Arranged, Apart, PartEnd}
+use Rattle.query_order.specs.Order.{firstPatterns, Arranged}
 use Rattle.query_order.proofs.Arranged.{to-arranged, from-arranged, arranged-right, first-right}
-use Rattle.query_order.proofs.TwoParts.{parts-joined}
+use Rattle.query_components.specs.Parts.{Apart, PartEnd}
+use Rattle.query_components.proofs.TwoParts.{parts-joined}
 use Rattle.query_search.specs.Search.{Sure, Sought}
 use Rattle.query_settling.specs.Settling.{Searchable, SettleNeeds, Settled, RowsKept, KeptFor, MaySettle}
 

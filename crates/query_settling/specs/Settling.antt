@@ -11,8 +11,8 @@ use Rattle.query.specs.Ask.{wrongQuery}
 use Rattle.query.specs.Match.{NodeOf}
 use Rattle.query.specs.Choices.{Puts, CanPut, CodesBelow}
 use Rattle.query_domains.specs.Domains.{LaterKept}
-use Rattle.query_order.specs.Order.{FreeVariable}
-use Rattle.query_parts.specs.Parts.{InOrder}
+use Rattle.query_fixing.specs.Fixing.{FreeVariable}
+use Rattle.query_places.specs.Places.{InOrder}
 use Rattle.query_rows.specs.Rows.{inRow, Sized}
 
 -- what the search needs: a query that passes 6, an order that holds if it is known, nodes below N, and lists that pass 1

@@ -14,8 +14,8 @@ use Rattle.query_search.proofs.try_triple.Reads as try-triple
 use Rattle.query_search.proofs.try_triple.Kinds as try-triple-kinds
 use Rattle.query_search.proofs.+try_pattern+try_triple.Lts-try_triple as try-triple-lts
 use Rattle.lists.proofs.triple_at.Reads as triple-at-reads
-use Rattle.query_parts.proofs.first_fit.Reads as first-fit-reads
 use Rattle.query_parts.proofs.fit_end.Reads as fit-end-reads
+use Rattle.query_places.proofs.first_fit.Reads as first-fit-reads
 use Rattle.query_rows.proofs.allowed.Reads as allowed-reads
 use Rattle.query_search.proofs.spend.Reads as spend-reads
 use Rattle.query_search.proofs.+try_pattern+try_triple.{statement}

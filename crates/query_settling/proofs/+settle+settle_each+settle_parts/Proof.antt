@@ -20,9 +20,9 @@ use Rattle.query_settling.proofs.+settle+settle_each+settle_parts.Lts-s
 use Rattle.query_settling.proofs.settle_parts.Reads as settle-parts
 use Rattle.query_settling.proofs.settle_parts.Kinds as settle-parts-kinds
 use Rattle.query_settling.proofs.+settle+settle_each+settle_parts.Lts-settle_parts as settle-parts-lts
+use Rattle.query_components.proofs.part_end.Reads as part-end-reads
 use Rattle.query_domains.proofs.sweep_all.Reads as sweep-all-reads
 use Rattle.query_order.proofs.arrange.Reads as arrange-reads
-use Rattle.query_order.proofs.part_end.Reads as part-end-reads
 use Rattle.query_rows.proofs.copy_row.Reads as copy-row-reads
 use Rattle.query_rows.proofs.next_in_row.Reads as next-in-row-reads
 use Rattle.query_search.proofs.try_pattern.Reads as try-pattern-reads
