@@ -167,7 +167,8 @@ uint32_t ws_cliques(const uint32_t *words, size_t words_length, const uint32_t *
 
 /*
  * Summarise, weakly: the table's triples with each subject and object replaced by its representative.
- *   result  any length; takes the summary, the rest is zero. As many numbers as the table has are always enough.
+ *   result  any length; takes the summary, the rest is zero. As many numbers as the table has are always enough. For a list
+ *           that is cut at build time, ws_slots_bound in weak_summary_slots.h gives a number of slots that is enough as well.
  *   map     N numbers: each node's representative, WS_ABSENT for a code that is no node, so for each word.
  *   work    2 * N numbers with any content; zero afterwards.
  *   *count  the number of triples of the summary.
@@ -189,8 +190,9 @@ uint32_t ws_summarise(const uint32_t *words, size_t words_length, const uint32_t
 
 /*
  * Summarise strongly: as ws_summarise, but nodes are put together only if they have the same source clique and the same
- * target clique, none counting as a value. Lists, refusals and what they leave are those of ws_summarise. The strong summary of
- * a saturated table is at rest too, when it is saturated or strongly summarised again.
+ * target clique, none counting as a value. Lists, refusals and what they leave are those of ws_summarise, but it may need more
+ * slots than ws_slots_bound gives. The strong summary of a saturated table is at rest too, when it is saturated or strongly
+ * summarised again.
  */
 uint32_t ws_summarise_strong(const uint32_t *words, size_t words_length, const uint32_t *table, size_t table_length,
                              const uint8_t *roster, size_t roster_length, uint32_t *result, size_t result_length,

@@ -1,11 +1,12 @@
-/* The papers' example through the C interface, in the header's sequence: read, own roster, saturate, summarise, ask; also the
-   same on the summary, queries that are retired, what ask says where the sequence is not kept, and an intake with the weights
-   of its lines, from which triples are removed. Then all of it with other words than 0 to 4, the two summaries of a chain,
-   places, and a chain that falls apart. Each result is checked against the papers'. */
+/* The papers' example through the C interface, in the header's sequence: read, own roster, saturate, summarise, ask; also a
+   list cut to the slots that the summary may need, the same on the summary, queries that are retired, what ask says where the
+   sequence is not kept, and an intake with the weights of its lines, from which triples are removed. Then all of it with other
+   words than 0 to 4, the two summaries of a chain, places, and a chain that falls apart. Each result is checked against the
+   papers'. */
 #include <stdio.h>
 #include <string.h>
 
-#include "weak_summary.h"
+#include "weak_summary_slots.h"
 
 #define N 14
 #define SLOTS 2048
@@ -72,6 +73,18 @@ static uint32_t saturate(uint32_t n, uint32_t *result, size_t result_length, siz
     return ws_saturate(words, WS_WORDS_NUMBERS, table, 18, roster, n, result, result_length, count);
 }
 
+/* What the maker of a controller does. Of the saturation's 17 triples 13 are schema and type triples, and each of the three
+   data properties needs one slot, so a list of 16 slots takes the summary, which has 14 triples. */
+static void cut_list(uint32_t n, size_t all) {
+    size_t count = 0, slots = ws_slots_bound(words, WS_WORDS_NUMBERS, saturated, 3 * all, roster, n, summary, 3 * SLOTS);
+    check(slots == 16, "its summary may need 16 slots");
+    uint32_t status = ws_summarise(words, WS_WORDS_NUMBERS, saturated, 3 * all, roster, n, summary, 3 * slots, map, n, work,
+                                   2 * n, &count);
+    check(status == WS_OK && count == 14, "a list of 16 slots takes it");
+    status = ws_summarise(words, WS_WORDS_NUMBERS, saturated, 3 * all, roster, n, summary, 3 * 13, map, n, work, 2 * n, &count);
+    check(status == WS_REFUSED_SLOTS, "13 slots are refused with 5");
+}
+
 /* Saturates the six triples and summarises the saturation. */
 static size_t saturate_and_summarise(uint32_t n) {
     size_t all = 0, count = 0;
@@ -80,6 +93,7 @@ static size_t saturate_and_summarise(uint32_t n) {
     check(all == 17, "saturation has 17 triples");
     check(saturate(n, summary, 51, &all) == WS_OK, "saturation fits in 51 numbers");
     check(saturate(n, summary, 50, &all) == WS_REFUSED_SLOTS, "50 numbers are refused with 5");
+    cut_list(n, all);
     uint32_t status = ws_summarise(words, WS_WORDS_NUMBERS, saturated, 3 * all, roster, n, summary, 3 * SLOTS, map, n, work,
                                    2 * n, &count);
     check(status == WS_OK, "summary accepted");

@@ -1,6 +1,6 @@
 //! Compares the proved engine with the unverified one, call by call over the C interface: the answer, the numbers and every lent
-//! list after each call, on valid and damaged input, with junk in lists and numbers before; and summaries worked again, with what they
-//! must leave.
+//! list after each call, on valid and damaged input, with junk in lists and numbers before; summaries worked again, with what they
+//! must leave; and summaries in lists cut to the number of slots that they may need.
 
 mod asks;
 mod chains;
@@ -14,6 +14,7 @@ mod report;
 mod rest;
 mod rosters;
 mod shapes;
+mod slots;
 mod stages;
 mod tables;
 mod texts;
@@ -45,7 +46,7 @@ const REWORKS: usize = 3;
 /// Small chains for one over a site of a few hundred triples.
 const CHAINS: usize = 16;
 
-/// Random cases of each call, both summaries reworked, and chains of feeds and of feeds and removals.
+/// Random cases of each call and of slots, both summaries reworked, and chains of feeds and of feeds and removals.
 fn turn(random: &mut Random, report: &mut Report, mistake: Mistake) {
     for _ in 0..CALLS {
         tables::own_roster(random, report);
@@ -58,6 +59,7 @@ fn turn(random: &mut Random, report: &mut Report, mistake: Mistake) {
         asks::hard(random, report, mistake);
         texts::read(random, report);
         texts::write(random, report);
+        slots::slots(random, report, mistake);
     }
     for _ in 0..REWORKS {
         rest::rework(random, report, mistake, &tables::WEAK);

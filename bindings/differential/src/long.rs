@@ -8,6 +8,7 @@ use crate::random::Random;
 use crate::report::Report;
 use crate::rest;
 use crate::shapes;
+use crate::slots;
 use crate::tables::{self, Lent, STRONG, WEAK};
 use crate::words::{self, free_code, Words, RDFS};
 use weak_summary_reference::{self as plain, Mistake, MAX_SIZE, MAX_TRIPLES, QUERY_NUMBERS};
@@ -47,6 +48,21 @@ fn lent(random: &mut Random, words: &Words, table: &[u32], n: usize, slots: usiz
     }
 }
 
+/// A table with its own roster.
+fn site(words: &Words, table: Vec<u32>, n: usize) -> Site {
+    let mut roster = vec![0; n];
+    plain::own_roster(words, &table, &mut roster);
+    Site { n, right_words: *words, words: words.to_vec(), table, roster }
+}
+
+/// A summary in a list cut to the bound, with every seventh code marked besides those of the own roster.
+fn cut_list(random: &mut Random, report: &mut Report, mistake: Mistake, mut site: Site) {
+    for code in (0..site.n).step_by(7).filter(|&code| !site.right_words.contains(&(code as u32))) {
+        site.roster[code] |= 1;
+    }
+    slots::compare(random, report, mistake, &site, false);
+}
+
 /// Asks for the last triple that is no schema triple; for a domain of its subject, which is retired; and for three types and a
 /// property that no triple has, which share no variable.
 fn ask_all(report: &mut Report, mistake: Mistake, words: &Words, table: &[u32], n: usize) {
@@ -72,6 +88,7 @@ fn on_table(random: &mut Random, report: &mut Report, mistake: Mistake, words: &
         tables::compare_summarise(report, mistake, &WEAK, lent.clone());
         tables::compare_summarise(report, mistake, &STRONG, lent);
     }
+    cut_list(random, report, mistake, site(words, table.clone(), n));
     let mut cliques = lent(random, words, table, n, 0);
     cliques.result = random.junk(n);
     tables::compare_cliques(report, mistake, cliques);
@@ -108,9 +125,7 @@ fn saturations(random: &mut Random, report: &mut Report, mistake: Mistake) {
 fn reworks(random: &mut Random, report: &mut Report, mistake: Mistake) {
     for (n, amount, slots) in [(300, 2_000, 60_000), (2_000, 20_000, 400_000)] {
         for words in [RDFS, words::others(random, n)] {
-            let table = large_table(random, &words, n, amount);
-            let Lent { words: list, table, roster, .. } = lent(random, &words, &table, n, 0);
-            let site = Site { n, right_words: words, words: list, table, roster };
+            let site = site(&words, large_table(random, &words, n, amount), n);
             for summary in [&WEAK, &STRONG] {
                 let worked = rest::compare(random, report, mistake, summary, &site, slots);
                 assert!(worked || mistake != Mistake::None, "a long rework was refused");

@@ -1,7 +1,7 @@
 //! `differential [--cases K] [--seed S] [--short] [--mistake NAME]`
 //!
-//! Exits with 1 if the engines differ, if some stage of ask's search is reached by no query, or if no removal is of some kind. With a
-//! mistake, the unverified engine makes it, and the exit status is 1 if that goes unnoticed.
+//! Exits with 1 if the engines differ, if some stage of ask's search is reached by no query, or if no removal or no list cut to the
+//! bound is of some kind. With a mistake, the unverified engine makes it, and the exit status is 1 if that goes unnoticed.
 
 use std::process::ExitCode;
 use std::time::Instant;

@@ -1,6 +1,7 @@
 //! Cases counted by call and outcome, and the differences found.
 
 use crate::kept::{Path, Removal};
+use crate::slots::Fit;
 use crate::stages::{Reach, Stage};
 use std::collections::{BTreeMap, BTreeSet};
 use std::fmt::Debug;
@@ -12,6 +13,8 @@ pub enum Call {
     Cliques,
     Summarise,
     SummariseStrong,
+    /// The number of slots, and a summary in a list of so many.
+    Slots,
     /// A chain of four calls, counted as one.
     Rework,
     ReworkStrong,
@@ -34,6 +37,7 @@ impl Call {
             Call::Cliques => "cliques",
             Call::Summarise => "summarise",
             Call::SummariseStrong => "summarise strongly",
+            Call::Slots => "slots",
             Call::Rework => "rework",
             Call::ReworkStrong => "rework strongly",
             Call::LookUp => "look up",
@@ -76,16 +80,18 @@ pub struct Report {
     fixed_parts: [usize; 2],
     /// How many accepted removals were of each of these kinds.
     removals: [usize; REMOVALS.len()],
+    /// How many accepted summaries in lists cut to the bound were of each of these kinds.
+    fits: [usize; FITS.len()],
     pub cases: usize,
     pub differences: usize,
     shown: usize,
 }
 
-/// A name, and whether a removal is counted under it.
-type Counted = (&'static str, fn(Removal) -> bool);
+/// A name, and whether a case is counted under it.
+type Counted<C> = (&'static str, fn(C) -> bool);
 
 /// What is counted of accepted removals: which way the proved engine takes, and what then happens.
-const REMOVALS: [Counted; 8] = [
+const REMOVALS: [Counted<Removal>; 8] = [
     ("ends kept by others, the line stays", |removal| removal.path == Path::Lighter),
     ("ends kept by others, the line goes", |removal| removal.path == Path::LineGone),
     ("made anew", |removal| removal.path == Path::Anew),
@@ -94,6 +100,18 @@ const REMOVALS: [Counted; 8] = [
     ("a node vanishes", |removal| removal.vanishes),
     ("the smallest node of a class vanishes", |removal| removal.first_vanishes),
     ("the last triple of all", |removal| removal.empties),
+];
+
+/// What is counted of accepted summaries in lists cut to the bound: what decides it for some property, and how much is needed of it.
+const FITS: [Counted<Fit>; 8] = [
+    ("a property with fewer triples than cells", |fit| fit.by_triples),
+    ("a property with fewer cells than triples", |fit| fit.by_cells),
+    ("the same, with marked subjects and marked objects", |fit| fit.by_grid),
+    ("the same, and a line for each cell", |fit| fit.full_grid),
+    ("every slot is needed", |fit| fit.filled),
+    ("slots are left", |fit| fit.spare),
+    ("data, and none with a marked end", |fit| fit.exact),
+    ("a saturation with more triples than its table", |fit| fit.grown),
 ];
 
 /// The numbers of the refusals; 11 is free.
@@ -111,6 +129,18 @@ fn cut(text: String) -> String {
     }
 }
 
+/// Counts a case under each name that it has.
+fn count<C: Copy>(counts: &mut [usize], kinds: &[Counted<C>], case: C) {
+    for (count, (_, is_so)) in counts.iter_mut().zip(kinds) {
+        *count += is_so(case) as usize;
+    }
+}
+
+/// The counts with their names.
+fn named<'a, C>(counts: &'a [usize], kinds: &'a [Counted<C>]) -> impl Iterator<Item = (&'static str, usize)> + 'a {
+    kinds.iter().zip(counts).map(|(&(name, _), &count)| (name, count))
+}
+
 impl Report {
     /// A report that prints this many differences.
     pub fn new(shown: usize) -> Report {
@@ -121,6 +151,7 @@ impl Report {
             second_parts: [0; 2],
             fixed_parts: [0; 2],
             removals: [0; REMOVALS.len()],
+            fits: [0; FITS.len()],
             cases: 0,
             differences: 0,
             shown,
@@ -175,14 +206,22 @@ impl Report {
 
     /// Counts an accepted removal.
     pub fn removed(&mut self, removal: Removal) {
-        for (count, (_, is_so)) in self.removals.iter_mut().zip(REMOVALS) {
-            *count += is_so(removal) as usize;
-        }
+        count(&mut self.removals, &REMOVALS, removal);
+    }
+
+    /// Counts an accepted summary in a list cut to the bound.
+    pub fn fitted(&mut self, fit: Fit) {
+        count(&mut self.fits, &FITS, fit);
     }
 
     /// How many accepted removals were of each kind.
     fn removal_lines(&self) -> impl Iterator<Item = (&'static str, usize)> + '_ {
-        REMOVALS.iter().zip(&self.removals).map(|(&(name, _), &count)| (name, count))
+        named(&self.removals, &REMOVALS)
+    }
+
+    /// How many accepted summaries in lists cut to the bound were of each kind.
+    fn fit_lines(&self) -> impl Iterator<Item = (&'static str, usize)> + '_ {
+        named(&self.fits, &FITS)
     }
 
     /// How many queries went as far as each stage, and how many had a second part tried, by answer.
@@ -195,16 +234,16 @@ impl Report {
         lines
     }
 
-    /// Whether there is no difference, every stage was reached, and there were removals of every kind.
+    /// Whether there is no difference, every stage was reached, and there were removals and cut lists of every kind.
     pub fn passed(&self) -> bool {
         self.differences == 0 && self.unreached().is_empty()
     }
 
-    /// What no query reached, and of what kind no removal was.
+    /// What no query reached, and of what kind no removal and no cut list was.
     pub fn unreached(&self) -> Vec<&'static str> {
         let stages = self.lines().into_iter().filter(|(_, by)| by == &[0; 2]).map(|(name, _)| name);
-        let removals = self.removal_lines().filter(|&(_, count)| count == 0).map(|(name, _)| name);
-        stages.chain(removals).collect()
+        let kinds = self.removal_lines().chain(self.fit_lines());
+        stages.chain(kinds.filter(|&(_, count)| count == 0).map(|(name, _)| name)).collect()
     }
 
     pub fn print(&self) {
@@ -225,6 +264,10 @@ impl Report {
         }
         println!("\n| removed | cases |\n|---|---|");
         for (name, count) in self.removal_lines() {
+            println!("| {name} | {count} |");
+        }
+        println!("\n| summarised in a list cut to the bound | cases |\n|---|---|");
+        for (name, count) in self.fit_lines() {
             println!("| {name} | {count} |");
         }
         println!("\n{} cases, {} differences{}", self.cases, self.differences, self.missing());
@@ -254,12 +297,19 @@ impl Report {
 mod tests {
     use super::*;
 
-    /// Without one of the kinds of removals a run does not pass.
-    #[test]
-    fn each_kind_of_removal_is_asked_for() {
+    /// A report of a run in which every stage was reached, with so many removals and cut lists of each kind.
+    fn report_with(removals: usize, fits: usize) -> Report {
         let mut report = Report::new(0);
         report.stages = Stage::KNOWN.map(|stage| (stage, [1; 2])).into();
         (report.second_parts, report.fixed_parts) = ([1; 2], [1; 2]);
+        (report.removals, report.fits) = ([removals; REMOVALS.len()], [fits; FITS.len()]);
+        report
+    }
+
+    /// Without one of the kinds of removals a run does not pass.
+    #[test]
+    fn each_kind_of_removal_is_asked_for() {
+        let mut report = report_with(0, 1);
         assert_eq!(report.unreached(), REMOVALS.map(|(name, _)| name));
         let all = Removal {
             path: Path::Anew,
@@ -276,5 +326,28 @@ mod tests {
         report.removed(all);
         assert!(report.passed());
         assert_eq!(report.removals, [1, 1, 1, 3, 3, 3, 3, 3]);
+    }
+
+    /// Without one of the kinds of cut lists a run does not pass.
+    #[test]
+    fn each_kind_of_cut_list_is_asked_for() {
+        let mut report = report_with(1, 0);
+        assert_eq!(report.unreached(), FITS.map(|(name, _)| name));
+        let all = Fit {
+            by_triples: true,
+            by_cells: true,
+            by_grid: true,
+            full_grid: true,
+            filled: true,
+            spare: true,
+            exact: true,
+            grown: true,
+        };
+        report.fitted(Fit { full_grid: false, ..all });
+        assert_eq!(report.unreached(), ["the same, and a line for each cell"]);
+        assert!(!report.passed());
+        report.fitted(all);
+        assert!(report.passed());
+        assert_eq!(report.fits, [2, 2, 2, 1, 2, 2, 2, 2]);
     }
 }

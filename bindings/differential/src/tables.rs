@@ -122,6 +122,20 @@ pub const STRONG: Summary = Summary {
     plain: plain::summarise_strong_with,
 };
 
+impl Summary {
+    /// What the proved engine does and what the unverified one does.
+    pub fn both(&self, mistake: Mistake, before: &Lent) -> [Outcome<Lent>; 2] {
+        let ours = run(before, |l| {
+            (self.proved)(&l.words, &l.table, &l.roster, &mut l.result, &mut l.map, &mut l.work, &mut l.number)
+        });
+        let theirs = run(before, |l| {
+            let lists: [&mut [u32]; 3] = [&mut l.result, &mut l.map, &mut l.work];
+            (self.plain)(mistake, &l.words, &l.table, &l.roster, lists, &mut l.number)
+        });
+        [ours, theirs]
+    }
+}
+
 /// The number of triples of the summary.
 fn summary_size(summary: &Summary, site: &generate::Site) -> usize {
     let mut count = 0;
@@ -156,13 +170,7 @@ pub fn summarise(random: &mut Random, report: &mut Report, mistake: Mistake, sum
 }
 
 pub fn compare_summarise(report: &mut Report, mistake: Mistake, summary: &Summary, before: Lent) {
-    let ours = run(&before, |l| {
-        (summary.proved)(&l.words, &l.table, &l.roster, &mut l.result, &mut l.map, &mut l.work, &mut l.number)
-    });
-    let theirs = run(&before, |l| {
-        let lists: [&mut [u32]; 3] = [&mut l.result, &mut l.map, &mut l.work];
-        (summary.plain)(mistake, &l.words, &l.table, &l.roster, lists, &mut l.number)
-    });
+    let [ours, theirs] = summary.both(mistake, &before);
     report.compare(summary.call, &before, ours, theirs, true);
 }
 

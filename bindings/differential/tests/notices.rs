@@ -2,21 +2,24 @@
 
 use weak_summary_differential::{run, Call, Mistake, Options};
 
+/// Few queries have a match that a search finds only after it has used up its tries, so that mistake takes more cases.
 fn options(mistake: Mistake, shown: usize) -> Options {
-    Options { seed: 7, cases: 25_000, long: false, mistake, shown }
+    let cases = if mistake == Mistake::UsedUpNone { 75_000 } else { 25_000 };
+    Options { seed: 7, cases, long: false, mistake, shown }
 }
 
 #[test]
-fn engines_agree_and_every_refusal_stage_and_removal_occurs() {
+fn engines_agree_and_every_refusal_stage_removal_and_cut_list_occurs() {
     let report = run(&Options { cases: 60_000, ..options(Mistake::None, 20) });
     assert_eq!(report.differences, 0);
     assert_eq!(report.unreached(), [""; 0]);
-    let refusals: [(Call, &[usize]); 16] = [
+    let refusals: [(Call, &[usize]); 17] = [
         (Call::OwnRoster, &[1, 3, 10]),
         (Call::Saturate, &[1, 2, 3, 4, 5, 10]),
         (Call::Cliques, &[1, 2, 3, 4, 10]),
         (Call::Summarise, &[1, 2, 3, 4, 5, 10]),
         (Call::SummariseStrong, &[1, 2, 3, 4, 5, 10]),
+        (Call::Slots, &[1, 2, 3, 4, 10]),
         (Call::Rework, &[]),
         (Call::ReworkStrong, &[]),
         (Call::LookUp, &[1]),
@@ -48,6 +51,17 @@ fn strong_summaries_notice_their_mistakes() {
     use Mistake::{ClassLinks, FirstSeen, FixedWords, NoneMatchesAll, NoneMatchesNothing};
     for mistake in [ClassLinks, FirstSeen, FixedWords, NoneMatchesAll, NoneMatchesNothing] {
         assert!(run(&options(mistake, 0)).differs(Call::SummariseStrong), "{}", mistake.name());
+    }
+}
+
+/// A number that is too low is refused with 5 too, and not only another one than the Rust crate's.
+#[test]
+fn cut_lists_notice_wrong_numbers() {
+    use Mistake::{MarkedAsOne, NoPlusOne, RepeatsCounted, TypesByClass, UnmarkedCounted};
+    for mistake in [MarkedAsOne, NoPlusOne, RepeatsCounted, TypesByClass, UnmarkedCounted] {
+        let report = run(&options(mistake, 0));
+        assert!(report.differs(Call::Slots), "{}", mistake.name());
+        assert_eq!(report.has(Call::Slots, 5), mistake != RepeatsCounted, "{}", mistake.name());
     }
 }
 

@@ -1,7 +1,7 @@
 //! The five course mistakes of the scope paper, one that the rules for domains and ranges invite, one that the word table
-//! invites, two that the strong summary invites, four that retired queries invite, two that a limit of the search invites, seven
-//! that places invite, seven that weights invite, and seventeen that removals invite, to show that a comparison with a wrong engine
-//! is noticed.
+//! invites, two that the strong summary invites, five that the slots of a summary invite, four that retired queries invite, two that
+//! a limit of the search invites, seven that places invite, seven that weights invite, and seventeen that removals invite, to show
+//! that a comparison with a wrong engine is noticed.
 
 use crate::{Words, FULL, MISSING};
 
@@ -27,6 +27,16 @@ pub enum Mistake {
     NoneMatchesNothing,
     /// Strongly, a side where one of two nodes has no clique is not looked at.
     NoneMatchesAll,
+    /// A property's slots are its marked subjects times its marked objects, without one more for the others at each side.
+    NoPlusOne,
+    /// Every data property has one slot, as if it had no marked end.
+    MarkedAsOne,
+    /// A property's slots go by its unmarked subjects and objects.
+    UnmarkedCounted,
+    /// All type triples with one class have one slot.
+    TypesByClass,
+    /// A triple that stands in the table again has a further slot.
+    RepeatsCounted,
     /// A query that is wrong and retired is refused with 12.
     RetiredFirst,
     /// A query with type as a property is retired too.
@@ -104,7 +114,7 @@ pub enum Mistake {
 }
 
 /// Each mistake and its name.
-const NAMED: [(Mistake, &str); 46] = [
+const NAMED: [(Mistake, &str); 51] = [
     (Mistake::OneRound, "one-round"),
     (Mistake::TypedOnlyStays, "typed-only-stays"),
     (Mistake::ClassLinks, "class-links"),
@@ -114,6 +124,11 @@ const NAMED: [(Mistake, &str); 46] = [
     (Mistake::FixedWords, "fixed-words"),
     (Mistake::NoneMatchesNothing, "none-matches-nothing"),
     (Mistake::NoneMatchesAll, "none-matches-all"),
+    (Mistake::NoPlusOne, "no-plus-one"),
+    (Mistake::MarkedAsOne, "marked-as-one"),
+    (Mistake::UnmarkedCounted, "unmarked-counted"),
+    (Mistake::TypesByClass, "types-by-class"),
+    (Mistake::RepeatsCounted, "repeats-counted"),
     (Mistake::RetiredFirst, "retired-first"),
     (Mistake::TypeRetired, "type-retired"),
     (Mistake::RetiredAnswered, "retired-answered"),

@@ -13,12 +13,14 @@ mod intake;
 mod query;
 mod refusal;
 mod site;
+mod slots;
 mod words;
 
 pub use intake::Intake;
 pub use query::{ask, Answer, End, Pattern, Query};
 pub use refusal::Refusal;
 pub use site::{read, write, Site};
+pub use slots::slots_bound;
 pub use words::Words;
 
 use refusal::accepted;
@@ -60,7 +62,7 @@ pub fn cliques(
 }
 
 /// Puts the summary and the map and gives the number of triples. The work list has 2 × N numbers. A result as long as the table is
-/// always long enough.
+/// always long enough, and so is one with three numbers for each slot of [`slots_bound`], which is mostly far shorter.
 pub fn summarise(
     words: Words,
     table: &[u32],
@@ -74,7 +76,7 @@ pub fn summarise(
 }
 
 /// As [`summarise`], but nodes are put together only if they have the same source clique and the same target clique, none
-/// counting as a value.
+/// counting as a value. [`slots_bound`] is no bound for it: it may need more slots, up to as many as the table has triples.
 pub fn summarise_strong(
     words: Words,
     table: &[u32],
