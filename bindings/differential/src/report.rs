@@ -103,7 +103,7 @@ const REMOVALS: [Counted<Removal>; 8] = [
 ];
 
 /// What is counted of accepted summaries in lists cut to the bound: what decides it for some property, and how much is needed of it.
-const FITS: [Counted<Fit>; 8] = [
+const FITS: [Counted<Fit>; 9] = [
     ("a property with fewer triples than cells", |fit| fit.by_triples),
     ("a property with fewer cells than triples", |fit| fit.by_cells),
     ("the same, with marked subjects and marked objects", |fit| fit.by_grid),
@@ -112,6 +112,7 @@ const FITS: [Counted<Fit>; 8] = [
     ("slots are left", |fit| fit.spare),
     ("data, and none with a marked end", |fit| fit.exact),
     ("a saturation with more triples than its table", |fit| fit.grown),
+    ("without its last triple the summary is longer", |fit| fit.longer_part),
 ];
 
 /// The numbers of the refusals; 11 is free.
@@ -342,12 +343,13 @@ mod tests {
             spare: true,
             exact: true,
             grown: true,
+            longer_part: true,
         };
         report.fitted(Fit { full_grid: false, ..all });
         assert_eq!(report.unreached(), ["the same, and a line for each cell"]);
         assert!(!report.passed());
         report.fitted(all);
         assert!(report.passed());
-        assert_eq!(report.fits, [2, 2, 2, 1, 2, 2, 2, 2]);
+        assert_eq!(report.fits, [2, 2, 2, 1, 2, 2, 2, 2, 2]);
     }
 }

@@ -29,6 +29,8 @@ pub struct Fit {
     pub exact: bool,
     /// The table is the saturation of one with fewer triples.
     pub grown: bool,
+    /// Without its last triple the table has a longer summary.
+    pub longer_part: bool,
 }
 
 /// The number of slots, and all that was lent, afterwards.
@@ -48,6 +50,7 @@ struct Case<'a> {
     words: plain::Words,
     bounds: Bounds,
     grown: bool,
+    longer_part: bool,
 }
 
 impl Case<'_> {
@@ -100,6 +103,7 @@ impl Case<'_> {
             spare: count < slots,
             exact: !lines.is_empty() && self.is_exact(),
             grown: self.grown,
+            longer_part: self.longer_part,
         }
     }
 }
@@ -122,6 +126,19 @@ fn lent(random: &mut Random, site: &Site, length: usize) -> Lent {
     }
 }
 
+/// Whether an accepted table without its last triple has a longer summary than this. A list that is cut for the whole table is enough
+/// for it.
+fn is_part_longer(report: &mut Report, words: plain::Words, whole: &Lent, slots: usize, count: usize) -> bool {
+    let last = whole.table.chunks_exact(3).last();
+    let table: Vec<u32> = whole.table.chunks_exact(3).filter(|&t| Some(t) != last).flatten().copied().collect();
+    let number = slots_bound(weak_summary::Words(*words.codes()), &table, &whole.roster);
+    let part = Lent { table, ..whole.clone() };
+    let [ours, _] = WEAK.both(Mistake::None, &part);
+    report.require(Call::Slots, number <= slots, "a part has a higher bound than the whole", &part);
+    report.require(Call::Slots, ours.status == plain::OK, "a list cut for the whole is refused for a part", &part);
+    ours.status == plain::OK && ours.lent.number > count
+}
+
 /// Compares the two numbers, and the summaries in a list of so many slots, now and then with a number or two more. Words that are not
 /// five are no case.
 pub fn compare(random: &mut Random, report: &mut Report, mistake: Mistake, site: &Site, grown: bool) {
@@ -138,7 +155,8 @@ pub fn compare(random: &mut Random, report: &mut Report, mistake: Mistake, site:
     report.compare(Call::Slots, &before, numbered(number, ours), numbered(bounds.slots(), theirs), true);
     report.require(Call::Slots, status != plain::SLOTS, "a list of the bound's slots is refused with 5", &before);
     if status == plain::OK {
-        let case = Case { site, words, bounds, grown };
+        let longer_part = is_part_longer(report, words, &before, bounds.slots(), summary.len() / 3);
+        let case = Case { site, words, bounds, grown, longer_part };
         case.check(report, &summary);
         report.fitted(case.fit(&summary));
     }

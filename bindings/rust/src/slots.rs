@@ -35,13 +35,15 @@ fn property_slots(words: Words, triples: &[Triple], roster: &[u8]) -> usize {
 /// in the table and B its marked objects. To these it adds the distinct schema and type triples. Where no data triple has a marked
 /// end, the summary has exactly one line for each data property.
 ///
-/// That so many slots are enough is proved (`SummaryBounded` in the theory, `SlotsSuffice` and `NeverFive` in the demands). The
-/// function itself is ordinary Rust and not proved: tests compare it with a second one, and cut lists to its number. If it gave too
-/// low a number, summarise would refuse with 5; a wrong summary cannot come of it.
+/// That so many slots are enough is proved (`SummaryBounded`, `PartBounded` in the theory, `NeverFive` and `SlotsSuffice` in the
+/// demands). The function itself is ordinary Rust and not proved: tests compare it with a second one, and cut lists to its number.
+/// If it gave too low a number, summarise would refuse with 5; a wrong summary cannot come of it.
 ///
 /// - The table must be the one that is summarised. For the summary of a saturation hand in the saturation: the number for the table
 ///   before it may be too low.
 /// - The roster must be the one that it is summarised with. One that marks more may need more slots.
+/// - A table without some of its triples has no higher number, though its summary may be longer: a list that is cut for a whole site
+///   serves every part of it.
 /// - It is not for [`summarise_strong`](crate::summarise_strong), which keeps more nodes apart: for 10 5 20, 11 5 21, 21 6 30 the
 ///   number is 2, but the strong summary has three lines, 10 5 20, 10 5 21 and 21 6 30.
 ///

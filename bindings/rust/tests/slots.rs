@@ -87,6 +87,16 @@ fn summary_of_the_six() {
     check(&SIX_SATURATED, &roster, 16, SIX_SUMMARY.len() / 3);
 }
 
+/// Without 11 5 12 the node 11 has a type only and is no longer with 10: the summary is longer, and the number does not grow.
+#[test]
+fn part_of_a_table() {
+    let table = [10, 0, 8, 11, 0, 8, 10, 5, 12, 11, 5, 12];
+    let roster = roster_of(RDFS, &table, 24);
+    check(&table, &roster, 3, 2);
+    check(&table[..9], &roster, 3, 3);
+    check(&table[..6], &roster, 2, 1);
+}
+
 /// Two objects of one property have different source cliques: strongly they are apart.
 #[test]
 fn strong_summary_may_need_more() {
