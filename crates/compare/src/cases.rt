@@ -18,13 +18,6 @@
 //   gives    summarises strongly into just these numbers, and into one less, which is too few
 // The first letter tells. A number has at most nine digits. What was expected and what came is printed for each case.
 use super::queries::identity;
-use super::script::behind;
-use super::script::byte_at;
-use super::script::line_end;
-use super::script::marks;
-use super::script::number;
-use super::script::numbers;
-use super::script::word_end;
 use comparison::calls;
 use comparison::calls::column;
 use comparison::calls::table_call;
@@ -41,6 +34,13 @@ use comparison_report::report::SUMMARISE;
 use comparison_report::report::TALLY;
 use comparison_report::report::check;
 use comparison_report::report::small;
+use comparison_report::script::behind;
+use comparison_report::script::byte_at;
+use comparison_report::script::line_end;
+use comparison_report::script::marks;
+use comparison_report::script::number;
+use comparison_report::script::numbers;
+use comparison_report::script::word_end;
 use lists::rdfs_words;
 use model::Vocabulary;
 use random_sites::random::at_most;

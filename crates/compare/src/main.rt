@@ -4,7 +4,6 @@
 mod cases;
 mod queries;
 mod rosters;
-mod script;
 mod sites;
 mod sizes;
 

@@ -219,16 +219,6 @@ pub fn small(call: usize, name: &[u8], expected: u32, got: u32) {
     print_expected(expected, got);
 }
 
-// The same for a call's triple.
-pub fn small_triple(call: usize, s: u32, p: u32, o: u32, expected: u32, got: u32) {
-    print(b"(small ");
-    print_call(call);
-    print_value(wide(s));
-    print_value(wide(p));
-    print_value(wide(o));
-    print_expected(expected, got);
-}
-
 // The same for a site size.
 pub fn sized(call: usize, n: usize, expected: u32, got: u32) {
     print(b"(small ");

@@ -2,8 +2,8 @@ use borrow.Author.Needs.{needs}
 use Prim.Native.Nat.{_-_}
 use lib.ListN.{length}
 use mathlib.Core.Path.{_≡_}
-use Rattle.compare.proofs.script.numbers.Statement.{statement}
-use Rattle.compare.proofs.script.numbers.Tie as tie
+use Rattle.comparison_report.proofs.script.numbers.Statement.{statement}
+use Rattle.comparison_report.proofs.script.numbers.Tie as tie
 
 abbrev Inv-loop : tie.InvT-loop
 Inv-loop text from list₀ i₀ count₀ list i count = (length list ≡ length list₀)

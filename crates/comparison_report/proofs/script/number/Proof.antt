@@ -1,8 +1,8 @@
 use borrow.Author.Needs.{needs}
 use Prim.Native.Nat.{_-_}
 use lib.ListN.{length}
-use Rattle.compare.proofs.script.number.Statement.{statement}
-use Rattle.compare.proofs.script.number.Tie as tie
+use Rattle.comparison_report.proofs.script.number.Statement.{statement}
+use Rattle.comparison_report.proofs.script.number.Tie as tie
 
 abbrev Inv-loop : tie.InvT-loop
 Inv-loop text from value₀ i₀ value i = Unit {0}

@@ -2,8 +2,8 @@ use borrow.Author.Needs.{needs}
 use Prim.Native.Nat.{_-_}
 use lib.ListN.{length}
 use mathlib.Core.Path.{_≡_}
-use Rattle.compare.proofs.script.marks.Statement.{statement}
-use Rattle.compare.proofs.script.marks.Tie as tie
+use Rattle.comparison_report.proofs.script.marks.Statement.{statement}
+use Rattle.comparison_report.proofs.script.marks.Tie as tie
 
 abbrev Inv-loop : tie.InvT-loop
 Inv-loop text from roster₀ i₀ k₀ roster i k = (length roster ≡ length roster₀)
