@@ -1,4 +1,5 @@
 // Ask: the checks, then the search.
+#![tactic(auto)]
 
 ghost use Rattle.std.specs.Prelude.{◌≡◌};
 ghost use Rattle.query.specs.Ask.{asked, ask_outcome};

@@ -1,6 +1,7 @@
 // Collects distinct triples into a lent list that may be shorter than what is offered.
 // Places 0..base are a frozen rising part, base..sorted a rising part of triples that are not in it, and sorted..filled an unsorted
 // tail. When the slots are full, the part behind the base is sorted and its repeats are removed.
+#![tactic(auto)]
 
 ghost use Rattle.std.specs.Prelude.{false, ◌≡◌, ◌+◌, ◌*◌, ◌/◌, ◌<◌, ◌≤◌, length};
 ghost use Rattle.builder.specs.Builder.{Built, known, Compacted, Offered, Finished};
@@ -9,7 +10,7 @@ use lists::{clear, contains, put};
 use model::Triple;
 use sorting::sort_distinct;
 
-#[derive(Drop)]
+#[derive(Clone, Copy)]
 pub struct Builder {
     pub base: usize,
     pub sorted: usize,

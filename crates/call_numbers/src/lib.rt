@@ -1,4 +1,5 @@
 // The outcome of a call, a part of a list and the reserved codes as numbers.
+#![tactic(auto)]
 
 ghost use Rattle.std.specs.Prelude.{◌≡◌, ◌≤◌, length};
 ghost use Rattle.model.specs.Codes.{codes};

@@ -1,4 +1,5 @@
 // The checks that several calls share: lengths (refusal 1), word tables (10) and codes (3).
+#![tactic(auto)]
 
 ghost use Rattle.std.specs.Prelude.{◌≡◌};
 ghost use Rattle.model.specs.Codes.{wrong_words};

@@ -1,4 +1,5 @@
 // Cliques: per code taken as a property, the smallest property of its source clique and of its target clique, or absent.
+#![tactic(auto)]
 
 ghost use Rattle.std.specs.Prelude.{◌≡◌, not, ◌||◌, eqb, length};
 ghost use Rattle.model.specs.Triples.{triples};

@@ -60,7 +60,7 @@ const WEAK: u8 = 119;
 const ZERO: u8 = 122;
 
 // The place in the text, and what the settings give: N, the length of the table, the words.
-#[derive(Drop)]
+#[derive(Clone, Copy)]
 struct Setting {
     at: usize,
     n: usize,

@@ -1,6 +1,8 @@
 // Compares the engine with the naive one in own roster, saturate, cliques, both summaries, look up and ask: every refusal and small
 // graph of the papers, which standard input has, rosters with one value, then many random sites. After every call both answers and a
 // digest of every lent list are compared. Prints the small cases, each difference, and the counts.
+#![tactic(auto)]
+
 mod cases;
 mod queries;
 mod rosters;

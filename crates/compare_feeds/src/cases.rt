@@ -43,7 +43,7 @@ const OPENING: u8 = 111;
 const REMOVAL: u8 = 114;
 
 // The place in the text, that of the roster, the words, and the intake with its calls so far.
-#[derive(Drop)]
+#[derive(Clone, Copy)]
 struct Setting {
     at: usize,
     roster: usize,
@@ -52,7 +52,7 @@ struct Setting {
 }
 
 // What a line expects of a call.
-#[derive(Drop)]
+#[derive(Clone, Copy)]
 struct Expected {
     call: usize,
     answer: u32,

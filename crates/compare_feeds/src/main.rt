@@ -1,6 +1,8 @@
 // Compares opening, feeding and removing with the plain intake: every refusal and small lists of calls, which standard input has, and many
 // lists of feeds, and of feeds and removals, to random sites. After every call the answer, the contents of every lent list and both counts
 // are folded into a digest, and the digests of both engines are compared. Prints the small cases, each difference, and the counts.
+#![tactic(auto)]
+
 mod cases;
 mod chains;
 mod feeds;

@@ -8,7 +8,7 @@ use random_sites::random::at_most;
 use random_sites::words::plain_words;
 
 // The lengths of the lists that a call is lent: the result, then the map and the work list, or sources and targets.
-#[derive(Drop)]
+#[derive(Clone, Copy)]
 pub struct Lengths {
     pub result: usize,
     pub first: usize,

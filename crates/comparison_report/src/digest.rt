@@ -4,7 +4,7 @@ use super::report;
 
 const HALF: u64 = 4294967296;
 
-#[derive(Drop)]
+#[derive(Clone, Copy)]
 pub struct Seen {
     pub refused: u32,
     pub count: usize,
@@ -13,7 +13,7 @@ pub struct Seen {
 }
 
 // Which engine runs, the naive one or the engine, and whether each list that is folded is printed.
-#[derive(Drop)]
+#[derive(Clone, Copy)]
 pub struct Run {
     pub plain: bool,
     pub show: bool,

@@ -10,7 +10,7 @@ const ZERO: u8 = 48;
 const NINE: u8 = 57;
 
 // What was read, and the place behind it.
-#[derive(Drop)]
+#[derive(Clone, Copy)]
 pub struct Got {
     pub value: u32,
     pub next: usize,

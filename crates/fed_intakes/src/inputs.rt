@@ -5,7 +5,7 @@ use random_sites::words::table_of;
 
 // The words of the opening, whether there is one, how many calls there are after it, and the lengths of triples, summary, weights and
 // map. The lists of an intake that is not opened are junk, its counts 1.
-#[derive(Drop)]
+#[derive(Clone, Copy)]
 pub struct Case {
     pub words: Vocabulary,
     pub opens: bool,
@@ -17,7 +17,7 @@ pub struct Case {
 }
 
 // The length of the work list, the triple, the words, whether the spoilt roster is lent, and whether the triple is to be removed.
-#[derive(Drop)]
+#[derive(Clone, Copy)]
 pub struct Call {
     pub work: usize,
     pub subject: u32,

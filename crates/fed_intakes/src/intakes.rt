@@ -15,7 +15,7 @@ use random_sites::words::plain_words;
 
 // What one call answers: a refusal's number, or 0 and a count, 1 for new and 2 for removed; the place, which is 0 for an opening; and the
 // record's two counts.
-#[derive(Drop)]
+#[derive(Clone, Copy)]
 struct Step {
     refused: u32,
     count: usize,
@@ -25,7 +25,7 @@ struct Step {
 }
 
 // Of a list of weights: the sum, and a number that has the last twelve as its digits; in a small case none is over 9.
-#[derive(Drop)]
+#[derive(Clone, Copy)]
 struct Weighed {
     sum: u64,
     digits: u64,
@@ -34,7 +34,7 @@ struct Weighed {
 // The last call's answer and place; the two sums of the digest of all calls so far; the last weights' sum and digits, and the last map's
 // digits; the answer of the opening; the record's two counts; how many calls had each answer, and the last one's column there: a refusal's
 // number, 0 or 15 for a feed, and 16 more for a removal. A record inside it would count for two where the checker's search has a limit.
-#[derive(Drop)]
+#[derive(Clone, Copy)]
 pub struct State {
     pub refused: u32,
     pub count: usize,

@@ -1,4 +1,5 @@
 // The intake: opening, feeding and removing over lent lists and a lent record of two counts.
+#![tactic(auto)]
 
 ghost use Rattle.model.specs.Triples.{triple};
 ghost use Rattle.model.specs.Outcomes.{done, replied};

@@ -1,4 +1,5 @@
 // Taking in a triple that is not held.
+#![tactic(auto)]
 
 ghost use Rattle.std.specs.Prelude.{◌/◌, ◌<◌, ◌≤◌, length};
 ghost use Rattle.model.specs.Outcomes.{replied};

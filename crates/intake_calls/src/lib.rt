@@ -1,4 +1,5 @@
 // What feeding and removing share: the checks, and the answer with the counts after it.
+#![tactic(auto)]
 
 ghost use Rattle.std.specs.Prelude.{◌≡◌};
 ghost use Rattle.intake_calls.specs.Calls.{with_counts, CallVerdict};
@@ -10,7 +11,7 @@ use roster_checks::{covers_triple, roster_wrong};
 use table_checks::Verdict;
 
 // What a call leaves: the answer and the record.
-#[derive(Drop)]
+#[derive(Clone, Copy)]
 pub struct CalledCounts {
     pub answer: Reply,
     pub counts: Counts,

@@ -1,4 +1,5 @@
 // Taking out a triple that is held.
+#![tactic(auto)]
 
 ghost use Rattle.std.specs.Prelude.{◌*◌, ◌/◌, ◌<◌, ◌≤◌, length};
 ghost use Rattle.model.specs.Outcomes.{replied};

@@ -1,4 +1,5 @@
 // Taking a triple out of the triples of a list, and one off the weight of a summary's line.
+#![tactic(auto)]
 
 ghost use Rattle.std.specs.Prelude.{◌*◌, ◌<◌, ◌≤◌, length};
 ghost use Rattle.intake_deletion.specs.Deletion.{Deleted, NumberDeleted, Lightened};

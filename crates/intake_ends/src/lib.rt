@@ -1,5 +1,6 @@
 // Whether the other triples of a list keep the ends of one that leaves. A no costs time and nothing else, so the contracts of the searches
 // say what a yes means.
+#![tactic(auto)]
 
 ghost use Rattle.std.specs.Prelude.{true, ◌≡◌, ◌+◌, ◌*◌, ◌<◌, ◌≤◌, length};
 ghost use Rattle.model.specs.Cliques.{side_of};

@@ -1,4 +1,5 @@
 // A triple searched and put between the triples of a list, its image looked for, and triples with wrong codes or roles.
+#![tactic(auto)]
 
 ghost use Rattle.std.specs.Prelude.{◌≡◌, ◌+◌, ◌*◌, ◌<◌, ◌≤◌, length};
 ghost use Rattle.model.specs.Lists.{any};
@@ -38,7 +39,7 @@ pub fn stands_at_lem(list: &[u32], count: usize, i: usize, t: Triple) -> bool
 }
 
 // Where the image of a triple stands in the summary; unknown where an end is no node or the image is not there.
-#[derive(Drop)]
+#[derive(Clone, Copy)]
 pub enum ImageAt {
     Unknown,
     At(usize),

@@ -1,4 +1,5 @@
 // Opening an intake, with its two counts by value.
+#![tactic(auto)]
 
 ghost use Rattle.std.specs.Prelude.{◌≡◌};
 ghost use Rattle.model.specs.Outcomes.{done};
@@ -59,14 +60,14 @@ fn open_lists(
 }
 
 // What an intake's record holds: how many triples are held, and how many their summary has.
-#[derive(Drop)]
+#[derive(Clone, Copy)]
 pub struct Counts {
     pub held: usize,
     pub summarised: usize,
 }
 
 // What opening leaves: the answer and the record.
-#[derive(Drop)]
+#[derive(Clone, Copy)]
 pub struct OpenedCounts {
     pub answer: Done,
     pub counts: Counts,

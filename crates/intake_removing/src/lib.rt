@@ -1,4 +1,5 @@
 // Removing a triple from an intake, with its two counts by value.
+#![tactic(auto)]
 
 ghost use Rattle.model.specs.Triples.{triple};
 ghost use Rattle.model.specs.Outcomes.{replied};

@@ -1,4 +1,5 @@
 // A feed that no check refuses: the triple's place, whether it is held, and taking it in.
+#![tactic(auto)]
 
 ghost use Rattle.model.specs.Outcomes.{replied};
 ghost use Rattle.intake_opening.specs.Opening.{at_entry, at_exit};

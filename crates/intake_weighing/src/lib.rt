@@ -1,4 +1,5 @@
 // The weights of a summary, how many triples have each of its triples as their image; and summary, weights and map made anew.
+#![tactic(auto)]
 
 ghost use Rattle.std.specs.Prelude.{◌≡◌, ◌+◌, ◌*◌, ◌%◌, ◌^◌, ◌<◌, ◌≤◌, length, slice_index, slice_set};
 ghost use Rattle.model.specs.Lists.{zeros, padded};

@@ -1,4 +1,5 @@
 // Look up: whether a triple is in a list, which may be in any order, and how many of its triples come before it.
+#![tactic(auto)]
 
 ghost use Rattle.std.specs.Prelude.{◌≡◌};
 ghost use Rattle.model.specs.Triples.{triples};
@@ -11,7 +12,7 @@ use lists::{before, same, triple_at};
 use model::{Found, Refusal, Triple};
 
 // Whether a triple was seen, and how many that come before it.
-#[derive(Drop)]
+#[derive(Clone, Copy)]
 pub struct Seen {
     pub found: bool,
     pub place: usize,

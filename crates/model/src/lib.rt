@@ -1,5 +1,6 @@
 // The types that every crate shares, and the constant rule table.
 // What they mean is defined in specs/.
+#![tactic(auto)]
 
 ghost use Rattle.std.specs.Prelude.{◌≡◌};
 ghost use Rattle.model.specs.Outcomes.{refusal_number};
@@ -7,7 +8,7 @@ ghost use Rattle.model.specs.Rules.{rules};
 
 // The reserved codes of a site, one for each of type, subclass, subproperty, domain and range: 02's "word table".
 // `instance` is the code of type, a word of the language.
-#[derive(Drop)]
+#[derive(Clone, Copy)]
 pub struct Vocabulary {
     pub instance: u32,
     pub subclass: u32,
@@ -17,7 +18,7 @@ pub struct Vocabulary {
 }
 
 // Subject, property, object.
-#[derive(Drop)]
+#[derive(Clone, Copy)]
 pub struct Triple {
     pub subject: u32,
     pub property: u32,
@@ -27,7 +28,7 @@ pub struct Triple {
 // One inference rule: the kind of its first premise and of its second (5: any), the two places of the premises that hold one
 // code, and the places that give the conclusion's subject, property and object.
 // Places: 0, 1, 2 are the first premise's subject, property, object; 3, 4, 5 the second's; 6 stands for the code of type.
-#[derive(Drop)]
+#[derive(Clone, Copy)]
 pub struct Rule {
     pub first: u32,
     pub second: u32,
@@ -153,7 +154,7 @@ pub fn rule_table() -> [Rule; RULE_COUNT]
 }
 
 // The refusals; `refusal_number` in specs/Outcomes.antt gives the number of each.
-#[derive(Drop)]
+#[derive(Clone, Copy)]
 pub enum Refusal {
     Length,
     Roster,
@@ -188,20 +189,20 @@ pub fn refusal_number(refusal: Refusal) -> u32
 }
 
 // The answers of the calls; specs/Outcomes.antt gives the outcome that each case stands for.
-#[derive(Drop)]
+#[derive(Clone, Copy)]
 pub enum Done {
     Accepted,
     Refused(Refusal),
 }
 
-#[derive(Drop)]
+#[derive(Clone, Copy)]
 pub enum Counted {
     Count(usize),
     Refused(Refusal),
 }
 
 // Look up: whether the triple is in the list, and how many triples of it come before it.
-#[derive(Drop)]
+#[derive(Clone, Copy)]
 pub enum Found {
     Yes(usize),
     No(usize),
@@ -209,7 +210,7 @@ pub enum Found {
 }
 
 // Feeding and removing: whether the triple was new or has left, and how many of the triples held before the call come before it.
-#[derive(Drop)]
+#[derive(Clone, Copy)]
 pub enum Reply {
     New(usize),
     NotNew(usize),

@@ -1,4 +1,6 @@
 // Look up and ask.
+#![tactic(auto)]
+
 use naive_checks::{codes_refusal, table_wrong};
 use naive_lists::{
     Answer, Words, accept, accept_at, entry, holds, number_at, place, refuse, triple_at, triple_of,

@@ -1,4 +1,6 @@
 // The checks before a call, each over all its input; the own roster.
+#![tactic(auto)]
+
 mod rosters;
 
 use naive_lists::{Triple, Words, is_word, triple_at};

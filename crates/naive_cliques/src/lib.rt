@@ -1,4 +1,6 @@
 // Source and target cliques.
+#![tactic(auto)]
+
 use naive_checks::{mark, table_refusal};
 use naive_lists::{ABSENT, Triple, Words, entry, fill, is_word, set_entry, triple_at};
 

@@ -1,5 +1,7 @@
 // The plain intake. After an accepted opening and every call its lists are H, the set of triples that were new and not removed since, in
 // rising order, its summary, the weights of the summary's triples, and its map.
+#![tactic(auto)]
+
 use naive_checks::{covered, mark, roster_wrong, size_wrong, triple_wrong, words_wrong};
 use naive_cliques::{end_of, is_data};
 use naive_lists::{
@@ -52,7 +54,7 @@ pub fn open(
 
 // The answer to a call, a refusal's number or 0, whether the triple was new or was removed, how many triples of H, as it was before, come
 // before it, and the sizes of H and of its summary afterwards.
-#[derive(Drop)]
+#[derive(Clone, Copy)]
 pub struct Called {
     pub refused: u32,
     pub new: bool,

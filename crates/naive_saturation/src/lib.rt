@@ -1,4 +1,6 @@
 // Saturation: the ten rules written out, over all pairs of triples, until nothing is new.
+#![tactic(auto)]
+
 use naive_checks::table_refusal;
 use naive_lists::{Answer, Triple, Words, accept, add, fill, refuse, sort, triple_at, triple_of};
 

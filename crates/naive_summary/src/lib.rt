@@ -1,4 +1,6 @@
 // The weak and the strong summary, through cliques. Both clique lists stand in one list, the source cliques first.
+#![tactic(auto)]
+
 use naive_checks::{mark, table_refusal};
 use naive_cliques::{end_of, is_data, lower, side};
 use naive_lists::{
@@ -29,7 +31,7 @@ fn clique_of(words: Words, table: &[u32], cliques: &[u32], sources: bool, node: 
 }
 
 // The source and the target clique of a data node.
-#[derive(Drop)]
+#[derive(Clone, Copy)]
 struct Sides {
     source: u32,
     target: u32,

@@ -1,5 +1,6 @@
 // The clique of each data node at a side, as one number: the smallest property of the clique, or the code of type where it has none.
 // The groups of the properties leave a property of each node in the node's entry; its root is the smallest of the clique.
+#![tactic(auto)]
 
 ghost use Rattle.std.specs.Prelude.{Bool, List, ◌≡◌, ℕ, ◌+◌, ◌<◌, length};
 ghost use Rattle.model.specs.Codes.{absent};

@@ -1,6 +1,7 @@
 // Nodes in the map and the work list: each a class of its own, linked at each side of the properties that it has.
 // While a weak map is made, the map's entries of the nodes are a union-find. The work list has two entries for each property, a node
 // seen as its subject and a node seen as its object, and one for each data node, which says that it has a data triple.
+#![tactic(auto)]
 
 ghost use Rattle.std.specs.Prelude.{◌≡◌, ◌<◌, ◌≤◌, length, set};
 ghost use Rattle.model.specs.Cliques.{side_of};

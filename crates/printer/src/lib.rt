@@ -1,4 +1,5 @@
 // The site printer: what is printed of a text.
+#![tactic(auto)]
 
 ghost use Rattle.std.specs.Prelude.{◌≡◌, ◌%◌, ◌*◌, ◌≤◌, length};
 ghost use Rattle.model.specs.Triples.{triples};

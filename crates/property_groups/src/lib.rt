@@ -1,6 +1,7 @@
 // The properties of a side in groups, by the nodes that have them: a union-find in the clique list.
 // While the triples are gone through, the entries of the marked codes are a union-find over the properties, and the entry of an
 // unmarked code is the first property seen at that node.
+#![tactic(auto)]
 
 ghost use Rattle.std.specs.Prelude.{◌≡◌, ◌+◌, ◌/◌, ◌<◌, length};
 ghost use Rattle.model.specs.Triples.{triples};

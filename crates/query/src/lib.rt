@@ -1,4 +1,5 @@
 // Queries: their types, and the refusal of a retired one. What they mean is defined in specs/.
+#![tactic(auto)]
 
 ghost use Rattle.std.specs.Prelude.{◌≡◌, eqb};
 ghost use Rattle.model.specs.Outcomes.{refusal_number};
@@ -7,13 +8,13 @@ ghost use Rattle.query.specs.Ask.{blank};
 use model::{Refusal, refusal_number};
 
 // An end of a pattern: a variable 0 to 7, or a code.
-#[derive(Drop)]
+#[derive(Clone, Copy)]
 pub enum End {
     Var(u32),
     Code(u32),
 }
 
-#[derive(Drop)]
+#[derive(Clone, Copy)]
 pub struct Pattern {
     pub subject: End,
     pub property: u32,
@@ -21,14 +22,14 @@ pub struct Pattern {
 }
 
 // One to eight patterns; those past the count are not looked at.
-#[derive(Drop)]
+#[derive(Clone, Copy)]
 pub struct Query {
     pub patterns: [Pattern; 8],
     pub count: u32,
 }
 
 // The answer to a query; `asked` in specs/Ask.antt gives the outcome of each case.
-#[derive(Drop)]
+#[derive(Clone, Copy)]
 pub enum Asked {
     Maybe,
     None,
@@ -36,7 +37,7 @@ pub enum Asked {
 }
 
 // Whether a pattern's end fits a node, and the variables' nodes afterwards.
-#[derive(Drop)]
+#[derive(Clone, Copy)]
 pub struct Fit {
     pub bindings: [u32; 8],
     pub fits: bool,

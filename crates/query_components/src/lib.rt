@@ -1,4 +1,5 @@
 // The parts of a query that share no variable without a node. What is promised of them is in specs/Parts.
+#![tactic(auto)]
 
 ghost use Rattle.std.specs.Prelude.{◌≡◌, true, ℕ, ◌<◌, ◌≤◌, get_or};
 ghost use Rattle.model.specs.Codes.{absent};

@@ -1,4 +1,5 @@
 // Domains: the nodes that each variable of a query may still have, so that no choice is lost. What they promise is in specs/Domains.
+#![tactic(auto)]
 
 ghost use Rattle.std.specs.Prelude.{◌≡◌, false, ◌+◌, ◌*◌, ◌/◌, ◌<◌, ◌≤◌, length};
 ghost use Rattle.lists.specs.Flat.{at};

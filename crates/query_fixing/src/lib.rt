@@ -1,4 +1,5 @@
 // The variable to fix while a cycle is left. Which variable is a matter of time only; what is promised is in specs/Fixing.
+#![tactic(auto)]
 
 ghost use Rattle.std.specs.Prelude.{◌≤◌};
 ghost use Rattle.query_fixing.specs.Fixing.{FreeVariable};

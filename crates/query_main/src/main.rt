@@ -1,4 +1,5 @@
 // Asks the summary and map of the papers' example its two queries, shows each refusal of ask, and asks a large table.
+#![tactic(auto)]
 
 use libc::STDOUT_FILENO;
 use lists::Code;

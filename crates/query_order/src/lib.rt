@@ -1,4 +1,5 @@
 // The order in which the patterns of a query are searched. Which order is a matter of time only; what is promised is in specs/Order.
+#![tactic(auto)]
 
 ghost use Rattle.std.specs.Prelude.{◌≡◌, ◌<◌, ◌≤◌};
 ghost use Rattle.query_order.specs.Order.{Copied, exchanged, Arranged};

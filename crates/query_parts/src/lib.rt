@@ -1,4 +1,5 @@
 // The checks of a query, and an end against a node.
+#![tactic(auto)]
 
 ghost use Rattle.std.specs.Prelude.{◌≡◌, false, ◌≤◌, length};
 ghost use Rattle.query.specs.Ask.{fit_end, wrong_pattern_end, wrong_pattern, wrong_query, retired};

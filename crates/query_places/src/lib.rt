@@ -1,4 +1,5 @@
 // The first place of a table that may fit a pattern. What is promised of it is in specs/Places.
+#![tactic(auto)]
 
 ghost use Rattle.std.specs.Prelude.{◌≡◌, false, ◌+◌, ◌*◌, ◌<◌, ◌≤◌, length};
 ghost use Rattle.model.specs.Lists.{First};
@@ -11,14 +12,14 @@ use model::Triple;
 use query::{End, Pattern};
 
 // The node that an end must have, or any.
-#[derive(Drop)]
+#[derive(Clone, Copy)]
 pub enum Wanted {
     Any,
     Node(u32),
 }
 
 // A place of a table, and the steps that finding it counts for: a scan 4 more than the places it passes over, a bisection 8.
-#[derive(Drop)]
+#[derive(Clone, Copy)]
 pub struct Reached {
     pub place: usize,
     pub cost: usize,

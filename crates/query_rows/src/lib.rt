@@ -1,4 +1,5 @@
 // Rows of bits: for each variable of a query the nodes that it may still have. What they are is defined in specs/Rows.
+#![tactic(auto)]
 
 ghost use Rattle.std.specs.Prelude.{◌≡◌, ◌+◌, ◌*◌, ◌%◌, ◌<◌, ◌≤◌, length};
 ghost use Rattle.model.specs.Lists.{First};

@@ -1,4 +1,5 @@
 // The search for a choice of nodes: the patterns of a query tried with the triples of a table, within domains and a limit of steps.
+#![tactic(auto)]
 
 ghost use Rattle.std.specs.Prelude.{◌≡◌, false, ◌+◌, ◌*◌, ◌<◌, ◌≤◌, length};
 ghost use Rattle.model.specs.Triples.{triples};

@@ -1,5 +1,6 @@
 // The thorough search: parts of a query that share no variable, each in a good order, within domains, and one variable after the other
 // fixed while a cycle is left. The quick run before it.
+#![tactic(auto)]
 
 ghost use Rattle.std.specs.Prelude.{◌≡◌, false, ◌+◌, ◌<◌, ◌≤◌, length, get_or};
 ghost use Rattle.model.specs.Codes.{absent};

@@ -1,4 +1,5 @@
 // The own roster of a table.
+#![tactic(auto)]
 
 ghost use Rattle.std.specs.Prelude.{◌≡◌, ◌<◌, length};
 ghost use Rattle.model.specs.Lists.{zeros};

@@ -1,4 +1,5 @@
 // The checks 2 and 4 of a roster, and the triples that link at a side.
+#![tactic(auto)]
 
 ghost use Rattle.std.specs.Prelude.{◌≡◌, false, not, ◌&&◌, ◌<◌, length, get_or};
 ghost use Rattle.model.specs.Codes.{wrong_words};

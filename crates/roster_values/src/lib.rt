@@ -1,4 +1,5 @@
 // Whether a value of a roster is over 3, eight bytes at a time.
+#![tactic(auto)]
 
 ghost use Rattle.std.specs.Prelude.{◌≡◌, ◌+◌, ◌-◌, ◌<◌, ◌≤◌, length};
 ghost use Rattle.model.specs.Roster.{mark};

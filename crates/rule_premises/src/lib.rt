@@ -1,4 +1,5 @@
 // The rules of the table, and what one rule gives from two premises: which fit, which drives, and where its partners stand.
+#![tactic(auto)]
 
 ghost use Rattle.std.specs.Prelude.{◌&&◌, ◌||◌, ◌≡◌, ◌<◌, eqb, get_or};
 ghost use Rattle.model.specs.Codes.{kind};

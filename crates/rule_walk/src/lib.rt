@@ -1,4 +1,5 @@
 // The rules walked over a list: conclusions are drawn only from the triples as they stood when the walk began.
+#![tactic(auto)]
 
 ghost use mathlib.Core.List.{Memᴰ as Mem};
 ghost use Rattle.std.specs.Prelude.{◌*◌, ◌≤◌, length};

@@ -1,4 +1,5 @@
 // Saturation over the constant rule table: the schema triples closed, the others added, then one pass with each of the other rules.
+#![tactic(auto)]
 
 ghost use mathlib.Core.List.{Memᴰ as Mem};
 ghost use Rattle.std.specs.Prelude.{◌≡◌};

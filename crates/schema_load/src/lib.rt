@@ -1,4 +1,5 @@
 // The schema triples of a table, or its others, put behind the triples of a list.
+#![tactic(auto)]
 
 ghost use Rattle.std.specs.Prelude.{◌≡◌, ◌*◌, ◌≤◌, length};
 ghost use Rattle.model.specs.Triples.{triples};

@@ -1,4 +1,5 @@
 // Bytes and numerals put into a lent list. A byte past the list's end is counted and not stored.
+#![tactic(auto)]
 
 ghost use Rattle.std.specs.Prelude.{◌≡◌, ◌++◌, length, set};
 ghost use Rattle.site_form.specs.Text.{numeral};

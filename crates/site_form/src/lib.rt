@@ -1,4 +1,6 @@
 // The site form: what the reader answers. What it means is defined in specs/.
+#![tactic(auto)]
+
 use model::{Refusal, Vocabulary};
 use query::Query;
 
@@ -16,7 +18,7 @@ pub const PRINTER_SLOTS: usize = 2048;
 
 // A site that was read: its size, its reserved codes, how many triples and queries the text has, and the queries.
 // The triples go to a lent list.
-#[derive(Drop)]
+#[derive(Clone, Copy)]
 pub struct Site {
     pub size: u32,
     pub words: Vocabulary,
@@ -26,14 +28,14 @@ pub struct Site {
 }
 
 // Whether the text was read.
-#[derive(Drop)]
+#[derive(Clone, Copy)]
 pub enum Form {
     Read,
     Refused(Refusal),
 }
 
 // The reader's answer. An enum can hold no array, so the site stands beside it.
-#[derive(Drop)]
+#[derive(Clone, Copy)]
 pub struct ReadAnswer {
     pub form: Form,
     pub site: Site,

@@ -1,5 +1,6 @@
 // Readers of the parts of the site form. Each takes the text and a place in it and answers an enum: the form and the
 // place after it, or Bad. site_tokens/specs/Steps gives the step of the definitions that each answer stands for.
+#![tactic(auto)]
 
 ghost use Rattle.std.specs.Prelude.{◌≡◌, ℕ};
 ghost use Rattle.query.specs.declared.End.{End};

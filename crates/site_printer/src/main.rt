@@ -1,5 +1,6 @@
 // The site printer: reads a text of the site form from standard input and prints the weak summary of its saturation, the map and
 // the answers to its queries.
+#![tactic(auto)]
 
 use libc::{STDIN_FILENO, STDOUT_FILENO};
 use printer::print_site;

@@ -1,4 +1,5 @@
 // The reader of the site form: queries, lines that follow one another, and the call `read`.
+#![tactic(auto)]
 
 ghost use Rattle.std.specs.Prelude.{◌≡◌, ◌<◌, []};
 ghost use Rattle.site_form.specs.Reading.{bad, ask_reader, query_of};
@@ -15,35 +16,35 @@ use site_tokens::{
 };
 
 // The reserved codes of the text, and the place after their line.
-#[derive(Drop)]
+#[derive(Clone, Copy)]
 pub struct WordsRead {
     pub words: Vocabulary,
     pub next: usize,
 }
 
 // How many triples were read, and the place after them.
-#[derive(Drop)]
+#[derive(Clone, Copy)]
 pub struct LinesRead {
     pub count: usize,
     pub next: usize,
 }
 
 // The patterns that were read, and the place after them.
-#[derive(Drop)]
+#[derive(Clone, Copy)]
 pub struct PatternsRead {
     pub query: Query,
     pub next: usize,
 }
 
 // An enum can hold no array, so the query stands beside the form.
-#[derive(Drop)]
+#[derive(Clone, Copy)]
 pub struct AskRead {
     pub form: WordForm,
     pub query: Query,
 }
 
 // How many queries were read, the place after them, and the queries.
-#[derive(Drop)]
+#[derive(Clone, Copy)]
 pub struct AsksRead {
     pub count: usize,
     pub next: usize,

@@ -1,4 +1,5 @@
 // The lines that the printer puts out: refusals, the summary's count, pairs of code and representative, answers.
+#![tactic(auto)]
 
 ghost use Rattle.std.specs.Prelude.{◌<◌, ◌≤◌, length};
 ghost use Rattle.model.specs.Lists.{collect};

@@ -1,5 +1,6 @@
 // Runs the texts of standard input through the reader and the printer, and writes what came out of each.
 // A text ends before a byte `%`, which stands in no text; the line end after it is passed over.
+#![tactic(auto)]
 
 ghost use Rattle.std.specs.Prelude.{◌<◌, ◌≤◌, length};
 

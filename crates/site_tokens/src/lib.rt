@@ -1,5 +1,6 @@
 // The tokens of a text in the site form: fixed words, numbers, the ends of a line and of the text; and the enums that the readers of all
 // parts answer.
+#![tactic(auto)]
 
 ghost use Rattle.std.specs.Prelude.{◌≡◌, drop};
 ghost use Rattle.site_form.specs.Reading.{digit, more_of, number, word, text_end, line_end};
@@ -8,37 +9,37 @@ ghost use Rattle.site_tokens.specs.Steps.{number_step, word_step, number_after};
 use model::{Triple, Vocabulary};
 use query::{End, Pattern};
 
-#[derive(Drop)]
+#[derive(Clone, Copy)]
 pub enum NumberForm {
     Got { value: u32, next: usize },
     Bad,
 }
 
-#[derive(Drop)]
+#[derive(Clone, Copy)]
 pub enum WordForm {
     Got { next: usize },
     Bad,
 }
 
-#[derive(Drop)]
+#[derive(Clone, Copy)]
 pub enum WordsForm {
     Got { words: Vocabulary, next: usize },
     Bad,
 }
 
-#[derive(Drop)]
+#[derive(Clone, Copy)]
 pub enum TripleForm {
     Got { triple: Triple, next: usize },
     Bad,
 }
 
-#[derive(Drop)]
+#[derive(Clone, Copy)]
 pub enum EndForm {
     Got { end: End, next: usize },
     Bad,
 }
 
-#[derive(Drop)]
+#[derive(Clone, Copy)]
 pub enum PatternForm {
     Got { pattern: Pattern, next: usize },
     Bad,

@@ -1,4 +1,5 @@
 // The writer of the site form: lines put into a lent list of bytes, and the call `write`.
+#![tactic(auto)]
 
 ghost use Rattle.std.specs.Prelude.{◌≡◌, ◌≤◌, length};
 ghost use Rattle.model.specs.Codes.{rdfs};

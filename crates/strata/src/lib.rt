@@ -1,4 +1,5 @@
 // The schema triples of a table closed by rounds, then one pass with each group of the other rules.
+#![tactic(auto)]
 
 ghost use Rattle.std.specs.Prelude.{true, false, ◌*◌, ◌≤◌, length};
 ghost use mathlib.Core.List.{Memᴰ as Mem};
@@ -15,7 +16,7 @@ use schema_load::load;
 use sorting::sort_distinct;
 
 // The rules of one pass: those at the table's places from `low` to before `high`.
-#[derive(Drop)]
+#[derive(Clone, Copy)]
 pub struct Stratum {
     pub low: usize,
     pub high: usize,

@@ -2,6 +2,7 @@
 // The data nodes with one source clique are threaded through the map in rising order. Each thread is then walked: the first node with a
 // target clique leaves its stamp there and represents those after it. The work list holds the nodes' cliques, the threads' first nodes and the
 // stamps.
+#![tactic(auto)]
 
 ghost use Rattle.std.specs.Prelude.{◌≡◌, ◌++◌, ◌+◌, ◌*◌, ◌<◌, length};
 ghost use Rattle.model.specs.Lists.{zeros};

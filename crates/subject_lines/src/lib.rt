@@ -1,5 +1,6 @@
 // All lines of one subject: a part of the summary where the map gives the code itself, else of the table. Nothing is copied, and nothing is
 // refused: lists of every length and order are taken, and no code is checked.
+#![tactic(auto)]
 
 ghost use Rattle.std.specs.Prelude.{◌≡◌, ◌*◌, ◌≤◌, length};
 ghost use Rattle.model.specs.Lists.{First};
@@ -9,7 +10,7 @@ ghost use Rattle.subject_lines.specs.Lines.{has_subject, other_subject, is_own, 
 use lists::wide;
 
 // A part of the summary if `own`, else of the table: from index `start` up to before index `end`.
-#[derive(Drop)]
+#[derive(Clone, Copy)]
 pub struct Part {
     pub own: bool,
     pub start: usize,

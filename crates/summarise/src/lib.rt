@@ -1,4 +1,5 @@
 // Summarise: the map of representatives, then the images of the triples, each once, in rising order.
+#![tactic(auto)]
 
 ghost use Rattle.std.specs.Prelude.{◌≡◌, ◌*◌, ◌≤◌, not, ◌||◌, eqb, length};
 ghost use Rattle.model.specs.Outcomes.{wrong_work};

@@ -1,4 +1,5 @@
 // Summarise strongly: the strong map of representatives, then the images of the triples as in summarise.
+#![tactic(auto)]
 
 ghost use Rattle.std.specs.Prelude.{◌*◌, ◌/◌, ◌≡◌, length};
 ghost use Rattle.model.specs.Classes.{strong_map_of};

@@ -1,4 +1,5 @@
 // The checks 1, 10, 2, 3, 4 that the calls with a table and a roster share.
+#![tactic(auto)]
 
 ghost use Rattle.std.specs.Prelude.{◌≡◌};
 ghost use Rattle.model.specs.Outcomes.{checked};
@@ -10,7 +11,7 @@ use model::{Refusal, Vocabulary};
 use roster_checks::{roster_wrong, uncovered};
 
 // No check fails, or the refusal of the first that does.
-#[derive(Drop)]
+#[derive(Clone, Copy)]
 pub enum Verdict {
     Passed,
     Refused(Refusal),

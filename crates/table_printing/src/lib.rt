@@ -1,4 +1,5 @@
 // What is printed of a saturated table: its summary, the map and the answers, or a refusal.
+#![tactic(auto)]
 
 ghost use Rattle.std.specs.Prelude.{◌≡◌, ◌*◌, ◌≤◌, length};
 ghost use Rattle.model.specs.Lists.{any};

@@ -1,1 +1,2 @@
 // Theorems about the definitions of `model`; no code.
+#![tactic(auto)]

@@ -1,4 +1,5 @@
 // The nodes of a thread settled by their target cliques: the first with a clique leaves its stamp there.
+#![tactic(auto)]
 
 ghost use Rattle.std.specs.Prelude.{◌≡◌, List, ℕ, ◌+◌, ◌<◌, length};
 ghost use Rattle.model.specs.Codes.{absent};

@@ -1,4 +1,5 @@
 // The weak map of a table: each node's representative.
+#![tactic(auto)]
 
 ghost use Rattle.std.specs.Prelude.{◌≡◌, List, ◌*◌, ◌<◌, ◌≤◌, length};
 ghost use Rattle.model.specs.declared.Triple.{Triple};

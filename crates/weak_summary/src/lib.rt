@@ -1,6 +1,7 @@
 // The calls of the papers for other languages: numbers and slices only. Each call answers 0 or the number of its refusal;
 // what else it gives is stored through the numbers that are lent. A refusal leaves these alone, but for the place, which is 0 then, and
 // for 8 and 5 of reading.
+#![tactic(auto)]
 
 ghost use Rattle.std.specs.Prelude.{◌≡◌};
 ghost use Rattle.model.specs.Triples.{triple};
