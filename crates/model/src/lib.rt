@@ -170,6 +170,7 @@ pub enum Refusal {
 }
 
 // A refusal's number.
+#[tactic(auto, unfolding(crate::specs::Outcomes::refusal_number))]
 pub fn refusal_number(refusal: Refusal) -> u32
     ensures { result ≡ refusal_number refusal }
 {
