@@ -161,6 +161,26 @@ def turn_body(fn, place, var, text, report):
     return PATH.sub(sub, text)
 
 
+def bound(text, names):
+    """Where a name of names is bound in text itself: (name, from, to)."""
+    out = []
+    for m in re.finditer(r"λ([^.]*)\.(?=\s)|\(([^():]*) : ", text):
+        mine = [n for n in re.findall(NAME, m.group(1) or m.group(2) or "") if n in names]
+        if not mine:
+            continue
+        deep, end = 0, len(text)
+        start = m.end() if m.group(1) is not None else text.index(":", m.start())
+        out_of = 0 if m.group(1) is not None else -1
+        for i in range(start, len(text)):
+            deep += text[i] == "("
+            deep -= text[i] == ")"
+            if deep < out_of:
+                end = i
+                break
+        out += [(n, m.start(), end) for n in mine]
+    return out
+
+
 def turn_invariant(fn, name, kind, args, body, report):
     loop = name[len(kind) + 1:]
     if norm(loop) not in fn.loops:
@@ -178,11 +198,9 @@ def turn_invariant(fn, name, kind, args, body, report):
         report.append(f"{name}: {len(args)} arguments {args}, now {variables} {changed}; turned by name")
         for a in args:
             names[a] = f"l.initial.{a[:-1]}" if a.endswith("₀") else f"l.{a}"
-    for a in names:
-        if re.search(rf"λ[^.]*(?<![\w'])({re.escape(a)})(?![\w'₀])[^.]*\.", body):
-            report.append(f"{name}: λ binds {a}")
     tok = re.compile(rf"(?<![\w'₀.-])({NAME})(?![\w'₀-])")
-    return new, tok.sub(lambda m: names.get(m.group(1), m.group(1)), body)
+    hidden = bound(body, names)
+    return new, tok.sub(lambda m: m.group(1) if any(a <= m.start() < b and m.group(1) == n for n, a, b in hidden) else names.get(m.group(1), m.group(1)), body)
 
 
 def turn(crate, folder, fn, path_name, dry):

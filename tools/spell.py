@@ -101,7 +101,8 @@ def main():
             m = re.search(r"(^|\s)(--|//)(\s|$)", line)
             if m:
                 code, comment = line[: m.start()], line[m.start():]
-            code = TOKEN.sub(lambda m: names.get(m.group(1), m.group(1)) if dashes or "-" not in m.group(1) else m.group(1), code)
+            if dashes:
+                code = TOKEN.sub(lambda m: names.get(m.group(1), m.group(1)), code)
             comment = TOKEN.sub(lambda m: names.get(m.group(1), m.group(1)) if re.search(r"[a-z][A-Z]", m.group(1)) else m.group(1), comment)
             comment = re.sub(r"`([^`\s]+)`", lambda m: "`" + names.get(m.group(1), m.group(1)) + "`", comment)
             lines.append(code + comment)

@@ -3,7 +3,7 @@
 use Prim.Native.Nat.{ℕ, ◌≤◌, ◌<◌}
 use mathlib.Core.Path.{◌≡◌, refl, sym, subst, ◌∙◌, ap}
 use mathlib.Core.Logic.{◌↔◌, inl, inr, ⊎_elim}
-use mathlib.Core.List.{List, [], map}
+use mathlib.Core.List.{List, []}
 use native.Mathlib.Omega.{arith}
 use lib.ListN.{length, get_or}
 use Rattle.model.specs.declared.Triple.{Triple}
@@ -16,7 +16,7 @@ use Rattle.model.specs.Intake.{State, held_after, state_of}
 use Rattle.model.specs.Saturation.{saturation}
 use Rattle.model.specs.Cliques.{Clique, linked}
 use Rattle.model.specs.Classes.{map_of}
-use Rattle.model.specs.Summary.{summary, weight, weights}
+use Rattle.model.specs.Summary.{weight, weights}
 use Rattle.model.specs.Calls.{Accepted, table_checks}
 use Rattle.model.specs.Outcomes.{wrong_length, wrong_size}
 use Rattle.theory.specs.Theorems.{PlacesRight, TriplesOf, InSaturation, Source, SaturationExact, ConstraintsFollow, CliquesExact, RepresentativesExact}
