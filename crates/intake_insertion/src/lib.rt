@@ -28,7 +28,7 @@ pub fn insert_at(list: &mut [u32], count: usize, i: usize, t: Triple)
 }
 
 // Whether t stands at place i, below `count`.
-pub fn stands_at_lem(list: &[u32], count: usize, i: usize, t: Triple) -> bool
+pub fn stands_at(list: &[u32], count: usize, i: usize, t: Triple) -> bool
     requires { 3 * count ≤ length list.now }
     ensures { StandsAt list.now count i t result }
 {
@@ -67,7 +67,7 @@ pub fn image_place(summary: &[u32], summarised: usize, map: &[u32], t: Triple) -
         object: object,
     };
     let i = lower_bound(summary, 0, summarised, image);
-    if stands_at_lem(summary, summarised, i, image) {
+    if stands_at(summary, summarised, i, image) {
         return ImageAt::At(i);
     }
     ImageAt::Unknown

@@ -36,7 +36,7 @@ fn take_out(
         return with_counts(Reply::Refused(Refusal::Missing), held, summarised); // only where the record was altered by hand
     }
     let i = lower_bound(triples, 0, held, t);
-    if stands_at_lem(triples, held, i, t) {
+    if stands_at(triples, held, i, t) {
         return cut(
             held, summarised, words, roster, triples, summary, weights, map, work, i,
         );

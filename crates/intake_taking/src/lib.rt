@@ -35,7 +35,7 @@ pub fn take_in(
         return with_counts(Reply::Refused(Refusal::Full), held, summarised); // only where the record was altered by hand
     }
     let i = lower_bound(triples, 0, held, t);
-    if stands_at_lem(triples, held, i, t) {
+    if stands_at(triples, held, i, t) {
         clear(work, 0, work.len());
         return with_counts(Reply::NotNew(i), held, summarised);
     }

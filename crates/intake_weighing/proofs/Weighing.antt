@@ -151,21 +151,21 @@ module _ {triples m summary : List ℕ} {count k slots notes : ℕ} (W : Weighab
   pub weigh_noted : (work : List ℕ) (i : ℕ) (t : Triple) (p : ℕ) → i < count → t ≡ at triples i → p ≡ t.property → length work ≡ notes → p < length work
   weigh_noted work i t p h e q l = omega (arith, (subst (Below (length m)) (sym e) (W.below i h)).property, W.noted)
 
-  stands_at_lem : (i : ℕ) (t u : Triple) (j : ℕ) → i < count → t ≡ at triples i → u ≡ moved (label m) t → Place (at summary) 0 k u j → ImageStands (at summary) k u j
-  stands_at_lem i t u j h e q p =
+  stands_at : (i : ℕ) (t u : Triple) (j : ℕ) → i < count → t ≡ at triples i → u ≡ moved (label m) t → Place (at summary) 0 k u j → ImageStands (at summary) k u j
+  stands_at i t u j h e q p =
       stands (at summary) k u j W.rising p (subst (λ (z : Triple). Mem z (first summary k)) (sym (q ∙ ap (moved (label m)) e)) (W.images i h))
 
   module _ (w₀ w : List ℕ) (i : ℕ) (t u : Triple) (j : ℕ) (h : i < count) (e : t ≡ at triples i) (q : u ≡ moved (label m) t)
       (p : Place (at summary) 0 k u j) (l : length w₀ ≡ slots) (D : WeighedTo triples m summary k w₀ w i) where
     pub weigh_inside : j < length w
-    weigh_inside = let s = stands_at_lem i t u j h e q p in omega (arith, s.inside, W.room, D.size)
+    weigh_inside = let s = stands_at i t u j h e q p in omega (arith, s.inside, W.room, D.size)
 
     pub weigh_narrow : j < 4294967296
-    weigh_narrow = let s = stands_at_lem i t u j h e q p in omega (arith, s.inside, W.few)
+    weigh_narrow = let s = stands_at i t u j h e q p in omega (arith, s.inside, W.few)
 
     pub weigh_small : get_or w j 0 < most_triples
-    weigh_small = let s = stands_at_lem i t u j h e q p in omega (arith, weighed-few triples m summary k w₀ w i j D s.inside, W.most)
+    weigh_small = let s = stands_at i t u j h e q p in omega (arith, weighed-few triples m summary k w₀ w i j D s.inside, W.most)
 
     pub weigh_step : WeighedTo triples m summary k w₀ (set w j (get_or w j 0 + 1)) (i + 1)
     weigh_step =
-        weighed-step triples m summary k w₀ w i j u D (omega (arith, W.room)) W.rising (q ∙ ap (moved (label m)) e) (stands_at_lem i t u j h e q p)
+        weighed-step triples m summary k w₀ w i j u D (omega (arith, W.room)) W.rising (q ∙ ap (moved (label m)) e) (stands_at i t u j h e q p)

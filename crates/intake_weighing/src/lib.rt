@@ -26,7 +26,7 @@ fn place_near(list: &[u32], count: usize, near: usize, t: Triple) -> usize
     requires { 3 * count ≤ length list.now }
     ensures { Place (at list.now) 0 count t result }
 {
-    if stands_at_lem(list, count, near, t) {
+    if stands_at(list, count, near, t) {
         return near;
     }
     lower_bound(list, 0, count, t)

@@ -57,7 +57,7 @@ returns-4 c =
     let start = back11.before.before.before in
     known_is _ _ start.args.map.now start.args.t start.requires back11.if1.false _ _ back10.wide.ensures back6.wide2.ensures
     (sym back8.is-absent.ensures ∙ back7.if2.false) (sym back4.is-absent2.ensures ∙ back3.if3.false) _ _
-    c.before.stands_at_lem.ensures c.if4.true
+    c.before.stands_at.ensures c.if4.true
 
 returns-5 : tie.Need-returns-5
 returns-5 c = not_found _ _ _ _

@@ -4,8 +4,8 @@ use mathlib.Core.Path.{◌∙◌, ap}
 use borrow.Author.Rules.{rules}
 use Rattle.model.specs.Triples.{same}
 use Rattle.intake_insertion.proofs.Places.{stands_here, stands-past}
-use Rattle.intake_insertion.proofs.stands_at_lem.Statement.{statement}
-use Rattle.intake_insertion.proofs.stands_at_lem.Tie as tie
+use Rattle.intake_insertion.proofs.stands_at.Statement.{statement}
+use Rattle.intake_insertion.proofs.stands_at.Tie as tie
 
 triple-at-requires : tie.Need-triple-at-requires
 triple-at-requires c κs = search rules

@@ -33,10 +33,10 @@ cut-requires c κs =
     let start = back10.before.before.before.before.before.before.before in (
       out-ready _ start.args.roster.now start.args.triples.now start.args.summary.now start.args.weights.now
           start.args.map.now start.args.work.now start.args.held start.args.summarised start.args.t _
-          back8.lower-bound.ensures _ back6.stands_at_lem.ensures back5.if2.true start.requires,
+          back8.lower-bound.ensures _ back6.stands_at.ensures back5.if2.true start.requires,
       out-low start.args.words start.args.roster.now
           start.args.triples.now start.args.summary.now start.args.weights.now start.args.map.now start.args.work.now
-          start.args.held start.args.summarised start.args.t _ back8.lower-bound.ensures _ back6.stands_at_lem.ensures
+          start.args.held start.args.summarised start.args.t _ back8.lower-bound.ensures _ back6.stands_at.ensures
           back5.if2.true,
       back10.if1.false,
     )
@@ -65,7 +65,7 @@ returns-2 c =
     let start = back19.before.before.before.before.before.before.before.before.before in
     out_cut _ start.args.roster.now start.args.triples.now start.args.summary.now start.args.weights.now start.args.map.now
     start.args.work.now start.args.held start.args.summarised start.args.t _ back19.lower-bound.ensures _
-    back17.stands_at_lem.ensures back16.if2.true _ _ _ back10.cut.ensures
+    back17.stands_at.ensures back16.if2.true _ _ _ back10.cut.ensures
 
 with-counts-requires-2 : tie.Need-with-counts-requires-2
 with-counts-requires-2 c κs = search rules
@@ -80,7 +80,7 @@ returns-3 c =
     as_counted (Passing _ start.args.roster.now removing _ start.args.work.now start.args.t) _ _ _ _ c.with-counts2.ensures _ _ _ _
     _ (out-missing _ start.args.roster.now start.args.triples.now start.args.summary.now start.args.weights.now
     start.args.map.now start.args.work.now start.args.held start.args.summarised start.args.t _
-    back4.lower-bound.ensures _ c.before.before.stands_at_lem.ensures c.before.if2.false)
+    back4.lower-bound.ensures _ c.before.before.stands_at.ensures c.before.if2.false)
 
 pub take_out_spec : {M : Type 1} → statement M
 take_out_spec =

@@ -47,7 +47,7 @@ returns-2 c =
     let a = start.args in
     as_counted (Passing _ a.roster.now feeding _ a.work.now a.t) _ _ _ _ c.with-counts2.ensures _ _ _ _ _
     (taken-same _ a.roster.now a.triples.now a.summary.now a.weights.now a.map.now a.work.now a.held a.summarised
-    a.t _ back8.lower-bound.ensures _ back6.stands_at_lem.ensures back5.if2.true _ back3.clear.ensures)
+    a.t _ back8.lower-bound.ensures _ back6.stands_at.ensures back5.if2.true _ back3.clear.ensures)
 
 add-requires : tie.Need-add-requires
 add-requires c κs = search rules
@@ -77,7 +77,7 @@ returns-3 c =
     let start = back20.before.before.before.before.before.before.before.before.before in
     let a = start.args in
     taken-new _ a.roster.now a.triples.now a.summary.now a.weights.now a.map.now a.work.now a.held a.summarised a.t
-    _ back20.lower-bound.ensures _ back18.stands_at_lem.ensures back17.if2.false back16.if3.true _ _ _ back10.add.ensures
+    _ back20.lower-bound.ensures _ back18.stands_at.ensures back17.if2.false back16.if3.true _ _ _ back10.add.ensures
 
 with-counts-requires-3 : tie.Need-with-counts-requires-3
 with-counts-requires-3 c κs = search rules
@@ -93,7 +93,7 @@ returns-4 c =
     let a = start.args in
     as_counted (Passing _ a.roster.now feeding _ a.work.now a.t) _ _ _ _ c.with-counts3.ensures _ _ _ _ _
     (taken-full _ a.roster.now a.triples.now a.summary.now a.weights.now a.map.now a.work.now a.held a.summarised
-    a.t _ back5.lower-bound.ensures _ back3.stands_at_lem.ensures c.before.before.if2.false c.before.if3.false)
+    a.t _ back5.lower-bound.ensures _ back3.stands_at.ensures c.before.before.if2.false c.before.if3.false)
 
 pub take_in_spec : {M : Type 1} → statement M
 take_in_spec =

@@ -9,7 +9,7 @@ stands-at-requires : tie.Need-stands-at-requires
 stands-at-requires c κs = search rules
 
 returns : tie.Need-returns
-returns c = place_here _ _ _ _ _ c.before.stands_at_lem.ensures c.if1.true
+returns c = place_here _ _ _ _ _ c.before.stands_at.ensures c.if1.true
 
 lower-bound-requires : tie.Need-lower-bound-requires
 lower-bound-requires c κs = search rules
