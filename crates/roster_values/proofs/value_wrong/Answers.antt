@@ -1,5 +1,4 @@
 use mathlib.Core.Path.{refl, sym, ◌∙◌, ap}
-use mathlib.Core.Bool.{false}
 use native.Mathlib.Omega.{arith}
 use Rattle.roster_values.specs.Bytes.{over_three}
 use Rattle.roster_values.proofs.Values.{over-part, right-start, right-step, over-rest}
