@@ -1,7 +1,7 @@
 -- What opening returns and leaves in the lent lists.
 -- Assumes nothing.
 use Rattle.std.specs.Prelude.{ℕ, ◌/◌, ◌≡◌, Bool, not, ◌||◌, List, eqb, ltb}
-use Rattle.std.specs.Borrow.{Bor}
+use Rattle.std.specs.Borrow.{MutBor}
 use denote.Triple.Both.{Both}
 use Rattle.model.specs.declared.Done.{Done}
 use Rattle.model.specs.declared.Vocabulary.{Vocabulary}
@@ -22,7 +22,7 @@ state_with triples summary weights map held summarised =
 
 -- a list that is lent by `&mut`, as a contract names it
 abbrev pub Lent : Type 0
-Lent = Both (Bor (List ℕ)) (Bor (List ℕ))
+Lent = Both (MutBor (List ℕ)) (MutBor (List ℕ))
 
 -- an intake as a call finds it in the lent lists and two counts, and as the call leaves it
 abbrev pub at_entry : Lent → Lent → Lent → Lent → ℕ → ℕ → State
