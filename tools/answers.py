@@ -57,6 +57,8 @@ class Function:
         if step in ("args", "requires"):
             return ".".join(["c", step] + path)
         want = norm(step)
+        if want.endswith("-lem") and not any(norm(self.places[i][2][0]) == want for i in self.chain(place)):
+            want = want[:-4]
         for i in self.chain(place):
             arm = self.arms[i]
             if arm:
