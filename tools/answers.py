@@ -273,7 +273,7 @@ def turn(crate, folder, fn, path_name, dry):
                 short = n.split(" as ")[-1]
                 parts = [p for p in short.split("◌") if p]
                 if "◌" in short:
-                    ok = all(re.search(rf"(?<![^\s()\[\]{{}},;.]){re.escape(p)}(?![^\s()\[\]{{}},;.])", t) for p in parts)
+                    ok = short in t or all(re.search(rf"(?<![^\s()\[\]{{}},;.]){re.escape(p)}(?![^\s()\[\]{{}},;.])", t) for p in parts)
                 else:
                     ok = re.search(rf"(?<![\w'₀-]){re.escape(short)}(?![\w'₀-])", t)
                 if ok:
