@@ -42,7 +42,8 @@ class Function:
         self.params = {k: v for k, v in data["params"].items()}
         self.loops = {norm(l[0][0]): (l[0][1], l[1], ch) for l, ch in zip(data["loops"], data["changed"])}
         self.typed = data["typed"]
-        self.args = data["args"]
+        pairs = [(old.split(" ."), new.split(" .")) for old, new in data["args"]]
+        self.renamed = {o[-1]: n[-1] for o, n in pairs if o[0] == ".args" and n[0] == ".args" and len(o) == 2 == len(n)}
 
     def chain(self, place):
         out = []
@@ -55,6 +56,8 @@ class Function:
     def find(self, place, step, path):
         """The new path of the fields path of the old step, seen from place; None if there is none."""
         if step in ("args", "requires"):
+            if step == "args" and path:
+                path = [self.renamed.get(path[0], path[0])] + path[1:]
             return ".".join(["c", step] + path)
         want = norm(step)
         if want.endswith("-lem") and not any(norm(self.places[i][2][0]) == want for i in self.chain(place)):
