@@ -59,9 +59,7 @@ class Function:
             if step == "args" and path:
                 path = [self.renamed.get(path[0], path[0])] + path[1:]
             return ".".join(["c", step] + path)
-        want = norm(step)
-        if want.endswith("-lem") and not any(norm(self.places[i][2][0]) == want for i in self.chain(place)):
-            want = want[:-4]
+        want = norm(step[:-4] if step.endswith("_lem") else step)
         for i in self.chain(place):
             arm = self.arms[i]
             if arm:
