@@ -206,10 +206,49 @@ def turn_invariant(fn, name, kind, args, body, report):
     return new, tok.sub(lambda m: m.group(1) if any(a <= m.start() < b and m.group(1) == n for n, a, b in hidden) else names.get(m.group(1), m.group(1)), body)
 
 
+def closing(text, i):
+    """The index behind the parenthesis that closes the one at i."""
+    deep = 0
+    for k in range(i, len(text)):
+        deep += text[k] == "("
+        deep -= text[k] == ")"
+        if deep == 0:
+            return k + 1
+    return len(text)
+
+
+def joined(text, fn):
+    """A ⊎_elim over where two branches join becomes an elim with a case for each; the names of the cases."""
+    names = set()
+    m = re.search(r"⊎_elim\s*(?=\(λ w\.)", text)
+    if not m:
+        return text, names
+    a = m.end()
+    b = closing(text, a)
+    c = b + len(text[b:]) - len(text[b:].lstrip())
+    d = closing(text, c)
+    t = re.match(r"\s*c\.if-([\w-]+)\.branch", text[d:])
+    if not t:
+        return text, names
+    step = t.group(1)
+    var = next((l[1][i] for l in fn.loops.values() for i, ch in enumerate(l[2]) if ch), "x")
+
+    def case(body, kind, fact):
+        names.add(f"{kind}-{step}")
+        body = body[1:-1].split(".", 1)[1].strip()
+        body = re.sub(r"w\.0\.(taken|left)", f"w.if-{step}.{fact}", body)
+        body = re.sub(r"(?<![\w'])w\.[1-9]\b", f"w.{var}-is", body)
+        return f"    | {kind}-{step} w ↦ {body}"
+
+    cases = [case(text[a:b], "then", "true"), case(text[c:d], "else", "false")]
+    return text[: m.start()] + f"elim c.if-{step}.branch [\n" + "\n".join(cases) + "\n    ]" + text[d + t.end():], names
+
+
 def turn(crate, folder, fn, path_name, dry):
     text = open(os.path.join(folder, "Proof.antt")).read()
     head, defs, tail = definitions(text)
     report, inv, ans, helpers = [], [], [], []
+    opened_names = set()
     for d in defs:
         ty = " ".join(t.strip() for t in d["type"]).strip()
         body = "\n".join(strip_blank(d["body"]))
@@ -253,6 +292,8 @@ def turn(crate, folder, fn, path_name, dry):
                 expr = re.sub(rf"(?<![\w'.]){var}(?![\w'-])", "c", expr)
             # a test of !x says of x itself what it says
             expr = re.sub(r"not-(?:false|true) (?:\([^()]*\)|\S+) (c\.if-not-[\w.-]+)", r"\1", expr)
+            expr, joins = joined(expr, fn)
+            opened_names |= joins
             report += [f"{new}: {x}" for x in mine]
             ans.append((new, expr, opened))
             continue
@@ -290,7 +331,7 @@ def turn(crate, folder, fn, path_name, dry):
         result["Invariants.antt"] = "\n".join(imports(t) + [f"use {mod}.Given as goal", ""]) + "\n" + t + "\n"
     if ans or helpers:
         t = "\n\n".join(helpers + ["\n".join([f"pub {n} : goal.{n}", c + f"{n} c =" + (" " if not b.startswith("\n") else "") + b]) for n, b, c in ans])
-        result["Answers.antt"] = "\n".join(imports(t) + [f"use {mod}.Goals as goal", ""]) + "\n" + t + "\n"
+        result["Answers.antt"] = "\n".join(imports(t) + [f"use {mod}.Goals as goal"] + ([f"use {mod}.Goals.{{{', '.join(sorted(opened_names))}}}"] if opened_names else []) + [""]) + "\n" + t + "\n"
     if not dry:
         old = f"/tmp/old-proofs/{crate}/{path_name}"
         os.makedirs(old, exist_ok=True)
