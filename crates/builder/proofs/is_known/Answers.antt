@@ -1,0 +1,9 @@
+use Rattle.builder.proofs.Offers.{known-base, known-run}
+use Rattle.builder.proofs.is_known.Goals as goal
+
+pub returns-then-contains : goal.returns-then-contains
+returns-then-contains c = known-base c.args.list.now c.args.b c.args.t _ c.contains.ensures c.if-contains.true
+
+pub returns : goal.returns
+returns c = known-run c.args.list.now c.args.b c.args.t _ _ c.contains.ensures c.if-contains.false
+    c.contains-2.ensures
