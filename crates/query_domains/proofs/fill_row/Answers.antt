@@ -1,0 +1,10 @@
+use mathlib.Core.Path.{sym, ◌∙◌}
+use borrow.Author.Tests.{eqb-false}
+use Rattle.query_domains.proofs.Fills.{every_node, one-node}
+use Rattle.query_domains.proofs.fill_row.Goals as goal
+
+pub returns-then-is_absent : goal.returns-then-is_absent
+returns-then-is_absent c = every_node _ _ _ _ c.set_row.ensures
+
+pub returns : goal.returns
+returns c = one-node _ _ _ (eqb-false _ _ (sym c.is_absent.ensures ∙ c.if-is_absent.false)) _ _ c.set_row-2.ensures c.put_in.ensures
