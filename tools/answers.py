@@ -18,7 +18,7 @@ NAME = r"[A-Za-z_Δκ][\w'₀-₉∙-]*"
 
 
 def norm(s):
-    return s.replace("_", "-")
+    return s.replace("_", "-").lower()
 
 
 def names_of(crate):

@@ -5,10 +5,10 @@ use Rattle.builder.proofs.offer_full.Goals as goal
 
 pub returns-then-is_known : goal.returns-then-is_known
 returns-then-is_known c = offered_after _ _ _ _ _ _ _ c.compacted-c.ensures
-    (offered_known _ _ _ c.compacted-c.ensures.built (sym c.before.is_Known.ensures ∙ c.if-is_known.true))
+    (offered_known _ _ _ c.compacted-c.ensures.built (sym c.is_known.ensures ∙ c.if-is_known.true))
 
 pub append-requires : goal.append-requires
-append-requires c = (omega (arith, c.if-c-list.true), c.compacted-c.ensures.built, sym back4.is_Known.ensures ∙ c.if-is_known.false)
+append-requires c = (omega (arith, c.if-c-list.true), c.compacted-c.ensures.built, sym c.is_known.ensures ∙ c.if-is_known.false)
 
 pub returns-then-c-list : goal.returns-then-c-list
 returns-then-c-list c = offered_after _ _ _ _ _ _ _ c.compacted-c.ensures c.append.ensures
@@ -16,4 +16,4 @@ returns-then-c-list c = offered_after _ _ _ _ _ _ _ c.compacted-c.ensures c.appe
 pub returns : goal.returns
 returns c = offered_after _ _ _ _ _ _ _ c.compacted-c.ensures
     (offered_full _ _ _ _ c.compacted-c.ensures.built c.compacted-c.ensures.all_sorted
-    (sym back3.is_Known.ensures ∙ c.if-is_known.false) c.if-c-list.false refl)
+    (sym c.is_known.ensures ∙ c.if-is_known.false) c.if-c-list.false refl)
