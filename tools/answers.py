@@ -155,7 +155,7 @@ def turn_body(fn, place, var, text, report):
         if not fields:
             report.append(f"bare place {m.group(0)}")
             return m.group(0)
-        new = fn.find(place, fields[0], fields[1:])
+        new = fn.find(place, fields[0], fields[1:]) or fn.find(place, fields[0].rstrip("0123456789"), fields[1:])
         if new is None:
             report.append(f"no step {m.group(0)} at {place}")
             return m.group(0)
