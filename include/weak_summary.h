@@ -1,8 +1,8 @@
 /*
  * The weak summary of a site graph: the calls of the proved engine, for C.
  *
- * Link with libweak_summary.a (rt staticlib weak_summary writes it to target/staticlib/). x86-64 Linux. Of other libraries it
- * uses only memcpy and memset.
+ * Link with libweak_summary.a (rt lib in crates/weak_summary writes it to that crate's out/). x86-64 Linux. Of other libraries
+ * it uses only memcpy and memset.
  *
  * Each name begins with ws, for weak summary.
  *
@@ -226,8 +226,8 @@ uint32_t ws_look_up(const uint32_t *list, size_t list_length, uint32_t subject, 
  *   6  a count of 0 or over 8; in a counted pattern a kind over 1, a variable over 7, or a code or property not below N
  *   12 a counted pattern's property is subclass, subproperty, domain or range
  * They alter nothing.
- * Time, measured and not proved: a query whose variables form no cycle takes about patterns * triples steps where N is at most
- * 4,096, and mostly so beyond. With a cycle it may take nodes * patterns * triples, and the square of the nodes where cycles
+ * Time, measured and not proved, with the engine as an older kit built it: a query whose variables form no cycle takes about
+ * patterns * triples steps where N is at most 4,096, and mostly so beyond. With a cycle it may take nodes * patterns * triples, and the square of the nodes where cycles
  * hang together so that two variables must be fixed, one within the other. On 2,048 triples of 512 codes no query that was
  * tried took more than 20 ms, but for two cycles joined by a path, which took 0.2 s. A query that is easy in its written
  * order takes the time of a search in that order: below 1 us on a summary of 256 triples.

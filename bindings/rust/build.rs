@@ -1,4 +1,4 @@
-//! Links libweak_summary.a, from the folder in WEAK_SUMMARY_LIB or else from target/staticlib of the repository.
+//! Links libweak_summary.a, from the folder in WEAK_SUMMARY_LIB or else from crates/weak_summary/out of the repository.
 
 use std::env;
 use std::path::{Path, PathBuf};
@@ -7,7 +7,7 @@ fn main() {
     let here = env::var("CARGO_MANIFEST_DIR").expect("cargo sets this");
     let folder = match env::var("WEAK_SUMMARY_LIB") {
         Ok(folder) => PathBuf::from(folder),
-        Err(_) => Path::new(&here).join("../../target/staticlib"),
+        Err(_) => Path::new(&here).join("../../crates/weak_summary/out"),
     };
     println!("cargo:rustc-link-search=native={}", folder.display());
     println!("cargo:rustc-link-lib=static=weak_summary");
