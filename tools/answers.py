@@ -291,7 +291,10 @@ def turn(crate, folder, fn, path_name, dry):
             if var != "c" and re.search(rf"(?<![\w'])({var})(?![\w'])", expr):
                 expr = re.sub(rf"(?<![\w'.]){var}(?![\w'-])", "c", expr)
             # a test of !x says of x itself what it says
-            expr = re.sub(r"not-(?:false|true) (?:\([^()]*\)|\S+) (c\.if-not-[\w.-]+)", r"\1", expr)
+            expr = re.sub(r"not-(?:false|true) (?:\([^()]*\)|\S+) (c\.(?:if-not-|loop-[\w-]*test\.)[\w.-]+)", r"\1", expr)
+            # no parameter is called result today
+            for a in re.findall(r"let (\S+) = c\.args in", expr):
+                expr = expr.replace(a + ".result.", a + ".res.")
             expr, joins = joined(expr, fn)
             opened_names |= joins
             report += [f"{new}: {x}" for x in mine]
