@@ -29,6 +29,7 @@ use lists::rdfs_words;
 use model::Vocabulary;
 use random_sites::random::{at_most, get};
 use random_sites::words::table_of;
+use std::io;
 
 // With what a line begins: # or a letter, of which capitals set something.
 const COMMENT: u8 = 35;
@@ -70,6 +71,7 @@ struct Setting {
 
 // A call with lists of those lengths.
 fn case(
+    rt: &impl Print,
     tally: &mut [u64; TALLY],
     call: usize,
     name: &[u8],
@@ -78,32 +80,40 @@ fn case(
     table: &[u32],
     roster: &[u8],
     wanted: Lengths,
-) {
-    let seen = table_call(tally, call, 0, words, table, roster, wanted);
-    small(call, name, expected, seen.refused);
+) -> io::Result<()> {
+    let seen = table_call(rt, tally, call, 0, words, table, roster, wanted)?;
+    small(rt, call, name, expected, seen.refused)
 }
 
 fn every_call(
+    rt: &impl Print,
     tally: &mut [u64; TALLY],
     name: &[u8],
     expected: u32,
     words: Vocabulary,
     table: &[u32],
     roster: &[u8],
-) {
+) -> io::Result<()> {
     let n = at_most(roster.len(), 311);
     let sides = of_lengths(60, n, n);
     let wanted = of_lengths(60, n, 2 * n);
-    case(tally, SATURATE, name, expected, words, table, roster, sides);
-    case(tally, CLIQUES, name, expected, words, table, roster, sides);
     case(
-        tally, SUMMARISE, name, expected, words, table, roster, wanted,
-    );
-    case(tally, STRONG, name, expected, words, table, roster, wanted);
+        rt, tally, SATURATE, name, expected, words, table, roster, sides,
+    )?;
+    case(
+        rt, tally, CLIQUES, name, expected, words, table, roster, sides,
+    )?;
+    case(
+        rt, tally, SUMMARISE, name, expected, words, table, roster, wanted,
+    )?;
+    case(
+        rt, tally, STRONG, name, expected, words, table, roster, wanted,
+    )
 }
 
 // A call into a result of just that length, and into one that is a number shorter.
 fn just(
+    rt: &impl Print,
     tally: &mut [u64; TALLY],
     call: usize,
     name: &[u8],
@@ -111,15 +121,15 @@ fn just(
     table: &[u32],
     roster: &[u8],
     length: usize,
-) {
+) -> io::Result<()> {
     let n = at_most(roster.len(), 311);
     let wanted = of_lengths(length, n, 2 * n);
-    case(tally, call, name, 0, words, table, roster, wanted);
+    case(rt, tally, call, name, 0, words, table, roster, wanted)?;
     if length == 0 {
-        return;
+        return Ok(());
     }
     let short = of_lengths(length - 1, n, 2 * n);
-    case(tally, call, name, 5, words, table, roster, short);
+    case(rt, tally, call, name, 5, words, table, roster, short)
 }
 
 fn same(a: &[u32], b: &[u32]) -> bool {
@@ -166,61 +176,71 @@ fn short_is_zero(words: Vocabulary, table: &[u32], roster: &[u8], length: usize)
     leaves(words, table, roster, &zeros[0..end])
 }
 
-fn look_up(tally: &mut [u64; TALLY], name: &[u8], table: &[u32], row: &[u32]) {
+fn look_up(
+    rt: &impl Print,
+    tally: &mut [u64; TALLY],
+    name: &[u8],
+    table: &[u32],
+    row: &[u32],
+) -> io::Result<()> {
     let s = get(row, 2);
     let p = get(row, 3);
     let o = get(row, 4);
-    let got = calls::look_up(tally, 0, table, s, p, o);
-    small(LOOK_UP, name, get(row, 0), column(got));
+    let got = calls::look_up(rt, tally, 0, table, s, p, o)?;
+    small(rt, LOOK_UP, name, get(row, 0), column(got))?;
     check(
+        rt,
         tally,
         LOOK_UP,
         0,
         b"place",
         got.place == get(row, 1) as usize,
-    );
+    )
 }
 
 fn ask(
+    rt: &impl Print,
     tally: &mut [u64; TALLY],
     name: &[u8],
     words: Vocabulary,
     table: &[u32],
     map: &[u32],
     row: &[u32],
-) {
+) -> io::Result<()> {
     let end = row.len();
     let start = at_most(1, end);
-    let got = calls::ask(tally, 0, words, table, map, &row[start..end]);
-    small(ASK, name, get(row, 0), got);
+    let got = calls::ask(rt, tally, 0, words, table, map, &row[start..end])?;
+    small(rt, ASK, name, get(row, 0), got)
 }
 
 fn ask_itself(
+    rt: &impl Print,
     tally: &mut [u64; TALLY],
     name: &[u8],
     words: Vocabulary,
     table: &[u32],
     n: usize,
     row: &[u32],
-) {
+) -> io::Result<()> {
     let mut space = [0u32; 311];
     let m = at_most(n, 311);
     let map: &mut [u32] = &mut space[0..m];
     identity(map);
-    ask(tally, name, words, table, map, row);
+    ask(rt, tally, name, words, table, map, row)
 }
 
 fn ask_zero(
+    rt: &impl Print,
     tally: &mut [u64; TALLY],
     name: &[u8],
     words: Vocabulary,
     table: &[u32],
     n: usize,
     row: &[u32],
-) {
+) -> io::Result<()> {
     let map = [0u32; 311];
     let m = at_most(n, 311);
-    ask(tally, name, words, table, &map[0..m], row);
+    ask(rt, tally, name, words, table, &map[0..m], row)
 }
 
 // The call of a line that begins with a letter.
@@ -245,6 +265,7 @@ fn length_at(row: &[u32], i: usize) -> usize {
 }
 
 fn table_case(
+    rt: &impl Print,
     tally: &mut [u64; TALLY],
     kind: u8,
     name: &[u8],
@@ -252,18 +273,26 @@ fn table_case(
     table: &[u32],
     roster: &[u8],
     row: &[u32],
-) {
+) -> io::Result<()> {
     let first = get(row, 0);
     if kind == EVERY {
-        every_call(tally, name, first, words, table, roster);
-        return;
+        return every_call(rt, tally, name, first, words, table, roster);
     }
     if kind == NEEDS {
-        just(tally, SATURATE, name, words, table, roster, first as usize);
-        return;
+        return just(
+            rt,
+            tally,
+            SATURATE,
+            name,
+            words,
+            table,
+            roster,
+            first as usize,
+        );
     }
     let wanted = of_lengths(length_at(row, 1), length_at(row, 2), length_at(row, 3));
     case(
+        rt,
         tally,
         call_of(kind),
         name,
@@ -272,26 +301,28 @@ fn table_case(
         table,
         roster,
         wanted,
-    );
+    )
 }
 
 fn gives_summary(
+    rt: &impl Print,
     tally: &mut [u64; TALLY],
     name: &[u8],
     words: Vocabulary,
     table: &[u32],
     roster: &[u8],
     list: &[u32],
-) {
-    just(tally, STRONG, name, words, table, roster, list.len());
+) -> io::Result<()> {
+    just(rt, tally, STRONG, name, words, table, roster, list.len())?;
     let held = leaves(words, table, roster, list);
-    check(tally, STRONG, 0, b"expected", held);
+    check(rt, tally, STRONG, 0, b"expected", held)?;
     let zero = short_is_zero(words, table, roster, list.len());
-    check(tally, STRONG, 0, b"expected", zero);
+    check(rt, tally, STRONG, 0, b"expected", zero)
 }
 
 // A case with `count` numbers.
 fn any_case(
+    rt: &impl Print,
     tally: &mut [u64; TALLY],
     kind: u8,
     name: &[u8],
@@ -300,29 +331,26 @@ fn any_case(
     roster: &[u8],
     row: &[u32],
     count: usize,
-) {
+) -> io::Result<()> {
     if kind == LOOK {
-        look_up(tally, name, table, row);
-        return;
+        return look_up(rt, tally, name, table, row);
     }
     if kind == ITSELF {
-        ask_itself(tally, name, words, table, roster.len(), row);
-        return;
+        return ask_itself(rt, tally, name, words, table, roster.len(), row);
     }
     if kind == ZERO {
-        ask_zero(tally, name, words, table, roster.len(), row);
-        return;
+        return ask_zero(rt, tally, name, words, table, roster.len(), row);
     }
     if kind == GIVES {
         let end = at_most(count, row.len());
-        gives_summary(tally, name, words, table, roster, &row[0..end]);
-        return;
+        return gives_summary(rt, tally, name, words, table, roster, &row[0..end]);
     }
-    table_case(tally, kind, name, words, table, roster, row);
+    table_case(rt, tally, kind, name, words, table, roster, row)
 }
 
 // Reads a case, whose name begins at a place, and works it; the place of the next line.
 fn case_line(
+    rt: &impl Print,
     tally: &mut [u64; TALLY],
     kind: u8,
     text: &[u8],
@@ -330,7 +358,7 @@ fn case_line(
     words: Vocabulary,
     table: &[u32],
     roster: &[u8],
-) -> usize {
+) -> io::Result<usize> {
     let mut space = [0u32; 42];
     let row: &mut [u32] = &mut space;
     let end = at_most(word_end(text, from), text.len());
@@ -338,8 +366,8 @@ fn case_line(
     let read = numbers(text, end, row);
     let count = read.value as usize;
     let name = &text[start..end];
-    any_case(tally, kind, name, words, table, roster, row, count);
-    behind(text, read.next)
+    any_case(rt, tally, kind, name, words, table, roster, row, count)?;
+    Ok(behind(text, read.next))
 }
 
 // Reads a line that sets something.
@@ -377,25 +405,27 @@ fn setting_line(
 }
 
 fn line(
+    rt: &impl Print,
     tally: &mut [u64; TALLY],
     text: &[u8],
     now: Setting,
     table: &mut [u32],
     roster: &mut [u8],
-) -> Setting {
+) -> io::Result<Setting> {
     let kind = byte_at(text, now.at);
     let from = word_end(text, now.at);
     let mut next = now;
     if kind == COMMENT {
         next.at = behind(text, line_end(text, now.at));
-        return next;
+        return Ok(next);
     }
     if kind < SMALL_LETTERS {
-        return setting_line(kind, text, from, now, table, roster);
+        return Ok(setting_line(kind, text, from, now, table, roster));
     }
     let t = at_most(now.length, table.len());
     let n = at_most(now.n, roster.len());
     next.at = case_line(
+        rt,
         tally,
         kind,
         text,
@@ -403,11 +433,17 @@ fn line(
         now.words,
         &table[0..t],
         &roster[0..n],
-    );
-    next
+    )?;
+    Ok(next)
 }
 
-fn lines(tally: &mut [u64; TALLY], text: &[u8], table: &mut [u32], roster: &mut [u8]) {
+fn lines(
+    rt: &impl Print,
+    tally: &mut [u64; TALLY],
+    text: &[u8],
+    table: &mut [u32],
+    roster: &mut [u8],
+) -> io::Result<()> {
     let mut setting = Setting {
         at: 0,
         n: 0,
@@ -417,16 +453,17 @@ fn lines(tally: &mut [u64; TALLY], text: &[u8], table: &mut [u32], roster: &mut 
     let mut count = 0usize;
     while count < 1000 {
         if text.len() <= setting.at {
-            return;
+            return Ok(());
         }
-        setting = line(tally, text, setting, table, roster);
+        setting = line(rt, tally, text, setting, table, roster)?;
         count += 1;
     }
+    Ok(())
 }
 
 // Works a text of at most 1,000 lines.
-pub fn all(tally: &mut [u64; TALLY], text: &[u8]) {
+pub fn all(rt: &impl Print, tally: &mut [u64; TALLY], text: &[u8]) -> io::Result<()> {
     let mut table = [0u32; 60];
     let mut roster = [0u8; 311];
-    lines(tally, text, &mut table, &mut roster);
+    lines(rt, tally, text, &mut table, &mut roster)
 }

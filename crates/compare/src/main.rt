@@ -11,16 +11,17 @@ mod sizes;
 
 use comparison_report::report;
 use comparison_report::report::TALLY;
-use libc::STDIN_FILENO;
+use read_full::read_full;
+use std::io;
 
-fn main() {
+fn main(rt: HostRuntime) -> io::Result<()> {
     let mut tally = [0u64; TALLY];
     let mut text = [0u8; 16384];
-    let n = io::read_full(STDIN_FILENO, &mut text);
-    cases::all(&mut tally, &text[0..n]);
-    sizes::all(&mut tally);
-    rosters::all(&mut tally);
-    sites::all(&mut tally);
-    queries::all(&mut tally);
-    report::counts(&tally);
+    let n = read_full(&mut rt.stdin(), &mut text)?;
+    cases::all(&rt, &mut tally, &text[0..n])?;
+    sizes::all(&rt, &mut tally)?;
+    rosters::all(&rt, &mut tally)?;
+    sites::all(&rt, &mut tally)?;
+    queries::all(&rt, &mut tally)?;
+    report::counts(&rt, &tally)
 }

@@ -8,6 +8,7 @@ use lists::{Code, word_of};
 use model::Vocabulary;
 use random_sites::random::{at_most, get, mix, pick, set, triples_end};
 use random_sites::{sites, words};
+use std::io;
 
 // How many patterns: mostly 1 to 3.
 fn count_of(seed: u64) -> u32 {
@@ -135,7 +136,14 @@ fn summary_end(
 }
 
 // A query on a list and on its summary, with its map of that length.
-fn ask_both(tally: &mut [u64; TALLY], seed: u64, list: &[u32], roster: &[u8], length: usize) {
+fn ask_both(
+    rt: &impl Print,
+    tally: &mut [u64; TALLY],
+    seed: u64,
+    list: &[u32],
+    roster: &[u8],
+    length: usize,
+) -> io::Result<()> {
     let mut summary_space = [0u32; 240];
     let mut map_space = [0u32; 50];
     let mut query_space = [0u32; 41];
@@ -147,13 +155,21 @@ fn ask_both(tally: &mut [u64; TALLY], seed: u64, list: &[u32], roster: &[u8], le
     let given = words::given(seed, roster.len());
     let end = summary_end(right, list, roster, summary, map);
     fill_query(query, mix(seed, 61), right, list);
-    calls::ask(tally, seed, given, list, map, query);
+    calls::ask(rt, tally, seed, given, list, map, query)?;
     let whole = &summary[..];
-    calls::ask(tally, seed, given, &whole[0..end], map, query);
+    calls::ask(rt, tally, seed, given, &whole[0..end], map, query)?;
+    Ok(())
 }
 
 // A query with the codes as they are.
-fn ask_plain(tally: &mut [u64; TALLY], seed: u64, n: usize, list: &[u32], length: usize) {
+fn ask_plain(
+    rt: &impl Print,
+    tally: &mut [u64; TALLY],
+    seed: u64,
+    n: usize,
+    list: &[u32],
+    length: usize,
+) -> io::Result<()> {
     let mut map_space = [0u32; 50];
     let mut query_space = [0u32; 41];
     let m = at_most(length, 50);
@@ -161,10 +177,11 @@ fn ask_plain(tally: &mut [u64; TALLY], seed: u64, n: usize, list: &[u32], length
     let query: &mut [u32] = &mut query_space;
     identity(map);
     fill_query(query, mix(seed, 62), words::right(seed, n), list);
-    calls::ask(tally, seed, words::given(seed, n), list, map, query);
+    calls::ask(rt, tally, seed, words::given(seed, n), list, map, query)?;
+    Ok(())
 }
 
-fn ask_case(tally: &mut [u64; TALLY], seed: u64) {
+fn ask_case(rt: &impl Print, tally: &mut [u64; TALLY], seed: u64) -> io::Result<()> {
     let mut table = [0u32; 62];
     let mut roster_space = [0u8; 24];
     let mut closed_space = [0u32; 240];
@@ -176,14 +193,15 @@ fn ask_case(tally: &mut [u64; TALLY], seed: u64) {
     let end = sites::base(seed, &mut table[0..t], roster, closed);
     let whole = &closed[..];
     let list = &whole[0..end];
-    ask_both(tally, seed, list, roster, m);
-    ask_plain(tally, seed, n, list, m);
+    ask_both(rt, tally, seed, list, roster, m)?;
+    ask_plain(rt, tally, seed, n, list, m)
 }
 
-pub fn all(tally: &mut [u64; TALLY]) {
+pub fn all(rt: &impl Print, tally: &mut [u64; TALLY]) -> io::Result<()> {
     let mut seed = 1000000;
     while seed < 1100000 {
-        ask_case(tally, seed);
+        ask_case(rt, tally, seed)?;
         seed += 1;
     }
+    Ok(())
 }

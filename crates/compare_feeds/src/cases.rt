@@ -24,6 +24,7 @@ use lists::rdfs_words;
 use model::Vocabulary;
 use random_sites::random::{at_most, get};
 use random_sites::words::table_of;
+use std::io;
 
 const SPACE: u8 = 32;
 
@@ -139,18 +140,31 @@ fn last_word(text: &[u8], from: usize) -> u64 {
 }
 
 // A case's calls on both engines, with the roster that stands at a place of the text.
-fn run(tally: &mut [u64; TALLY], text: &[u8], from: usize, case: Case, calls: &[u32]) -> State {
+fn run(
+    rt: &impl Print,
+    tally: &mut [u64; TALLY],
+    text: &[u8],
+    from: usize,
+    case: Case,
+    calls: &[u32],
+) -> io::Result<State> {
     let mut roster = [0u8; 16];
     let read = number(text, from);
     let n = at_most(read.value as usize, 16);
     marks(text, behind(text, read.next), &mut roster);
-    compare_small(tally, case, calls, &roster[0..n])
+    compare_small(rt, tally, case, calls, &roster[0..n])
 }
 
-fn check_open(tally: &mut [u64; TALLY], name: &[u8], expected: u32, state: State) {
+fn check_open(
+    rt: &impl Print,
+    tally: &mut [u64; TALLY],
+    name: &[u8],
+    expected: u32,
+    state: State,
+) -> io::Result<()> {
     record_open(tally, state);
-    small(OPEN, name, expected, state.opened);
-    check(tally, OPEN, 0, b"answer", state.opened == expected);
+    small(rt, OPEN, name, expected, state.opened)?;
+    check(rt, tally, OPEN, 0, b"answer", state.opened == expected)
 }
 
 fn call_of(kind: u8, words: Vocabulary, row: &[u32]) -> Call {
@@ -220,42 +234,57 @@ fn printed(column: usize) -> u32 {
     (column % COLUMNS) as u32
 }
 
-fn check_call(tally: &mut [u64; TALLY], name: &[u8], expected: Expected, state: State) {
+fn check_call(
+    rt: &impl Print,
+    tally: &mut [u64; TALLY],
+    name: &[u8],
+    expected: Expected,
+    state: State,
+) -> io::Result<()> {
     let call = expected.call;
     let answer = expected.answer;
     record_last(tally, state);
-    small(call, name, answer, printed(state.column));
+    small(rt, call, name, answer, printed(state.column))?;
     check(
+        rt,
         tally,
         call,
         0,
         b"answer",
         state.column == column_of(call, answer),
-    );
+    )?;
     check(
+        rt,
         tally,
         call,
         0,
         b"count",
         state.count == count_of(call, answer),
-    );
-    check(tally, call, 0, b"place", state.place == expected.place);
+    )?;
+    check(rt, tally, call, 0, b"place", state.place == expected.place)
 }
 
 // The weights and the map of an opened intake.
-fn check_lists(tally: &mut [u64; TALLY], opens: bool, expected: Expected, state: State) {
+fn check_lists(
+    rt: &impl Print,
+    tally: &mut [u64; TALLY],
+    opens: bool,
+    expected: Expected,
+    state: State,
+) -> io::Result<()> {
     let call = expected.call;
     if !opens {
-        return;
+        return Ok(());
     }
     check(
+        rt,
         tally,
         call,
         0,
         b"weights",
         state.weight_digits == expected.weights,
-    );
-    check(tally, call, 0, b"map", state.map_digits == expected.map);
+    )?;
+    check(rt, tally, call, 0, b"map", state.map_digits == expected.map)
 }
 
 // The place of the next call: lists of junk have one alone.
@@ -280,29 +309,30 @@ fn with_line(kind: u8, now: Setting, row: &[u32], calls: &mut [u32]) -> Case {
 
 // Compares what came with what was expected.
 fn check_case(
+    rt: &impl Print,
     tally: &mut [u64; TALLY],
     opens: bool,
     name: &[u8],
     expected: Expected,
     state: State,
-) {
+) -> io::Result<()> {
     if expected.call == OPEN {
-        check_open(tally, name, expected.answer, state);
-        return;
+        return check_open(rt, tally, name, expected.answer, state);
     }
-    check_call(tally, name, expected, state);
-    check_lists(tally, opens, expected, state);
+    check_call(rt, tally, name, expected, state)?;
+    check_lists(rt, tally, opens, expected, state)
 }
 
 // Works a line that is a case, whose name begins at a place.
 fn case_line(
+    rt: &impl Print,
     tally: &mut [u64; TALLY],
     kind: u8,
     text: &[u8],
     from: usize,
     now: Setting,
     calls: &mut [u32],
-) -> Setting {
+) -> io::Result<Setting> {
     let mut row = [0u32; 7];
     let end = at_most(word_end(text, from), text.len());
     let start = at_most(from, end);
@@ -310,24 +340,35 @@ fn case_line(
     numbers(text, end, &mut row);
     let expected = expected_of(kind, &row, last_word(text, end));
     let case = with_line(kind, now, &row, calls);
-    let state = run(tally, text, now.roster, case, calls);
-    check_case(tally, case.opens, name, expected, state);
+    let state = run(rt, tally, text, now.roster, case, calls)?;
+    check_case(rt, tally, case.opens, name, expected, state)?;
     let mut next = now;
     next.at = behind(text, line_end(text, end));
     next.case = case;
-    next
+    Ok(next)
 }
 
-fn line(tally: &mut [u64; TALLY], text: &[u8], now: Setting, calls: &mut [u32]) -> Setting {
+fn line(
+    rt: &impl Print,
+    tally: &mut [u64; TALLY],
+    text: &[u8],
+    now: Setting,
+    calls: &mut [u32],
+) -> io::Result<Setting> {
     let kind = byte_at(text, now.at);
     if kind < SMALL_LETTERS {
-        return setting_line(kind, text, now);
+        return Ok(setting_line(kind, text, now));
     }
     let from = behind(text, word_end(text, now.at));
-    case_line(tally, kind, text, from, now, calls)
+    case_line(rt, tally, kind, text, from, now, calls)
 }
 
-fn lines(tally: &mut [u64; TALLY], text: &[u8], calls: &mut [u32]) {
+fn lines(
+    rt: &impl Print,
+    tally: &mut [u64; TALLY],
+    text: &[u8],
+    calls: &mut [u32],
+) -> io::Result<()> {
     let mut setting = Setting {
         at: 0,
         roster: 0,
@@ -337,15 +378,16 @@ fn lines(tally: &mut [u64; TALLY], text: &[u8], calls: &mut [u32]) {
     let mut count = 0usize;
     while count < 1000 {
         if text.len() <= setting.at {
-            return;
+            return Ok(());
         }
-        setting = line(tally, text, setting, calls);
+        setting = line(rt, tally, text, setting, calls)?;
         count += 1;
     }
+    Ok(())
 }
 
 // Works a text of at most 1,000 lines.
-pub fn all(tally: &mut [u64; TALLY], text: &[u8]) {
+pub fn all(rt: &impl Print, tally: &mut [u64; TALLY], text: &[u8]) -> io::Result<()> {
     let mut calls = [0u32; 660];
-    lines(tally, text, &mut calls);
+    lines(rt, tally, text, &mut calls)
 }

@@ -6,6 +6,7 @@ use fed_intakes::inputs::{put_call, removal_of};
 use model::Vocabulary;
 use random_sites::random::{at_most, chance, get, mix, pick, set};
 use random_sites::{sites, words};
+use std::io;
 
 // A chain feeds the 30 triples of a table in turn, round and round. Its pool has the places of those that should be held: fed while there
 // was a slot, and not removed since. Functions that alter it answer how many places it then has.
@@ -144,37 +145,40 @@ fn draw(seed: u64, table: &mut [u32], roster: &mut [u8], spoilt: &mut [u8], call
 }
 
 fn chain_of(
+    rt: &impl Print,
     tally: &mut [u64; TALLY],
     seed: u64,
     table: &mut [u32],
     roster: &mut [u8],
     spoilt: &mut [u8],
     calls: &mut [u32],
-) {
+) -> io::Result<()> {
     draw(seed, table, roster, spoilt, calls);
-    play(tally, seed, 60, roster, spoilt, calls);
+    play(rt, tally, seed, 60, roster, spoilt, calls)
 }
 
-fn chain(tally: &mut [u64; TALLY], seed: u64) {
+fn chain(rt: &impl Print, tally: &mut [u64; TALLY], seed: u64) -> io::Result<()> {
     let mut table = [0u32; 90];
     let mut roster = [0u8; 24];
     let mut spoilt = [0u8; 24];
     let mut calls = [0u32; 660];
     let n = sites::size(seed);
     chain_of(
+        rt,
         tally,
         seed,
         &mut table,
         &mut roster[0..n],
         &mut spoilt[0..n],
         &mut calls,
-    );
+    )
 }
 
-pub fn all(tally: &mut [u64; TALLY]) {
+pub fn all(rt: &impl Print, tally: &mut [u64; TALLY]) -> io::Result<()> {
     let mut seed = 3000000;
     while seed < 3010000 {
-        chain(tally, seed);
+        chain(rt, tally, seed)?;
         seed += 1;
     }
+    Ok(())
 }

@@ -8,6 +8,7 @@ use lists::word_of;
 use model::Vocabulary;
 use random_sites::random::{at_most, chance, get, mix, pick, set_mark};
 use random_sites::{sites, words};
+use std::io;
 
 fn damage(seed: u64, words: Vocabulary, table: &mut [u32], n: usize) {
     sites::damage_table(words, table, mix(seed, 71), n);
@@ -156,51 +157,56 @@ fn draw(seed: u64, table: &mut [u32], roster: &mut [u8], spoilt: &mut [u8], call
 
 // The first `last` calls of a list on both engines.
 pub fn play<'a>(
+    rt: &impl Print,
     tally: &mut [u64; TALLY],
     seed: u64,
     last: usize,
     roster: &'a [u8],
     spoilt: &'a [u8],
     calls: &[u32],
-) {
+) -> io::Result<()> {
     let case = case_of(seed, roster.len(), last);
-    let state = compare(tally, seed, case, calls, roster, spoilt);
+    let state = compare(rt, tally, seed, case, calls, roster, spoilt)?;
     record_open(tally, state);
     record_calls(tally, state);
+    Ok(())
 }
 
 fn fed_of(
+    rt: &impl Print,
     tally: &mut [u64; TALLY],
     seed: u64,
     table: &mut [u32],
     roster: &mut [u8],
     spoilt: &mut [u8],
     calls: &mut [u32],
-) {
+) -> io::Result<()> {
     draw(seed, table, roster, spoilt, calls);
-    play(tally, seed, 30, roster, spoilt, calls);
+    play(rt, tally, seed, 30, roster, spoilt, calls)
 }
 
-fn fed_case(tally: &mut [u64; TALLY], seed: u64) {
+fn fed_case(rt: &impl Print, tally: &mut [u64; TALLY], seed: u64) -> io::Result<()> {
     let mut table = [0u32; 90];
     let mut roster = [0u8; 24];
     let mut spoilt = [0u8; 24];
     let mut calls = [0u32; 330];
     let n = sites::size(seed);
     fed_of(
+        rt,
         tally,
         seed,
         &mut table,
         &mut roster[0..n],
         &mut spoilt[0..n],
         &mut calls,
-    );
+    )
 }
 
-pub fn all(tally: &mut [u64; TALLY]) {
+pub fn all(rt: &impl Print, tally: &mut [u64; TALLY]) -> io::Result<()> {
     let mut seed = 2000000;
     while seed < 2030000 {
-        fed_case(tally, seed);
+        fed_case(rt, tally, seed)?;
         seed += 1;
     }
+    Ok(())
 }

@@ -10,10 +10,11 @@ mod small;
 
 use comparison_report::report;
 use comparison_report::report::TALLY;
+use std::io;
 
-fn main() {
+fn main(rt: HostRuntime) -> io::Result<()> {
     let mut tally = [0u64; TALLY];
-    small::all(&mut tally);
-    sites::all(&mut tally);
-    report::counts(&tally);
+    small::all(&rt, &mut tally)?;
+    sites::all(&rt, &mut tally)?;
+    report::counts(&rt, &tally)
 }

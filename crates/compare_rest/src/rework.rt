@@ -1,5 +1,5 @@
 // Summarises a saturated table and works what that leaves again.
-ghost use Rattle.std.specs.Prelude.{◌≤◌, length};
+ghost use Rattle.std.specs.Prelude.{◌≤◌, IfOk, length};
 
 use super::maps::{carries, own_map};
 use comparison::answers::{answer, of_counted};
@@ -9,9 +9,16 @@ use comparison_report::digest::{Run, Seen, same};
 use comparison_report::report::{SATURATE, STRONG, TALLY, check};
 use model::{Counted, Vocabulary};
 use random_sites::random::{at_most, triples_end};
+use std::io;
 
 // What a call leaves that is accepted with a summary of a site of n codes as its result, and those two lists.
-fn left_with(n: usize, summary: &[u32], first: &[u32], second: &[u32]) -> Seen {
+fn left_with(
+    rt: &impl Print,
+    n: usize,
+    summary: &[u32],
+    first: &[u32],
+    second: &[u32],
+) -> io::Result<Seen> {
     let mut space = [0u8; 24];
     let m = at_most(n, 24);
     let marks: &mut [u8] = &mut space[0..m];
@@ -21,6 +28,7 @@ fn left_with(n: usize, summary: &[u32], first: &[u32], second: &[u32]) -> Seen {
     };
     junk_marks(marks);
     left(
+        rt,
         run,
         answer(0, summary.len() / 3),
         marks,
@@ -31,28 +39,30 @@ fn left_with(n: usize, summary: &[u32], first: &[u32], second: &[u32]) -> Seen {
 }
 
 // The same of summarising, with a cleared work list.
-pub fn left_condensed(summary: &[u32], map: &[u32]) -> Seen {
+pub fn left_condensed(rt: &impl Print, summary: &[u32], map: &[u32]) -> io::Result<Seen> {
     let work = [0u32; 48];
     let n = at_most(map.len(), 24);
-    left_with(n, summary, map, &work[0..2 * n])
+    left_with(rt, n, summary, map, &work[0..2 * n])
 }
 
 fn saturate_again(
+    rt: &impl Print,
     tally: &mut [u64; TALLY],
     call: usize,
     seed: u64,
     words: Vocabulary,
     summary: &[u32],
     roster: &[u8],
-) {
+) -> io::Result<()> {
     let wanted = of_lengths(summary.len(), 0, 0);
-    let got = table_call(tally, SATURATE, seed, words, summary, roster, wanted);
-    let kept = left_with(roster.len(), summary, &[], &[]);
-    check(tally, call, seed, b"saturated", same(got, kept));
+    let got = table_call(rt, tally, SATURATE, seed, words, summary, roster, wanted)?;
+    let kept = left_with(rt, roster.len(), summary, &[], &[])?;
+    check(rt, tally, call, seed, b"saturated", same(got, kept))
 }
 
 // Reworks a summary that came with a map. `second` is the map that it has at rest.
 fn rework(
+    rt: &impl Print,
     tally: &mut [u64; TALLY],
     call: usize,
     seed: u64,
@@ -61,14 +71,14 @@ fn rework(
     roster: &[u8],
     first: &[u32],
     second: &[u32],
-) {
+) -> io::Result<()> {
     let n = at_most(roster.len(), 24);
     let wanted = of_lengths(summary.len(), n, 2 * n);
-    saturate_again(tally, call, seed, words, summary, roster);
-    let got = table_call(tally, call, seed, words, summary, roster, wanted);
-    let kept = left_condensed(summary, second);
-    check(tally, call, seed, b"again", same(got, kept));
-    check(tally, call, seed, b"carried", carries(first, second));
+    saturate_again(rt, tally, call, seed, words, summary, roster)?;
+    let got = table_call(rt, tally, call, seed, words, summary, roster, wanted)?;
+    let kept = left_condensed(rt, summary, second)?;
+    check(rt, tally, call, seed, b"again", same(got, kept))?;
+    check(rt, tally, call, seed, b"carried", carries(first, second))
 }
 
 fn condense(
@@ -112,6 +122,7 @@ pub fn closure(words: Vocabulary, table: &[u32], roster: &[u8], closed: &mut [u3
 }
 
 fn ship_into(
+    rt: &impl Print,
     tally: &mut [u64; TALLY],
     call: usize,
     seed: u64,
@@ -121,19 +132,20 @@ fn ship_into(
     res: &mut [u32],
     first: &mut [u32],
     second: &mut [u32],
-) -> usize
-    ensures { result ≤ length res.new }
+) -> io::Result<usize>
+    ensures { IfOk result (λ n. n ≤ length res.new) }
 {
     let end = summary_of(call, words, table, roster, res, first);
     let summary = &res[0..end];
     own_map(summary, second);
-    rework(tally, call, seed, words, summary, roster, first, second);
-    end
+    rework(rt, tally, call, seed, words, summary, roster, first, second)?;
+    Ok(end)
 }
 
 // Summarises a saturated table into a result list and reworks what that leaves. Answers how many numbers the summary's triples
 // take.
 pub fn ship(
+    rt: &impl Print,
     tally: &mut [u64; TALLY],
     call: usize,
     seed: u64,
@@ -141,16 +153,17 @@ pub fn ship(
     table: &[u32],
     roster: &[u8],
     res: &mut [u32],
-) -> usize
-    ensures { result ≤ length res.new }
+) -> io::Result<usize>
+    ensures { IfOk result (λ n. n ≤ length res.new) }
 {
     let mut first = [0u32; 24];
     let mut second = [0u32; 24];
     let n = at_most(roster.len(), 24);
     let wanted = of_lengths(res.len(), n, 2 * n);
-    let got = table_call(tally, call, seed, words, table, roster, wanted);
-    check(tally, call, seed, b"accepted", got.refused == 0);
+    let got = table_call(rt, tally, call, seed, words, table, roster, wanted)?;
+    check(rt, tally, call, seed, b"accepted", got.refused == 0)?;
     ship_into(
+        rt,
         tally,
         call,
         seed,

@@ -8,6 +8,7 @@ use naive_lists::Answer;
 use query::{End, Pattern, Query};
 use random_sites::random::{at_most, get};
 use random_sites::words::plain_words;
+use std::io;
 
 fn engine(show: bool) -> Run {
     Run {
@@ -25,22 +26,24 @@ fn plain(show: bool) -> Run {
 
 // Counts an answer, and a difference if there is one; whether the lists are to be printed.
 fn settle(
+    rt: &impl Print,
     tally: &mut [u64; TALLY],
     call: usize,
     seed: u64,
     column: u32,
     got: Seen,
     want: Seen,
-) -> bool {
+) -> io::Result<bool> {
     record(tally, call, column);
     if same(got, want) {
-        return false;
+        return Ok(false);
     }
-    differs(tally, call, seed)
+    differs(rt, tally, call, seed)
 }
 
 // A call on a table with a roster, with lists of those lengths. The own roster is as long as the roster.
 pub fn table_call(
+    rt: &impl Print,
     tally: &mut [u64; TALLY],
     call: usize,
     seed: u64,
@@ -48,14 +51,14 @@ pub fn table_call(
     table: &[u32],
     roster: &[u8],
     wanted: Lengths,
-) -> Seen {
-    let got = after(engine(false), call, words, table, roster, wanted);
-    let want = after(plain(false), call, words, table, roster, wanted);
-    if settle(tally, call, seed, got.refused, got, want) {
-        after(engine(true), call, words, table, roster, wanted);
-        after(plain(true), call, words, table, roster, wanted);
+) -> io::Result<Seen> {
+    let got = after(rt, engine(false), call, words, table, roster, wanted)?;
+    let want = after(rt, plain(false), call, words, table, roster, wanted)?;
+    if settle(rt, tally, call, seed, got.refused, got, want)? {
+        after(rt, engine(true), call, words, table, roster, wanted)?;
+        after(rt, plain(true), call, words, table, roster, wanted)?;
     }
-    got
+    Ok(got)
 }
 
 // The column of a yes or no answer.
@@ -67,29 +70,38 @@ pub fn column(a: Answer) -> u32 {
 }
 
 // An answer and its place, folded.
-fn placed(run: Run, a: Answer) -> Seen {
-    fold_place(run, answered(run, a.refused, a.count), a.place)
+fn placed(rt: &impl Print, run: Run, a: Answer) -> io::Result<Seen> {
+    fold_place(rt, run, answered(rt, run, a.refused, a.count)?, a.place)
 }
 
 // Counts the answers of a call that leaves no lists.
-fn settle_answers(tally: &mut [u64; TALLY], call: usize, seed: u64, got: Answer, want: Answer) {
-    let a = placed(engine(false), got);
-    let b = placed(plain(false), want);
-    if settle(tally, call, seed, column(got), a, b) {
-        placed(engine(true), got);
-        placed(plain(true), want);
+fn settle_answers(
+    rt: &impl Print,
+    tally: &mut [u64; TALLY],
+    call: usize,
+    seed: u64,
+    got: Answer,
+    want: Answer,
+) -> io::Result<()> {
+    let a = placed(rt, engine(false), got)?;
+    let b = placed(rt, plain(false), want)?;
+    if settle(rt, tally, call, seed, column(got), a, b)? {
+        placed(rt, engine(true), got)?;
+        placed(rt, plain(true), want)?;
     }
+    Ok(())
 }
 
 // What the engine answers.
 pub fn look_up(
+    rt: &impl Print,
     tally: &mut [u64; TALLY],
     seed: u64,
     list: &[u32],
     s: u32,
     p: u32,
     o: u32,
-) -> Answer {
+) -> io::Result<Answer> {
     let t = Triple {
         subject: s,
         property: p,
@@ -97,8 +109,8 @@ pub fn look_up(
     };
     let got = of_found(look_up::look_up(list, t));
     let want = naive_ask::look_up(list, s, p, o);
-    settle_answers(tally, LOOK_UP, seed, got, want);
-    got
+    settle_answers(rt, tally, LOOK_UP, seed, got, want)?;
+    Ok(got)
 }
 
 fn end_of(kind: u32, value: u32) -> End {
@@ -136,15 +148,16 @@ fn query_of(query: &[u32]) -> Query {
 
 // The column of what the engine answers.
 pub fn ask(
+    rt: &impl Print,
     tally: &mut [u64; TALLY],
     seed: u64,
     words: Vocabulary,
     table: &[u32],
     map: &[u32],
     query: &[u32],
-) -> u32 {
+) -> io::Result<u32> {
     let got = of_asked(ask::ask(words, table, map, query_of(query)));
     let want = naive_ask::ask(plain_words(words), table, map, query);
-    settle_answers(tally, ASK, seed, got, want);
-    column(got)
+    settle_answers(rt, tally, ASK, seed, got, want)?;
+    Ok(column(got))
 }

@@ -6,6 +6,7 @@ use model::Vocabulary;
 use naive_lists::Answer;
 use random_sites::random::at_most;
 use random_sites::words::plain_words;
+use std::io;
 
 // The lengths of the lists that a call is lent: the result, then the map and the work list, or sources and targets.
 #[derive(Clone, Copy)]
@@ -109,22 +110,24 @@ fn by_one(
 
 // An answer and the lists that it left.
 pub fn left(
+    rt: &impl Print,
     run: Run,
     got: Answer,
     marks: &[u8],
     res: &[u32],
     first: &[u32],
     second: &[u32],
-) -> Seen {
-    let a = answered(run, got.refused, got.count);
-    let b = fold_roster(run, a, b"roster", marks);
-    let c = fold_list(run, b, b"result", res);
-    let d = fold_list(run, c, b"first", first);
-    fold_list(run, d, b"second", second)
+) -> io::Result<Seen> {
+    let a = answered(rt, run, got.refused, got.count)?;
+    let b = fold_roster(rt, run, a, b"roster", marks)?;
+    let c = fold_list(rt, run, b, b"result", res)?;
+    let d = fold_list(rt, run, c, b"first", first)?;
+    fold_list(rt, run, d, b"second", second)
 }
 
 // A call over lists that are lent.
 fn over(
+    rt: &impl Print,
     run: Run,
     call: usize,
     words: Vocabulary,
@@ -134,23 +137,24 @@ fn over(
     res: &mut [u32],
     first: &mut [u32],
     second: &mut [u32],
-) -> Seen {
+) -> io::Result<Seen> {
     junk_all(marks, res, first, second);
     let got = by_one(
         run.plain, call, words, table, roster, marks, res, first, second,
     );
-    left(run, got, marks, res, first, second)
+    left(rt, run, got, marks, res, first, second)
 }
 
 // Over lists for a site of up to 311 codes.
 fn over_small(
+    rt: &impl Print,
     run: Run,
     call: usize,
     words: Vocabulary,
     table: &[u32],
     roster: &[u8],
     wanted: Lengths,
-) -> Seen {
+) -> io::Result<Seen> {
     let mut marks = [0u8; 311];
     let mut result = [0u32; 600];
     let mut first = [0u32; 311];
@@ -160,6 +164,7 @@ fn over_small(
     let a = at_most(wanted.first, 311);
     let b = at_most(wanted.second, 622);
     over(
+        rt,
         run,
         call,
         words,
@@ -174,13 +179,14 @@ fn over_small(
 
 // Over lists for a site of up to 65,537 codes.
 fn over_large(
+    rt: &impl Print,
     run: Run,
     call: usize,
     words: Vocabulary,
     table: &[u32],
     roster: &[u8],
     wanted: Lengths,
-) -> Seen {
+) -> io::Result<Seen> {
     let mut marks = [0u8; 65537];
     let mut result = [0u32; 600];
     let mut first = [0u32; 65537];
@@ -190,6 +196,7 @@ fn over_large(
     let a = at_most(wanted.first, 65537);
     let b = at_most(wanted.second, 131074);
     over(
+        rt,
         run,
         call,
         words,
@@ -204,15 +211,16 @@ fn over_large(
 
 // What an engine leaves after a call, with lists of those lengths.
 pub fn after(
+    rt: &impl Print,
     run: Run,
     call: usize,
     words: Vocabulary,
     table: &[u32],
     roster: &[u8],
     wanted: Lengths,
-) -> Seen {
+) -> io::Result<Seen> {
     if 311 < roster.len() {
-        return over_large(run, call, words, table, roster, wanted);
+        return over_large(rt, run, call, words, table, roster, wanted);
     }
-    over_small(run, call, words, table, roster, wanted)
+    over_small(rt, run, call, words, table, roster, wanted)
 }

@@ -1,6 +1,7 @@
 // What a call of one engine leaves, as four numbers: its answer, and two sums into which the answer and every lent list are folded.
 // The two engines are run one after the other, each over its own lists, and what they leave is compared.
 use super::report;
+use std::io;
 
 const HALF: u64 = 4294967296;
 
@@ -45,9 +46,9 @@ pub fn fold_count(seen: Seen, count: usize) -> Seen {
 }
 
 // An answer before any list is folded.
-pub fn answered(run: Run, refused: u32, count: usize) -> Seen {
+pub fn answered(rt: &impl Print, run: Run, refused: u32, count: usize) -> io::Result<Seen> {
     if run.show {
-        report::show_answer(run.plain, refused, count);
+        report::show_answer(rt, run.plain, refused, count)?;
     }
     let seen = Seen {
         refused: refused,
@@ -55,15 +56,15 @@ pub fn answered(run: Run, refused: u32, count: usize) -> Seen {
         one: 1,
         two: 1,
     };
-    fold_count(fold(seen, refused as u64), count)
+    Ok(fold_count(fold(seen, refused as u64), count))
 }
 
 // Folds the place that a look up or a feed reports.
-pub fn fold_place(run: Run, seen: Seen, place: usize) -> Seen {
+pub fn fold_place(rt: &impl Print, run: Run, seen: Seen, place: usize) -> io::Result<Seen> {
     if run.show {
-        report::show_place(run.plain, place);
+        report::show_place(rt, run.plain, place)?;
     }
-    fold_count(seen, place)
+    Ok(fold_count(seen, place))
 }
 
 fn fold_numbers(seen: Seen, list: &[u32]) -> Seen {
@@ -87,19 +88,31 @@ fn fold_marks(seen: Seen, roster: &[u8]) -> Seen {
 }
 
 // Folds a list, its length and each number.
-pub fn fold_list(run: Run, seen: Seen, name: &[u8], list: &[u32]) -> Seen {
+pub fn fold_list(
+    rt: &impl Print,
+    run: Run,
+    seen: Seen,
+    name: &[u8],
+    list: &[u32],
+) -> io::Result<Seen> {
     if run.show {
-        report::show_list(run.plain, name, list);
+        report::show_list(rt, run.plain, name, list)?;
     }
-    fold_numbers(seen, list)
+    Ok(fold_numbers(seen, list))
 }
 
 // The same of a roster.
-pub fn fold_roster(run: Run, seen: Seen, name: &[u8], roster: &[u8]) -> Seen {
+pub fn fold_roster(
+    rt: &impl Print,
+    run: Run,
+    seen: Seen,
+    name: &[u8],
+    roster: &[u8],
+) -> io::Result<Seen> {
     if run.show {
-        report::show_roster(run.plain, name, roster);
+        report::show_roster(rt, run.plain, name, roster)?;
     }
-    fold_marks(seen, roster)
+    Ok(fold_marks(seen, roster))
 }
 
 // Whether two engines left the same.

@@ -1,7 +1,7 @@
 // The tally: sixteen counts for each of ten calls, by the number answered, 15 for yes, maybe and new, and for a removal of a triple whose
 // ends others keep; the last number is that of the differences.
-use libc::STDOUT_FILENO;
 use random_sites::random::at_most;
+use std::io;
 
 pub const COLUMNS: usize = 16;
 
@@ -40,52 +40,27 @@ pub const FEED: usize = 8;
 
 pub const REMOVE: usize = 9;
 
-fn print(text: &[u8]) {
-    io::write_all(STDOUT_FILENO, text);
+fn print(rt: &impl Print, text: &[u8]) -> io::Result<()> {
+    rt.write_all(text)
 }
 
-fn print_number(x: u64) {
-    io::print_decimal(STDOUT_FILENO, x);
+fn print_number(rt: &impl Print, x: u64) -> io::Result<()> {
+    rt.print(x)
 }
 
-fn print_call(call: usize) {
-    if call == OWN_ROSTER {
-        print(b"own-roster");
-        return;
-    }
-    if call == SATURATE {
-        print(b"saturate");
-        return;
-    }
-    if call == CLIQUES {
-        print(b"cliques");
-        return;
-    }
-    if call == SUMMARISE {
-        print(b"summarise");
-        return;
-    }
-    if call == STRONG {
-        print(b"summarise-strong");
-        return;
-    }
-    if call == LOOK_UP {
-        print(b"look-up");
-        return;
-    }
-    if call == ASK {
-        print(b"ask");
-        return;
-    }
-    if call == OPEN {
-        print(b"open");
-        return;
-    }
-    if call == FEED {
-        print(b"feed");
-        return;
-    }
-    print(b"remove");
+fn print_call(rt: &impl Print, call: usize) -> io::Result<()> {
+    rt.print(match call {
+        OWN_ROSTER => "own-roster",
+        SATURATE => "saturate",
+        CLIQUES => "cliques",
+        SUMMARISE => "summarise",
+        STRONG => "summarise-strong",
+        LOOK_UP => "look-up",
+        ASK => "ask",
+        OPEN => "open",
+        FEED => "feed",
+        _ => "remove",
+    })
 }
 
 fn add_one(tally: &mut [u64; TALLY], i: usize) {
@@ -105,39 +80,47 @@ pub fn record(tally: &mut [u64; TALLY], call: usize, answer: u32) {
 }
 
 // Reports what differs.
-pub fn check(tally: &mut [u64; TALLY], call: usize, seed: u64, what: &[u8], ok: bool) {
+pub fn check(
+    rt: &impl Print,
+    tally: &mut [u64; TALLY],
+    call: usize,
+    seed: u64,
+    what: &[u8],
+    ok: bool,
+) -> io::Result<()> {
     if ok {
-        return;
+        return Ok(());
     }
     add_one(tally, DIFFERENCES);
-    print(b"(different ");
-    print_call(call);
-    print(b" case ");
-    print_number(seed);
-    print(b" ");
-    print(what);
-    print(b")\n");
+    print!(rt; "(different ")?;
+    print_call(rt, call)?;
+    print!(rt; " case {seed} ")?;
+    print(rt, what)?;
+    println!(rt; ")")
 }
 
 // Reports that the engines left different answers or lists; whether the lists are to be printed.
-pub fn differs(tally: &mut [u64; TALLY], call: usize, seed: u64) -> bool {
+pub fn differs(
+    rt: &impl Print,
+    tally: &mut [u64; TALLY],
+    call: usize,
+    seed: u64,
+) -> io::Result<bool> {
     add_one(tally, DIFFERENCES);
-    print(b"(different ");
-    print_call(call);
-    print(b" case ");
-    print_number(seed);
-    print(b")\n");
-    tally[DIFFERENCES] <= SHOWN
+    print!(rt; "(different ")?;
+    print_call(rt, call)?;
+    println!(rt; " case {seed})")?;
+    Ok(tally[DIFFERENCES] <= SHOWN)
 }
 
 // What stands before a list: the engine that left it, and its name.
-fn print_engine(plain: bool, name: &[u8]) {
+fn print_engine(rt: &impl Print, plain: bool, name: &[u8]) -> io::Result<()> {
     if plain {
-        print(b"(plain ");
+        print!(rt; "(plain ")?;
     } else {
-        print(b"(engine ");
+        print!(rt; "(engine ")?;
     }
-    print(name);
+    print(rt, name)
 }
 
 // A number of a list, as wide as a sum.
@@ -150,89 +133,79 @@ pub fn wide_mark(x: u8) -> u64 {
     x as u64
 }
 
-fn print_value(value: u64) {
-    print(b" ");
-    print_number(value);
+fn print_value(rt: &impl Print, value: u64) -> io::Result<()> {
+    print!(rt; " {value}")
 }
 
-fn print_values(list: &[u32]) {
-    let mut i = 0;
-    while i < list.len() {
-        print_value(wide(list[i]));
-        i += 1;
+fn print_values(rt: &impl Print, list: &[u32]) -> io::Result<()> {
+    for &number in list {
+        print_value(rt, wide(number))?;
     }
+    Ok(())
 }
 
-fn print_marks(roster: &[u8]) {
-    let mut i = 0;
-    while i < roster.len() {
-        print_value(wide_mark(roster[i]));
-        i += 1;
+fn print_marks(rt: &impl Print, roster: &[u8]) -> io::Result<()> {
+    for &mark in roster {
+        print_value(rt, wide_mark(mark))?;
     }
+    Ok(())
 }
 
 // The answer of an engine.
-pub fn show_answer(plain: bool, refused: u32, count: usize) {
-    print_engine(plain, b"answer");
-    print_value(refused as u64);
-    print_value(count as u64);
-    print(b")\n");
+pub fn show_answer(rt: &impl Print, plain: bool, refused: u32, count: usize) -> io::Result<()> {
+    print_engine(rt, plain, b"answer")?;
+    print_value(rt, refused as u64)?;
+    print_value(rt, count as u64)?;
+    println!(rt; ")")
 }
 
 // The place that an engine reported.
-pub fn show_place(plain: bool, place: usize) {
-    print_engine(plain, b"place");
-    print_value(place as u64);
-    print(b")\n");
+pub fn show_place(rt: &impl Print, plain: bool, place: usize) -> io::Result<()> {
+    print_engine(rt, plain, b"place")?;
+    print_value(rt, place as u64)?;
+    println!(rt; ")")
 }
 
 // A list that an engine left, at most its first 1,000 numbers.
-pub fn show_list(plain: bool, name: &[u8], list: &[u32]) {
+pub fn show_list(rt: &impl Print, plain: bool, name: &[u8], list: &[u32]) -> io::Result<()> {
     let end = at_most(1000, list.len());
-    print_engine(plain, name);
-    print_values(&list[0..end]);
-    print(b")\n");
+    print_engine(rt, plain, name)?;
+    print_values(rt, &list[0..end])?;
+    println!(rt; ")")
 }
 
 // A roster that an engine left, at most its first 1,000 marks.
-pub fn show_roster(plain: bool, name: &[u8], roster: &[u8]) {
+pub fn show_roster(rt: &impl Print, plain: bool, name: &[u8], roster: &[u8]) -> io::Result<()> {
     let end = at_most(1000, roster.len());
-    print_engine(plain, name);
-    print_marks(&roster[0..end]);
-    print(b")\n");
+    print_engine(rt, plain, name)?;
+    print_marks(rt, &roster[0..end])?;
+    println!(rt; ")")
 }
 
-fn print_expected(expected: u32, got: u32) {
-    print(b" expected ");
-    print_number(expected as u64);
-    print(b" got ");
-    print_number(got as u64);
-    print(b")\n");
+fn print_expected(rt: &impl Print, expected: u32, got: u32) -> io::Result<()> {
+    println!(rt; " expected {expected} got {got})")
 }
 
 // A small case of the paper: the number that it expects and the one that the engine answered; 15 stands for yes and maybe.
-pub fn small(call: usize, name: &[u8], expected: u32, got: u32) {
-    print(b"(small ");
-    print_call(call);
-    print(b" ");
-    print(name);
-    print_expected(expected, got);
+pub fn small(rt: &impl Print, call: usize, name: &[u8], expected: u32, got: u32) -> io::Result<()> {
+    print!(rt; "(small ")?;
+    print_call(rt, call)?;
+    print!(rt; " ")?;
+    print(rt, name)?;
+    print_expected(rt, expected, got)
 }
 
 // The same for a site size.
-pub fn sized(call: usize, n: usize, expected: u32, got: u32) {
-    print(b"(small ");
-    print_call(call);
-    print(b" N ");
-    print_number(n as u64);
-    print_expected(expected, got);
+pub fn sized(rt: &impl Print, call: usize, n: usize, expected: u32, got: u32) -> io::Result<()> {
+    print!(rt; "(small ")?;
+    print_call(rt, call)?;
+    print!(rt; " N {n}")?;
+    print_expected(rt, expected, got)
 }
 
 // How many tables had their summaries worked again.
-pub fn reworked(tables: u64) {
-    print(b"(reworked tables ");
-    print_number(tables);
-    print(b")\n");
+pub fn reworked(rt: &impl Print, tables: u64) -> io::Result<()> {
+    println!(rt; "(reworked tables {tables})")
 }
 
 fn sum(tally: &[u64; TALLY], call: usize) -> u64 {
@@ -255,23 +228,24 @@ fn count_of(tally: &[u64; TALLY], call: usize, column: usize) -> u64 {
 }
 
 // A refusal's count, if there are any.
-fn print_refusal(tally: &[u64; TALLY], call: usize, number: usize) {
+fn print_refusal(
+    rt: &impl Print,
+    tally: &[u64; TALLY],
+    call: usize,
+    number: usize,
+) -> io::Result<()> {
     let count = count_of(tally, call, number);
     if count == 0 {
-        return;
+        return Ok(());
     }
-    print(b" refused-");
-    print_number(number as u64);
-    print(b" ");
-    print_number(count);
+    print!(rt; " refused-{number} {count}")
 }
 
-fn print_refusals(tally: &[u64; TALLY], call: usize) {
-    let mut number = 1;
-    while number < YES_COLUMN {
-        print_refusal(tally, call, number);
-        number += 1;
+fn print_refusals(rt: &impl Print, tally: &[u64; TALLY], call: usize) -> io::Result<()> {
+    for number in 1..YES_COLUMN {
+        print_refusal(rt, tally, call, number)?;
     }
+    Ok(())
 }
 
 // Whether a call answers yes or no.
@@ -286,46 +260,36 @@ fn says_yes(call: usize) -> bool {
 }
 
 // The accepted answers of a call, yes and no apart where it says so, and the two kinds of removals.
-fn print_accepted(tally: &[u64; TALLY], call: usize) {
+fn print_accepted(rt: &impl Print, tally: &[u64; TALLY], call: usize) -> io::Result<()> {
+    let yes = count_of(tally, call, YES_COLUMN);
     if says_yes(call) {
-        print(b" yes ");
-        print_number(count_of(tally, call, YES as usize));
-        print(b" no ");
-        return;
+        return print!(rt; " yes {yes} no ");
     }
     if call == REMOVE {
-        print(b" ends-kept ");
-        print_number(count_of(tally, call, YES as usize));
-        print(b" others ");
-        return;
+        return print!(rt; " ends-kept {yes} others ");
     }
-    print(b" accepted ");
+    print!(rt; " accepted ")
 }
 
 // A call's counts, if there are any.
-fn print_line(tally: &[u64; TALLY], call: usize) {
+fn print_line(rt: &impl Print, tally: &[u64; TALLY], call: usize) -> io::Result<()> {
     let cases = sum(tally, call);
     if cases == 0 {
-        return;
+        return Ok(());
     }
-    print(b"(");
-    print_call(call);
-    print(b" cases ");
-    print_number(cases);
-    print_accepted(tally, call);
-    print_number(count_of(tally, call, 0));
-    print_refusals(tally, call);
-    print(b")\n");
+    print!(rt; "(")?;
+    print_call(rt, call)?;
+    print!(rt; " cases {cases}")?;
+    print_accepted(rt, tally, call)?;
+    print_number(rt, count_of(tally, call, 0))?;
+    print_refusals(rt, tally, call)?;
+    println!(rt; ")")
 }
 
 // A line for each call that was compared, and the number of differences.
-pub fn counts(tally: &[u64; TALLY]) {
-    let mut call = 0;
-    while call < CALLS {
-        print_line(tally, call);
-        call += 1;
+pub fn counts(rt: &impl Print, tally: &[u64; TALLY]) -> io::Result<()> {
+    for call in 0..CALLS {
+        print_line(rt, tally, call)?;
     }
-    print(b"(differences ");
-    print_number(tally[DIFFERENCES]);
-    print(b")\n");
+    println!(rt; "(differences {})", tally[DIFFERENCES])
 }

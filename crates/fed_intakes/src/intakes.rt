@@ -12,6 +12,7 @@ use model::Vocabulary;
 use naive_intake::{Called, ends_kept};
 use random_sites::random::at_most;
 use random_sites::words::plain_words;
+use std::io;
 
 // What one call answers: a refusal's number, or 0 and a count, 1 for new and 2 for removed; the place, which is 0 for an opening; and the
 // record's two counts.
@@ -286,16 +287,16 @@ fn shown(count: usize) -> u32 {
     at_most(count, 4294967295) as u32
 }
 
-fn show_counts(plain: bool, held: usize, summarised: usize) {
+fn show_counts(rt: &impl Print, plain: bool, held: usize, summarised: usize) -> io::Result<()> {
     let counts = [shown(held), shown(summarised)];
-    show_list(plain, b"counts", &counts);
+    show_list(rt, plain, b"counts", &counts)
 }
 
 // Folds an answer, its place and both counts.
-fn fold_step(run: Run, seen: Seen, step: Step) -> Seen {
+fn fold_step(rt: &impl Print, run: Run, seen: Seen, step: Step) -> io::Result<Seen> {
     if run.show {
-        show_answer(run.plain, step.refused, step.count);
-        show_counts(run.plain, step.held, step.summarised);
+        show_answer(rt, run.plain, step.refused, step.count)?;
+        show_counts(rt, run.plain, step.held, step.summarised)?;
     }
     let next = Seen {
         refused: step.refused,
@@ -305,23 +306,24 @@ fn fold_step(run: Run, seen: Seen, step: Step) -> Seen {
     };
     let a = fold(next, step.refused as u64);
     let b = fold_count(a, step.count);
-    let c = fold_place(run, b, step.place);
+    let c = fold_place(rt, run, b, step.place)?;
     let d = fold_count(c, step.held);
-    fold_count(d, step.summarised)
+    Ok(fold_count(d, step.summarised))
 }
 
 fn fold_lists(
+    rt: &impl Print,
     run: Run,
     seen: Seen,
     triples: &[u32],
     summary: &[u32],
     weights: &[u32],
     map: &[u32],
-) -> Seen {
-    let a = fold_list(run, seen, b"triples", triples);
-    let b = fold_list(run, a, b"summary", summary);
-    let c = fold_list(run, b, b"weights", weights);
-    fold_list(run, c, b"map", map)
+) -> io::Result<Seen> {
+    let a = fold_list(rt, run, seen, b"triples", triples)?;
+    let b = fold_list(rt, run, a, b"summary", summary)?;
+    let c = fold_list(rt, run, b, b"weights", weights)?;
+    fold_list(rt, run, c, b"map", map)
 }
 
 fn weigh(weights: &[u32]) -> Weighed {
@@ -450,22 +452,24 @@ fn after(state: State, step: Step, seen: Seen, weights: &[u32], map: &[u32]) -> 
 
 // Folds what an opening leaves.
 fn fold_opened(
+    rt: &impl Print,
     run: Run,
     step: Step,
     triples: &[u32],
     summary: &[u32],
     weights: &[u32],
     map: &[u32],
-) -> State {
+) -> io::Result<State> {
     let state = start();
-    let seen = fold_step(run, seen_of(state), step);
-    let all = fold_lists(run, seen, triples, summary, weights, map);
+    let seen = fold_step(rt, run, seen_of(state), step)?;
+    let all = fold_lists(rt, run, seen, triples, summary, weights, map)?;
     let mut next = after(state, step, all, weights, map);
     next.opened = step.refused;
-    next
+    Ok(next)
 }
 
 fn opened(
+    rt: &impl Print,
     run: Run,
     words: Vocabulary,
     roster: &[u8],
@@ -473,9 +477,9 @@ fn opened(
     summary: &mut [u32],
     weights: &mut [u32],
     map: &mut [u32],
-) -> State {
+) -> io::Result<State> {
     let step = open(run, words, roster, triples, summary, weights, map);
-    fold_opened(run, step, triples, summary, weights, map)
+    fold_opened(rt, run, step, triples, summary, weights, map)
 }
 
 fn junk_all(triples: &mut [u32], summary: &mut [u32], weights: &mut [u32], map: &mut [u32]) {
@@ -487,6 +491,7 @@ fn junk_all(triples: &mut [u32], summary: &mut [u32], weights: &mut [u32], map: 
 
 // Junk in every list, and the intake opened over it if the case says so.
 fn begin(
+    rt: &impl Print,
     run: Run,
     case: Case,
     roster: &[u8],
@@ -494,10 +499,11 @@ fn begin(
     summary: &mut [u32],
     weights: &mut [u32],
     map: &mut [u32],
-) -> State {
+) -> io::Result<State> {
     junk_all(triples, summary, weights, map);
     if case.opens {
         return opened(
+            rt,
             shown_at(run, 0, case.calls),
             case.words,
             roster,
@@ -507,7 +513,7 @@ fn begin(
             map,
         );
     }
-    start()
+    Ok(start())
 }
 
 // Lists are printed after the last call only.
@@ -520,6 +526,7 @@ fn shown_at(run: Run, calls: usize, last: usize) -> Run {
 
 // Folds what a call leaves, and counts its answer.
 fn fold_called(
+    rt: &impl Print,
     run: Run,
     state: State,
     removes: bool,
@@ -530,11 +537,11 @@ fn fold_called(
     weights: &[u32],
     map: &[u32],
     work: &[u32],
-) -> State {
-    let seen = fold_step(run, seen_of(state), step);
-    let lists = fold_lists(run, seen, triples, summary, weights, map);
-    let all = fold_list(run, lists, b"work", work);
-    after(counted(state, removes, kept, step), step, all, weights, map)
+) -> io::Result<State> {
+    let seen = fold_step(rt, run, seen_of(state), step)?;
+    let lists = fold_lists(rt, run, seen, triples, summary, weights, map)?;
+    let all = fold_list(rt, run, lists, b"work", work)?;
+    Ok(after(counted(state, removes, kept, step), step, all, weights, map))
 }
 
 // Whether the triple of a removal has ends that other held triples keep.
@@ -554,6 +561,7 @@ fn kept(call: Call, roster: &[u8], triples: &[u32], held: usize) -> bool {
 }
 
 fn called(
+    rt: &impl Print,
     run: Run,
     state: State,
     call: Call,
@@ -563,7 +571,7 @@ fn called(
     weights: &mut [u32],
     map: &mut [u32],
     work: &mut [u32],
-) -> State {
+) -> io::Result<State> {
     let counts = Counts {
         held: state.held,
         summarised: state.summarised,
@@ -573,6 +581,7 @@ fn called(
         run.plain, counts, call, roster, triples, summary, weights, map, work,
     );
     fold_called(
+        rt,
         run,
         state,
         call.removes,
@@ -596,6 +605,7 @@ fn lent<'a>(yes: bool, roster: &'a [u8], spoilt: &'a [u8]) -> &'a [u8] {
 
 // A call with its roster and a work list of its length.
 fn called_at<'a>(
+    rt: &impl Print,
     run: Run,
     state: State,
     call: Call,
@@ -606,9 +616,10 @@ fn called_at<'a>(
     weights: &mut [u32],
     map: &mut [u32],
     work: &mut [u32],
-) -> State {
+) -> io::Result<State> {
     let w = at_most(call.work, work.len());
     called(
+        rt,
         run,
         state,
         call,
@@ -631,6 +642,7 @@ fn calls_after(opened: u32, calls: usize) -> usize {
 
 // So many calls, one after the other.
 fn call_all<'a>(
+    rt: &impl Print,
     run: Run,
     state: State,
     last: usize,
@@ -642,12 +654,13 @@ fn call_all<'a>(
     weights: &mut [u32],
     map: &mut [u32],
     work: &mut [u32],
-) -> State {
+) -> io::Result<State> {
     let mut next = state;
     let mut i = 0;
     while i < last {
         let made = i + 1;
         next = called_at(
+            rt,
             shown_at(run, made, last),
             next,
             call_at(calls, i),
@@ -658,14 +671,15 @@ fn call_all<'a>(
             weights,
             map,
             work,
-        );
+        )?;
         i = made;
     }
-    next
+    Ok(next)
 }
 
 // The whole of a case over lent lists.
 fn over<'a>(
+    rt: &impl Print,
     run: Run,
     case: Case,
     calls: &[u32],
@@ -676,9 +690,10 @@ fn over<'a>(
     weights: &mut [u32],
     map: &mut [u32],
     work: &mut [u32],
-) -> State {
-    let state = begin(run, case, roster, triples, summary, weights, map);
+) -> io::Result<State> {
+    let state = begin(rt, run, case, roster, triples, summary, weights, map)?;
     call_all(
+        rt,
         run,
         state,
         calls_after(state.opened, case.calls),
@@ -693,7 +708,14 @@ fn over<'a>(
     )
 }
 
-fn small<'a>(run: Run, case: Case, calls: &[u32], roster: &'a [u8], spoilt: &'a [u8]) -> State {
+fn small<'a>(
+    rt: &impl Print,
+    run: Run,
+    case: Case,
+    calls: &[u32],
+    roster: &'a [u8],
+    spoilt: &'a [u8],
+) -> io::Result<State> {
     let mut triples = [0u32; 100];
     let mut summary = [0u32; 100];
     let mut weights = [0u32; 100];
@@ -704,6 +726,7 @@ fn small<'a>(run: Run, case: Case, calls: &[u32], roster: &'a [u8], spoilt: &'a 
     let w = at_most(case.weights, 100);
     let m = at_most(case.map, 50);
     over(
+        rt,
         run,
         case,
         calls,
@@ -717,7 +740,14 @@ fn small<'a>(run: Run, case: Case, calls: &[u32], roster: &'a [u8], spoilt: &'a 
     )
 }
 
-fn large<'a>(run: Run, case: Case, calls: &[u32], roster: &'a [u8], spoilt: &'a [u8]) -> State {
+fn large<'a>(
+    rt: &impl Print,
+    run: Run,
+    case: Case,
+    calls: &[u32],
+    roster: &'a [u8],
+    spoilt: &'a [u8],
+) -> io::Result<State> {
     let mut triples = [0u32; 6];
     let mut summary = [0u32; 6];
     let mut weights = [0u32; 2];
@@ -725,6 +755,7 @@ fn large<'a>(run: Run, case: Case, calls: &[u32], roster: &'a [u8], spoilt: &'a 
     let mut work = [0u32; 131074];
     let m = at_most(case.map, 65537);
     over(
+        rt,
         run,
         case,
         calls,
@@ -740,14 +771,15 @@ fn large<'a>(run: Run, case: Case, calls: &[u32], roster: &'a [u8], spoilt: &'a 
 
 // The whole of a case over lists of its own.
 pub fn all_calls<'a>(
+    rt: &impl Print,
     run: Run,
     case: Case,
     calls: &[u32],
     roster: &'a [u8],
     spoilt: &'a [u8],
-) -> State {
+) -> io::Result<State> {
     if roster.len() <= 25 {
-        return small(run, case, calls, roster, spoilt);
+        return small(rt, run, case, calls, roster, spoilt);
     }
-    large(run, case, calls, roster, spoilt)
+    large(rt, run, case, calls, roster, spoilt)
 }

@@ -1,10 +1,10 @@
 // Asks the summary and map of the papers' example its two queries, shows each refusal of ask, and asks a large table.
 #![tactic(auto)]
 
-use libc::STDOUT_FILENO;
 use lists::Code;
 use model::{Vocabulary, refusal_number};
 use query::{Asked, End, Pattern, Query, blank_pattern};
+use std::io;
 
 // The summary of the saturated example.
 const SUMMARY: [u32; 42] = [
@@ -12,19 +12,11 @@ const SUMMARY: [u32; 42] = [
     0, 9, 10, 5, 12, 10, 6, 12, 10, 7, 12,
 ];
 
-fn show(a: Asked) {
+fn show(rt: &impl Print, a: Asked) -> io::Result<()> {
     match a {
-        Asked::Maybe => {
-            io::write_all(STDOUT_FILENO, b"(ask maybe)\n");
-        }
-        Asked::None => {
-            io::write_all(STDOUT_FILENO, b"(ask none)\n");
-        }
-        Asked::Refused(r) => {
-            io::write_all(STDOUT_FILENO, b"(refused ");
-            io::print_decimal(STDOUT_FILENO, refusal_number(r) as u64);
-            io::write_all(STDOUT_FILENO, b")\n");
-        }
+        Asked::Maybe => println!(rt; "(ask maybe)"),
+        Asked::None => println!(rt; "(ask none)"),
+        Asked::Refused(r) => println!(rt; "(refused {})", refusal_number(r)),
     }
 }
 
@@ -56,43 +48,49 @@ fn pair(a: Pattern, b: Pattern, count: u32) -> Query {
     }
 }
 
-fn example() {
+fn example(rt: &impl Print) -> io::Result<()> {
     let a = Code::ABSENT;
     let map: [u32; 14] = [a, a, a, a, a, 5, 6, 7, 8, 9, 10, 10, 12, 12];
-    show(ask::ask(
-        words(4),
-        &SUMMARY,
-        &map,
-        pair(vars(0, 5, 1), vars(0, 6, 2), 2),
-    ));
-    show(ask::ask(
-        words(4),
-        &SUMMARY,
-        &map,
-        pair(vars(0, 7, 1), vars(1, 7, 2), 2),
-    ));
+    show(
+        rt,
+        ask::ask(
+            words(4),
+            &SUMMARY,
+            &map,
+            pair(vars(0, 5, 1), vars(0, 6, 2), 2),
+        ),
+    )?;
+    show(
+        rt,
+        ask::ask(
+            words(4),
+            &SUMMARY,
+            &map,
+            pair(vars(0, 7, 1), vars(1, 7, 2), 2),
+        ),
+    )
 }
 
 // A map that is too short, a word table with a code twice, one with a code that is too large, a reserved code as an object, a query
 // without patterns, one for schema triples with a variable that is too large, one for schema triples.
-fn refusals() {
+fn refusals(rt: &impl Print) -> io::Result<()> {
     let four = [0u32; 4];
     let five = [0u32; 5];
     let table = [5u32, 5, 0];
     let empty = pair(vars(0, 1, 1), vars(0, 1, 1), 0);
     let wrong = pair(vars(8, 1, 1), vars(0, 1, 1), 1);
     let retired = pair(vars(0, 1, 1), vars(8, 1, 1), 1);
-    show(ask::ask(words(4), &table, &four, wrong));
-    show(ask::ask(words(3), &table, &five, wrong));
-    show(ask::ask(words(5), &table, &five, wrong));
-    show(ask::ask(words(4), &table, &five, wrong));
-    show(ask::ask(words(4), &[], &five, empty));
-    show(ask::ask(words(4), &[], &five, wrong));
-    show(ask::ask(words(4), &[], &five, retired));
+    show(rt, ask::ask(words(4), &table, &four, wrong))?;
+    show(rt, ask::ask(words(3), &table, &five, wrong))?;
+    show(rt, ask::ask(words(5), &table, &five, wrong))?;
+    show(rt, ask::ask(words(4), &table, &five, wrong))?;
+    show(rt, ask::ask(words(4), &[], &five, empty))?;
+    show(rt, ask::ask(words(4), &[], &five, wrong))?;
+    show(rt, ask::ask(words(4), &[], &five, retired))
 }
 
 // 100,000 triples 5 5 5, of which none has the object 6.
-fn large() {
+fn large(rt: &impl Print) -> io::Result<()> {
     let table = [5u32; 300000];
     let map: [u32; 7] = [0, 1, 2, 3, 4, 5, 6];
     let p = Pattern {
@@ -100,11 +98,11 @@ fn large() {
         property: 5,
         object: End::Code(6),
     };
-    show(ask::ask(words(4), &table, &map, pair(p, p, 1)));
+    show(rt, ask::ask(words(4), &table, &map, pair(p, p, 1)))
 }
 
-fn main() {
-    example();
-    refusals();
-    large();
+fn main(rt: HostRuntime) -> io::Result<()> {
+    example(&rt)?;
+    refusals(&rt)?;
+    large(&rt)
 }

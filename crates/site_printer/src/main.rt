@@ -2,15 +2,16 @@
 // the answers to its queries.
 #![tactic(auto)]
 
-use libc::{STDIN_FILENO, STDOUT_FILENO};
 use printer::print_site;
+use read_full::read_full;
 use site_form::MOST_BYTES;
+use std::io;
 
 // Reads one byte more than a text may have: more is refused with 8.
-fn main() {
-    let mut input = io::large_buffer();
-    let mut output = io::large_buffer();
-    let n = io::read_full(STDIN_FILENO, &mut input[0..MOST_BYTES + 1]);
+fn main(rt: HostRuntime) -> io::Result<()> {
+    let mut input = [0u8; MOST_BYTES + 1];
+    let mut output = [0u8; 65536];
+    let n = read_full(&mut rt.stdin(), &mut input)?;
     let count = print_site(&input[0..n], &mut output);
-    io::write_all(STDOUT_FILENO, &output[0..count]);
+    rt.write_all(&output[0..count])
 }

@@ -4,12 +4,13 @@
 
 ghost use Rattle.std.specs.Prelude.{◌<◌, ◌≤◌, length};
 
-use libc::STDOUT_FILENO;
 use model::{Vocabulary, refusal_number};
 use printer::print_site;
 use query::{End, Pattern, Query};
+use read_full::read_full;
 use site_form::{Form, Site};
 use site_reader::read;
+use std::io;
 
 // The most triples that are shown of a text.
 const SHOWN: usize = 4;
@@ -20,13 +21,12 @@ fn long(x: u32) -> u64
     x as u64
 }
 
-fn show(word: &[u8], n: u64) {
-    io::write_all(STDOUT_FILENO, word);
-    io::print_decimal(STDOUT_FILENO, n);
+fn show(rt: &impl Print, word: &str, n: u64) -> io::Result<()> {
+    print!(rt; "{word}{n}")
 }
 
-fn close() {
-    io::write_all(STDOUT_FILENO, b")\n");
+fn close(rt: &impl Print) -> io::Result<()> {
+    println!(rt; ")")
 }
 
 // The list as one number, place after place: another order, a lost repeat or a number past the triples
@@ -40,65 +40,64 @@ fn digest(list: &[u32]) -> u64 {
 }
 
 // The triple at place i of the list, if it has that slot.
-fn show_triple(list: &[u32], i: usize) {
+fn show_triple(rt: &impl Print, list: &[u32], i: usize) -> io::Result<()> {
     if i < list.len() / 3 {
-        show(b"(t ", long(list[3 * i]));
-        show(b" ", long(list[3 * i + 1]));
-        show(b" ", long(list[3 * i + 2]));
-        close();
+        show(rt, "(t ", long(list[3 * i]))?;
+        show(rt, " ", long(list[3 * i + 1]))?;
+        show(rt, " ", long(list[3 * i + 2]))?;
+        close(rt)?;
     }
+    Ok(())
 }
 
 // The first triples of the list.
-fn show_triples(list: &[u32], count: usize) {
+fn show_triples(rt: &impl Print, list: &[u32], count: usize) -> io::Result<()> {
     for i in 0..SHOWN {
         if i < count {
-            show_triple(list, i);
+            show_triple(rt, list, i)?;
         }
     }
+    Ok(())
 }
 
-fn show_end(e: End) {
+fn show_end(rt: &impl Print, e: End) -> io::Result<()> {
     match e {
-        End::Var(v) => {
-            show(b"(v ", long(v));
-        }
-        End::Code(c) => {
-            show(b"(c ", long(c));
-        }
+        End::Var(v) => show(rt, "(v ", long(v))?,
+        End::Code(c) => show(rt, "(c ", long(c))?,
     }
-    io::write_all(STDOUT_FILENO, b")");
+    print!(rt; ")")
 }
 
-fn show_pattern(p: Pattern) {
+fn show_pattern(rt: &impl Print, p: Pattern) -> io::Result<()> {
     let subject = p.subject;
     let object = p.object;
-    io::write_all(STDOUT_FILENO, b" (");
-    show_end(subject);
-    show(b" ", long(p.property));
-    io::write_all(STDOUT_FILENO, b" ");
-    show_end(object);
-    io::write_all(STDOUT_FILENO, b")");
+    print!(rt; " (")?;
+    show_end(rt, subject)?;
+    show(rt, " ", long(p.property))?;
+    print!(rt; " ")?;
+    show_end(rt, object)?;
+    print!(rt; ")")
 }
 
 // A query with its count and all its eight patterns.
-fn show_query(q: Query) {
-    show(b"(query ", long(q.count));
+fn show_query(rt: &impl Print, q: Query) -> io::Result<()> {
+    show(rt, "(query ", long(q.count))?;
     for k in 0..8 {
         let p = q.patterns[k];
-        show_pattern(p);
+        show_pattern(rt, p)?;
     }
-    close();
+    close(rt)
 }
 
 // The queries of a site.
-fn show_queries(site: Site) {
+fn show_queries(rt: &impl Print, site: Site) -> io::Result<()> {
     for k in 0..16 {
         if k < site.asks {
             let q = site.queries[k];
-            show_query(q);
+            show_query(rt, q)?;
         }
     }
+    Ok(())
 }
 
 // Whether these are the codes that hold where a text has no line for them.
@@ -111,21 +110,21 @@ fn are_rdfs(words: Vocabulary) -> bool {
 }
 
 // The reserved codes, if they are not 0 to 4.
-fn show_words(words: Vocabulary) {
+fn show_words(rt: &impl Print, words: Vocabulary) -> io::Result<()> {
     if are_rdfs(words) {
-        return;
+        return Ok(());
     }
-    show(b"(words ", long(words.instance));
-    show(b" ", long(words.subclass));
-    show(b" ", long(words.subproperty));
-    show(b" ", long(words.domain));
-    show(b" ", long(words.range));
-    close();
+    show(rt, "(words ", long(words.instance))?;
+    show(rt, " ", long(words.subclass))?;
+    show(rt, " ", long(words.subproperty))?;
+    show(rt, " ", long(words.domain))?;
+    show(rt, " ", long(words.range))?;
+    close(rt)
 }
 
 // Reads a text into a list; shows the answer, N, the numbers of triples and queries, the list's digest, the reserved codes, the first
 // triples and the queries.
-fn show_read(text: &[u8], list: &mut [u32]) {
+fn show_read(rt: &impl Print, text: &[u8], list: &mut [u32]) -> io::Result<()> {
     let answer = read(text, list);
     let site = answer.site;
     let form = answer.form;
@@ -133,31 +132,32 @@ fn show_read(text: &[u8], list: &mut [u32]) {
         Form::Read => 0,
         Form::Refused(r) => long(refusal_number(r)),
     };
-    show(b"(read ", refused);
-    show(b" ", long(site.size));
-    show(b" ", site.count as u64);
-    show(b" ", site.asks as u64);
-    show(b" ", digest(list));
-    close();
+    show(rt, "(read ", refused)?;
+    show(rt, " ", long(site.size))?;
+    show(rt, " ", site.count as u64)?;
+    show(rt, " ", site.asks as u64)?;
+    show(rt, " ", digest(list))?;
+    close(rt)?;
     let words = site.words;
-    show_words(words);
-    show_triples(list, site.count);
-    show_queries(site);
+    show_words(rt, words)?;
+    show_triples(rt, list, site.count)?;
+    show_queries(rt, site)
 }
 
 // Shows what the reader makes of a text with 1,000 slots and with one, and what is printed.
-fn show_text(text: &[u8], k: u64) {
+fn show_text(rt: &impl Print, text: &[u8], k: u64) -> io::Result<()> {
     let mut list = [7u32; 3000];
     let mut short = [7u32; 5];
-    let mut output = io::large_buffer();
-    show(b"(text ", k);
-    close();
-    show_read(text, &mut list);
-    show_read(text, &mut short);
+    let mut output = [0u8; 65536];
+    show(rt, "(text ", k)?;
+    close(rt)?;
+    show_read(rt, text, &mut list)?;
+    show_read(rt, text, &mut short)?;
     let count = print_site(text, &mut output);
     if count <= 65536 {
-        io::write_all(STDOUT_FILENO, &output[0..count]);
+        rt.write_all(&output[0..count])?;
     }
+    Ok(())
 }
 
 // The place of the next `%`, or the end.
@@ -176,19 +176,20 @@ fn next_mark(input: &[u8], from: usize) -> usize
 }
 
 // Shows each text.
-fn show_texts(input: &[u8]) {
+fn show_texts(rt: &impl Print, input: &[u8]) -> io::Result<()> {
     let mut i = 0;
     let mut k = 1;
     while i < input.len() {
         let end = next_mark(input, i);
-        show_text(&input[i..end], k);
+        show_text(rt, &input[i..end], k)?;
         i = end + 2;
         k += 1;
     }
+    Ok(())
 }
 
-fn main() {
+fn main(rt: HostRuntime) -> io::Result<()> {
     let mut input = [0u8; 262144];
-    let n = io::read_full(libc::STDIN_FILENO, &mut input);
-    show_texts(&input[0..n]);
+    let n = read_full(&mut rt.stdin(), &mut input)?;
+    show_texts(&rt, &input[0..n])
 }
