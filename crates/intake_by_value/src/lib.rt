@@ -1,6 +1,5 @@
 // Opening, feeding and removing with the record of counts by value, for the test programs: through these they run `intake::open`,
-// `intake::feed` and `intake::remove`, the form that the scope paper names. The checker does not write the proof of a function that lends a local record
-// by `&mut`, and so it stands here once for each call.
+// `intake::feed` and `intake::remove`, the form that the scope paper names.
 #![tactic(auto)]
 
 ghost use Rattle.model.specs.Triples.{triple};
