@@ -69,20 +69,16 @@ pub fn fold_place(rt: &impl Print, run: Run, seen: Seen, place: usize) -> io::Re
 
 fn fold_numbers(seen: Seen, list: &[u32]) -> Seen {
     let mut next = fold(seen, list.len() as u64);
-    let mut i = 0;
-    while i < list.len() {
-        next = fold(next, report::wide(list[i]));
-        i += 1;
+    for &number in list {
+        next = fold(next, report::wide(number));
     }
     next
 }
 
 fn fold_marks(seen: Seen, roster: &[u8]) -> Seen {
     let mut next = fold(seen, roster.len() as u64);
-    let mut i = 0;
-    while i < roster.len() {
-        next = fold(next, report::wide_mark(roster[i]));
-        i += 1;
+    for &mark in roster {
+        next = fold(next, report::wide_mark(mark));
     }
     next
 }

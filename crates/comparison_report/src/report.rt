@@ -210,10 +210,8 @@ pub fn reworked(rt: &impl Print, tables: u64) -> io::Result<()> {
 
 fn sum(tally: &[u64; TALLY], call: usize) -> u64 {
     let mut total = 0;
-    let mut column = 0;
-    while column < COLUMNS {
+    for column in 0..COLUMNS {
         total = std::num::wrapping_add_u64(total, count_of(tally, call, column));
-        column += 1;
     }
     total
 }

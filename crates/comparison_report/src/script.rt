@@ -91,17 +91,15 @@ pub fn number(text: &[u8], from: usize) -> Got {
 // Puts the numbers that follow, a space before each, into a list; their count.
 pub fn numbers(text: &[u8], from: usize, list: &mut [u32]) -> Got {
     let mut i = from;
-    let mut count = 0u32;
-    while count < 60 {
+    for count in 0..60 {
         if byte_at(text, i) != SPACE {
             return found(count, i);
         }
         let read = number(text, behind(text, i));
         set(list, count as usize, read.value);
         i = read.next;
-        count += 1;
     }
-    found(count, i)
+    found(60, i)
 }
 
 fn mark(byte: u8) -> u8 {
@@ -122,10 +120,8 @@ fn mark_end(text: &[u8], i: usize) -> usize {
 // Puts the digits from a place on into a roster, and 0 behind them.
 pub fn marks(text: &[u8], from: usize, roster: &mut [u8]) {
     let mut i = from;
-    let mut k = 0;
-    while k < roster.len() {
-        roster[k] = mark(byte_at(text, i));
+    for slot in roster {
+        *slot = mark(byte_at(text, i));
         i = mark_end(text, i);
-        k += 1;
     }
 }
