@@ -1,5 +1,5 @@
 // Summarises a saturated table and works what that leaves again.
-ghost use Rattle.std.specs.Prelude.{◌≤◌, IfOk, length};
+ghost use Rattle.std.specs.Prelude.{◌≤◌, IfOk, OnErr, length};
 
 use super::maps::{carries, own_map};
 use comparison::answers::{answer, of_counted};
@@ -133,7 +133,9 @@ fn ship_into(
     first: &mut [u32],
     second: &mut [u32],
 ) -> io::Result<usize>
-    ensures { IfOk result (λ n. n ≤ length res.new) }
+    ensures ok { IfOk result (λ n. n ≤ length res.new) }
+    // a failed print is the only error; the list keeps its length
+    ensures err { OnErr result (length res.new ≡ length res.old) }
 {
     let end = summary_of(call, words, table, roster, res, first);
     let summary = &res[0..end];
@@ -154,7 +156,9 @@ pub fn ship(
     roster: &[u8],
     res: &mut [u32],
 ) -> io::Result<usize>
-    ensures { IfOk result (λ n. n ≤ length res.new) }
+    ensures ok { IfOk result (λ n. n ≤ length res.new) }
+    // a failed print is the only error; the list keeps its length
+    ensures err { OnErr result (length res.new ≡ length res.old) }
 {
     let mut first = [0u32; 24];
     let mut second = [0u32; 24];
