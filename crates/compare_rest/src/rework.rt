@@ -1,5 +1,5 @@
 // Summarises a saturated table and works what that leaves again.
-ghost use Rattle.std.specs.Prelude.{◌≤◌, IfOk, OnErr, length};
+ghost use Rattle.std.specs.Prelude.{◌≡◌, ◌≤◌, IfOk, OnErr, length};
 
 use super::maps::{carries, own_map};
 use comparison::answers::{answer, of_counted};
