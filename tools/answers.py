@@ -244,7 +244,19 @@ def joined(text, fn):
     return text[: m.start()] + f"elim c.if-{step}.branch [\n" + "\n".join(cases) + "\n    ]" + text[d + t.end():], names
 
 
+def bounded(crate, path_name):
+    """Whether a function has a bound: its lines take g in first place."""
+    name = path_name.split(".")[-1]
+    for folder, _, files in os.walk(f"crates/{crate}/src"):
+        for f in files:
+            m = re.search(rf"fn {name}\b([^{{]*)", open(os.path.join(folder, f)).read())
+            if m and ("impl " in m.group(1) or m.group(1).startswith("<") and ":" in m.group(1).split(">")[0]):
+                return "g "
+    return ""
+
+
 def turn(crate, folder, fn, path_name, dry):
+    g = bounded(crate, path_name)
     text = open(os.path.join(folder, "Proof.antt")).read()
     head, defs, tail = definitions(text)
     report, inv, ans, helpers = [], [], [], []
@@ -330,10 +342,10 @@ def turn(crate, folder, fn, path_name, dry):
     mod = f"Rattle.{crate}.proofs.{path_name}"
     result = {}
     if inv:
-        t = "\n\n".join(f"abbrev pub {n} : goal.{n}\n{n} l = {b}" for n, b, c in inv)
+        t = "\n\n".join(f"abbrev pub {n} : goal.{n}\n{n} {g}l = {b}" for n, b, c in inv)
         result["Invariants.antt"] = "\n".join(imports(t) + [f"use {mod}.Given as goal", ""]) + "\n" + t + "\n"
     if ans or helpers:
-        t = "\n\n".join(helpers + ["\n".join([f"pub {n} : goal.{n}", c + f"{n} c =" + (" " if not b.startswith("\n") else "") + b]) for n, b, c in ans])
+        t = "\n\n".join(helpers + ["\n".join([f"pub {n} : goal.{n}", c + f"{n} {g}c =" + (" " if not b.startswith("\n") else "") + b]) for n, b, c in ans])
         result["Answers.antt"] = "\n".join(imports(t) + [f"use {mod}.Goals as goal"] + ([f"use {mod}.Goals.{{{', '.join(sorted(opened_names))}}}"] if opened_names else []) + [""]) + "\n" + t + "\n"
     if not dry:
         old = f"/tmp/old-proofs/{crate}/{path_name}"
