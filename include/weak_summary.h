@@ -227,8 +227,8 @@ uint32_t ws_look_up(const uint32_t *list, size_t list_length, uint32_t subject, 
  *   12 a counted pattern's property is subclass, subproperty, domain or range
  * They alter nothing.
  * Time, measured and not proved, with the engine as an older kit built it: a query whose variables form no cycle takes about
- * patterns * triples steps where N is at most 4,096, and mostly so beyond. With a cycle it may take nodes * patterns * triples, and the square of the nodes where cycles
- * hang together so that two variables must be fixed, one within the other. On 2,048 triples of 512 codes no query that was
+ * patterns * triples steps where N is at most 4,096, and mostly so beyond. With a cycle it may take nodes * patterns * triples,
+ * and the square of the nodes where cycles hang together so that two variables must be fixed, one within the other. On 2,048 triples of 512 codes no query that was
  * tried took more than 20 ms, but for two cycles joined by a path, which took 0.2 s. A query that is easy in its written
  * order takes the time of a search in that order: below 1 us on a summary of 256 triples.
  * "none" is safe only on the summary of a saturated table, asked by the map that came with that summary: then the saturated

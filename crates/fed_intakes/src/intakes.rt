@@ -34,7 +34,7 @@ struct Weighed {
 
 // The last call's answer and place; the two sums of the digest of all calls so far; the last weights' sum and digits, and the last map's
 // digits; the answer of the opening; the record's two counts; how many calls had each answer, and the last one's column there: a refusal's
-// number, 0 or 15 for a feed, and 16 more for a removal. A record inside it would count for two where the checker's search has a limit.
+// number, 0 or 15 for a feed, and 16 more for a removal.
 #[derive(Clone, Copy)]
 pub struct State {
     pub refused: u32,
