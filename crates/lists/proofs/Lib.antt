@@ -1,5 +1,5 @@
 pub mod Codes
-pub mod Tests
+pub mod Derived
 pub mod Compare
 pub mod Places
 pub mod Search

@@ -2,7 +2,11 @@
 -- Assumes nothing.
 use Rattle.std.specs.Prelude.{ℕ, Bool, false, cond, not, ◌&&◌, ◌||◌, List, [], ◌∷◌, eqb, leb, ltb, get_or}
 use Rattle.model.specs.Lists.{any}
+use Rattle.std.specs.declared.option.Option.{Option}
+use Rattle.std.specs.declared.option.Option.TheVariants.{None, Some}
 use Rattle.model.specs.declared.Vocabulary.{Vocabulary}
+use Rattle.model.specs.declared.Word.{Word}
+use Rattle.model.specs.declared.Word.TheVariants.{Instance, Subclass, Subproperty, Domain, Range}
 
 -- The five reserved codes are loaded by the customer: 02, "Replace the fixed five codes by a table the customer supplies: five codes for
 -- type, subclass, subproperty, domain and range". Every definition that depends on them takes them first. (`instance` is the code of type.)
@@ -31,6 +35,18 @@ kind v p =
     (cond (eqb p v.subproperty) 2
     (cond (eqb p v.domain) 3
     (cond (eqb p v.range) 4 5))))
+
+-- the kind that a word stands for, and none for data
+unfoldable pub word_number : Word → ℕ
+word_number Instance = 0
+word_number Subclass = 1
+word_number Subproperty = 2
+word_number Domain = 3
+word_number Range = 4
+
+unfoldable pub kind_number : Option Word → ℕ
+kind_number None = 5
+kind_number (Some w) = word_number w
 
 unfoldable pub reserved : Vocabulary → ℕ → Bool
 reserved v c = ltb (kind v c) 5

@@ -3,14 +3,12 @@
 use Rattle.std.specs.Prelude.{ℕ, ◌%◌, ◌*◌, ◌≡◌, Bool, true, false, cond, not, ◌||◌, List, [], ◌∷◌, eqb, ltb, length}
 use Rattle.model.specs.declared.Refusal.{Refusal}
 use Rattle.model.specs.declared.Refusal.TheVariants.{Length, Roster, Code, Cover, Slots, Query, Full, Form, Missing, Words, Retired}
-use Rattle.model.specs.declared.Done.{Done}
-use Rattle.model.specs.declared.Done.TheVariants.{Accepted, Refused as Done-refused}
-use Rattle.model.specs.declared.Counted.{Counted}
-use Rattle.model.specs.declared.Counted.TheVariants.{Count, Refused as counted-refused}
+use Rattle.std.specs.declared.result.Result.{Result}
+use Rattle.std.specs.declared.result.Result.TheVariants.{Ok, Err}
 use Rattle.model.specs.declared.Found.{Found}
-use Rattle.model.specs.declared.Found.TheVariants.{Yes, No, Refused as found-refused}
+use Rattle.model.specs.declared.Found.TheVariants.{Yes, No}
 use Rattle.model.specs.declared.Reply.{Reply}
-use Rattle.model.specs.declared.Reply.TheVariants.{New, NotNew, Removed, Refused as reply-refused}
+use Rattle.model.specs.declared.Reply.TheVariants.{New, NotNew, Removed}
 use Rattle.model.specs.Codes.{smallest_size, largest_size, most_triples}
 use Rattle.model.specs.Lists.{any, zeros}
 
@@ -33,14 +31,14 @@ refusal_number Missing = 9
 refusal_number Words = 10
 refusal_number Retired = 12
 
--- the outcome that each case of an answer stands for
-unfoldable pub done : Done → Outcome (Unit {0})
-done Accepted = accepted tt
-done (Done-refused r) = refused (refusal_number r)
+-- the outcome that an answer stands for, where an accepted call's values are read by f
+unfoldable pub outcome_by : {A B : Type 0} → (A → B) → Result A Refusal → Outcome B
+outcome_by f (Ok x) = accepted (f x)
+outcome_by f (Err r) = refused (refusal_number r)
 
-unfoldable pub counted : Counted → Outcome ℕ
-counted (Count n) = accepted n
-counted (counted-refused r) = refused (refusal_number r)
+-- the outcome of a call that returns its values as they are: nothing, or a count
+abbrev pub outcome_of : {A : Type 0} → Result A Refusal → Outcome A
+outcome_of = outcome_by (λ x. x)
 
 -- 02: "yes or no and a place": what an accepted call says, and the place that it reports
 pub record Answer (A : Type 0) : Type 0 where
@@ -51,21 +49,25 @@ abbrev pub answer : {A : Type 0} → A → ℕ → Answer A
 answer x k = record { says = x; place = k }
 
 -- look up: whether the triple is in the list, and its place
-unfoldable pub found : Found → Outcome (Answer Bool)
-found (Yes k) = accepted (answer true k)
-found (No k) = accepted (answer false k)
-found (found-refused r) = refused (refusal_number r)
+unfoldable pub seen : Found → Answer Bool
+seen (Yes k) = answer true k
+seen (No k) = answer false k
+
+abbrev pub found : Result Found Refusal → Outcome (Answer Bool)
+found = outcome_by seen
 
 -- what an accepted call of the intake says
 pub data Said : Type 0 where
   new not_new removed : Said
 
 -- feeding and removing: whether the triple was new or has left, and its place
-unfoldable pub replied : Reply → Outcome (Answer Said)
-replied (New k) = accepted (answer new k)
-replied (NotNew k) = accepted (answer not_new k)
-replied (Removed k) = accepted (answer removed k)
-replied (reply-refused r) = refused (refusal_number r)
+unfoldable pub reply : Reply → Answer Said
+reply (New k) = answer new k
+reply (NotNew k) = answer not_new k
+reply (Removed k) = answer removed k
+
+abbrev pub replied : Result Reply Refusal → Outcome (Answer Said)
+replied = outcome_by reply
 
 -- 02: "A refused call reports place 0."
 unfoldable pub place_of : {A : Type 0} → Outcome (Answer A) → ℕ

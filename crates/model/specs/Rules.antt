@@ -5,16 +5,52 @@
 -- Assumes nothing.
 use Rattle.std.specs.Prelude.{ℕ, ◌≡◌, Bool, true, ◌&&◌, ◌||◌, eqb, get_or}
 use mathlib.Core.List.{List, [], ◌∷◌, Memᴰ as Mem}
-use Rattle.model.specs.declared.Rule.{Rule}
+use Rattle.std.specs.declared.option.Option.{Option}
+use Rattle.std.specs.declared.option.Option.TheVariants.{None, Some}
+use Rattle.model.specs.declared.Rule as walked
+use Rattle.model.specs.declared.Place.{Place}
+use Rattle.model.specs.declared.Place.TheVariants.{FirstSubject, FirstProperty, FirstObject, SecondSubject, SecondProperty, SecondObject, Instance}
 use Rattle.model.specs.declared.Triple.{Triple}
 use Rattle.model.specs.declared.Vocabulary.{Vocabulary}
-use Rattle.model.specs.Codes.{kind}
+use Rattle.model.specs.Codes.{kind, word_number, kind_number}
 use Rattle.model.specs.Triples.{triple}
 
 -- first premise's kind, second premise's kind (5: any), the two places that hold one code,
 -- and the places of the conclusion's subject, property and object
+pub record Rule : Type 0 where
+  pub first : ℕ
+  pub second : ℕ
+  pub left : ℕ
+  pub right : ℕ
+  pub subject : ℕ
+  pub property : ℕ
+  pub object : ℕ
+
 abbrev pub rule : ℕ → ℕ → ℕ → ℕ → ℕ → ℕ → ℕ → Rule
 rule f g l r s p o = record { first = f; second = g; left = l; right = r; subject = s; property = p; object = o }
+
+-- the number of a place
+unfoldable pub place_number : Place → ℕ
+place_number FirstSubject = 0
+place_number FirstProperty = 1
+place_number FirstObject = 2
+place_number SecondSubject = 3
+place_number SecondProperty = 4
+place_number SecondObject = 5
+place_number Instance = 6
+
+-- the code's line of the table in numbers
+unfoldable pub numbered : walked.Rule → Rule
+numbered r =
+    record {
+      first = word_number r.first;
+      second = kind_number r.second;
+      left = place_number r.left;
+      right = place_number r.right;
+      subject = place_number r.subject;
+      property = place_number r.property;
+      object = place_number r.object;
+    }
 
 --     rule      first             second            gives
 -- 1 rdfs2   a domain c        s a o             s type c

@@ -1,7 +1,7 @@
 -- Saturation, computed in rounds over the rule table.
 -- Assumes nothing.
 use Rattle.std.specs.Prelude.{ℕ, zero, suc, ◌*◌, cond, List, ◌++◌, eqb, length}
-use Rattle.model.specs.declared.Rule.{Rule}
+use Rattle.model.specs.Rules.{Rule}
 use Rattle.model.specs.declared.Triple.{Triple}
 use Rattle.model.specs.declared.Vocabulary.{Vocabulary}
 use Rattle.model.specs.Lists.{collect, when}

@@ -2,9 +2,9 @@
 // What they mean is defined in specs/.
 #![tactic(auto)]
 
-ghost use Rattle.std.specs.Prelude.{◌≡◌};
+ghost use Rattle.std.specs.Prelude.{◌≡◌, map};
 ghost use Rattle.model.specs.Outcomes.{refusal_number};
-ghost use Rattle.model.specs.Rules.{rules};
+ghost use Rattle.model.specs.Rules.{numbered, rules};
 
 // The reserved codes of a site, one for each of type, subclass, subproperty, domain and range: 02's "word table".
 // `instance` is the code of type, a word of the language.
@@ -18,25 +18,46 @@ pub struct Vocabulary {
 }
 
 // Subject, property, object.
-#[derive(Clone, Copy)]
+#[derive(Clone, Copy, PartialEq, Eq, PartialOrd, Ord)]
 pub struct Triple {
     pub subject: u32,
     pub property: u32,
     pub object: u32,
 }
 
-// One inference rule: the kind of its first premise and of its second (5: any), the two places of the premises that hold one
+// What a reserved code means.
+#[derive(Clone, Copy, PartialEq, Eq)]
+pub enum Word {
+    Instance,
+    Subclass,
+    Subproperty,
+    Domain,
+    Range,
+}
+
+// A place of two premises, or the code of type.
+#[derive(Clone, Copy, PartialEq, Eq)]
+pub enum Place {
+    FirstSubject,
+    FirstProperty,
+    FirstObject,
+    SecondSubject,
+    SecondProperty,
+    SecondObject,
+    Instance,
+}
+
+// One inference rule: the words that are its premises' properties (None: any property), the two places of the premises that hold one
 // code, and the places that give the conclusion's subject, property and object.
-// Places: 0, 1, 2 are the first premise's subject, property, object; 3, 4, 5 the second's; 6 stands for the code of type.
 #[derive(Clone, Copy)]
 pub struct Rule {
-    pub first: u32,
-    pub second: u32,
-    pub left: u32,
-    pub right: u32,
-    pub subject: u32,
-    pub property: u32,
-    pub object: u32,
+    pub first: Word,
+    pub second: Option<Word>,
+    pub left: Place,
+    pub right: Place,
+    pub subject: Place,
+    pub property: Place,
+    pub object: Place,
 }
 
 pub const RULE_COUNT: usize = 10;
@@ -46,115 +67,117 @@ pub const RULE_COUNT: usize = 10;
 pub const RULES: [Rule; RULE_COUNT] = [
     // rdfs2: a domain c, s a o give s type c
     Rule {
-        first: 3,
-        second: 5,
-        left: 0,
-        right: 4,
-        subject: 3,
-        property: 6,
-        object: 2,
+        first: Word::Domain,
+        second: None,
+        left: Place::FirstSubject,
+        right: Place::SecondProperty,
+        subject: Place::SecondSubject,
+        property: Place::Instance,
+        object: Place::FirstObject,
     },
     // rdfs3: a range c, s a o give o type c
     Rule {
-        first: 4,
-        second: 5,
-        left: 0,
-        right: 4,
-        subject: 5,
-        property: 6,
-        object: 2,
+        first: Word::Range,
+        second: None,
+        left: Place::FirstSubject,
+        right: Place::SecondProperty,
+        subject: Place::SecondObject,
+        property: Place::Instance,
+        object: Place::FirstObject,
     },
     // rdfs5: a subproperty b, b subproperty c give a subproperty c
     Rule {
-        first: 2,
-        second: 2,
-        left: 2,
-        right: 3,
-        subject: 0,
-        property: 1,
-        object: 5,
+        first: Word::Subproperty,
+        second: Some(Word::Subproperty),
+        left: Place::FirstObject,
+        right: Place::SecondSubject,
+        subject: Place::FirstSubject,
+        property: Place::FirstProperty,
+        object: Place::SecondObject,
     },
     // rdfs7: a subproperty b, s a o give s b o
     Rule {
-        first: 2,
-        second: 5,
-        left: 0,
-        right: 4,
-        subject: 3,
-        property: 2,
-        object: 5,
+        first: Word::Subproperty,
+        second: None,
+        left: Place::FirstSubject,
+        right: Place::SecondProperty,
+        subject: Place::SecondSubject,
+        property: Place::FirstObject,
+        object: Place::SecondObject,
     },
     // rdfs9: c subclass d, s type c give s type d
     Rule {
-        first: 1,
-        second: 0,
-        left: 0,
-        right: 5,
-        subject: 3,
-        property: 4,
-        object: 2,
+        first: Word::Subclass,
+        second: Some(Word::Instance),
+        left: Place::FirstSubject,
+        right: Place::SecondObject,
+        subject: Place::SecondSubject,
+        property: Place::SecondProperty,
+        object: Place::FirstObject,
     },
     // rdfs11: c subclass d, d subclass e give c subclass e
     Rule {
-        first: 1,
-        second: 1,
-        left: 2,
-        right: 3,
-        subject: 0,
-        property: 1,
-        object: 5,
+        first: Word::Subclass,
+        second: Some(Word::Subclass),
+        left: Place::FirstObject,
+        right: Place::SecondSubject,
+        subject: Place::FirstSubject,
+        property: Place::FirstProperty,
+        object: Place::SecondObject,
     },
     // a subproperty b, b domain c give a domain c
     Rule {
-        first: 2,
-        second: 3,
-        left: 2,
-        right: 3,
-        subject: 0,
-        property: 4,
-        object: 5,
+        first: Word::Subproperty,
+        second: Some(Word::Domain),
+        left: Place::FirstObject,
+        right: Place::SecondSubject,
+        subject: Place::FirstSubject,
+        property: Place::SecondProperty,
+        object: Place::SecondObject,
     },
     // a subproperty b, b range c give a range c
     Rule {
-        first: 2,
-        second: 4,
-        left: 2,
-        right: 3,
-        subject: 0,
-        property: 4,
-        object: 5,
+        first: Word::Subproperty,
+        second: Some(Word::Range),
+        left: Place::FirstObject,
+        right: Place::SecondSubject,
+        subject: Place::FirstSubject,
+        property: Place::SecondProperty,
+        object: Place::SecondObject,
     },
     // a domain c, c subclass d give a domain d
     Rule {
-        first: 3,
-        second: 1,
-        left: 2,
-        right: 3,
-        subject: 0,
-        property: 1,
-        object: 5,
+        first: Word::Domain,
+        second: Some(Word::Subclass),
+        left: Place::FirstObject,
+        right: Place::SecondSubject,
+        subject: Place::FirstSubject,
+        property: Place::FirstProperty,
+        object: Place::SecondObject,
     },
     // a range c, c subclass d give a range d
     Rule {
-        first: 4,
-        second: 1,
-        left: 2,
-        right: 3,
-        subject: 0,
-        property: 1,
-        object: 5,
+        first: Word::Range,
+        second: Some(Word::Subclass),
+        left: Place::FirstObject,
+        right: Place::SecondSubject,
+        subject: Place::FirstSubject,
+        property: Place::FirstProperty,
+        object: Place::SecondObject,
     },
 ];
 
 // The table as a value: the constant is the definitions' table.
+#[tactic(auto, unfolding(crate::specs::Rules::numbered, crate::specs::Rules::place_number, crate::specs::Codes::kind_number, crate::specs::Codes::word_number))]
 pub fn rule_table() -> [Rule; RULE_COUNT]
-    ensures { result ≡ rules }
+    ensures { map numbered result ≡ rules }
 {
     RULES
 }
 
-// The refusals; `refusal_number` in specs/Outcomes.antt gives the number of each.
-#[derive(Clone, Copy)]
+// Why a call is refused; `refusal_number` in specs/Outcomes.antt gives the number of each. A call answers `Result<.., Refusal>`;
+// specs/Outcomes.antt says which outcome each answer stands for.
+#[derive(Clone, Copy, PartialEq, Eq)]
 pub enum Refusal {
     Length,
     Roster,
@@ -189,25 +212,11 @@ pub fn refusal_number(refusal: Refusal) -> u32
     }
 }
 
-// The answers of the calls; specs/Outcomes.antt gives the outcome that each case stands for.
-#[derive(Clone, Copy)]
-pub enum Done {
-    Accepted,
-    Refused(Refusal),
-}
-
-#[derive(Clone, Copy)]
-pub enum Counted {
-    Count(usize),
-    Refused(Refusal),
-}
-
 // Look up: whether the triple is in the list, and how many triples of it come before it.
 #[derive(Clone, Copy)]
 pub enum Found {
     Yes(usize),
     No(usize),
-    Refused(Refusal),
 }
 
 // Feeding and removing: whether the triple was new or has left, and how many of the triples held before the call come before it.
@@ -216,5 +225,4 @@ pub enum Reply {
     New(usize),
     NotNew(usize),
     Removed(usize),
-    Refused(Refusal),
 }

@@ -6,7 +6,7 @@ use mathlib.Core.Logic.{◌⊎◌, inl, inr, ◌↔◌}
 use mathlib.Core.Bool.{true}
 use mathlib.Core.List.{List, [], Memᴰ as Mem}
 use native.Mathlib.Omega.{arith}
-use Rattle.model.specs.declared.Rule.{Rule}
+use Rattle.model.specs.Rules.{Rule}
 use Rattle.model.specs.declared.Triple.{Triple}
 use Rattle.model.specs.declared.Vocabulary.{Vocabulary}
 use Rattle.model.specs.Codes.{kind, code_of}
