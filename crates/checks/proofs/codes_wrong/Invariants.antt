@@ -1,4 +1,4 @@
-use Prim.Native.Nat.{◌-◌, ◌/◌}
+use Prim.Native.Nat.{◌/◌}
 use lib.ListN.{length}
 use Rattle.model.specs.Roster.{wrong_triple}
 use Rattle.theory.proofs.Runs.{NoneYet}
@@ -7,6 +7,3 @@ use Rattle.checks.proofs.codes_wrong.Given as goal
 
 abbrev pub invariant-loop-i : goal.invariant-loop-i
 invariant-loop-i l = NoneYet (wrong_triple l.words l.n) (at l.table) (length l.table / 3) l.i
-
-abbrev pub decreases-loop-i : goal.decreases-loop-i
-decreases-loop-i l = l.count - l.i
