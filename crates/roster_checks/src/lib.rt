@@ -9,8 +9,8 @@ ghost use Rattle.model.specs.Cliques.{side_of, end, links};
 ghost use Rattle.model.specs.Roster.{is_class, is_property, unmarked, wrong_roster, covers_triple, covers};
 ghost use Rattle.roster_checks.specs.Reserved.{marked};
 
-use lists::{Code, DATA, SUBCLASS, SUBPROPERTY, TYPE, triple_at, wide};
-use model::{Triple, Vocabulary};
+use lists::{Code, triple_at, wide};
+use model::{Triple, Vocabulary, Word};
 use roster_values::value_wrong;
 
 // Whether a mark says class.
@@ -87,20 +87,14 @@ pub fn covers_triple(words: Vocabulary, roster: &[u8], t: Triple) -> bool
     requires { Below (length roster.now) t }
     ensures { result ≡ covers_triple words roster.now t }
 {
-    let kind = Code(t.property).kind(words);
-    if kind == DATA {
-        return property_at(roster, t.property);
+    match Code(t.property).kind(words) {
+        None => property_at(roster, t.property),
+        Some(Word::Instance) => class_at(roster, t.object),
+        Some(Word::Subclass) => both_classes(roster, t),
+        Some(Word::Subproperty) => both_properties(roster, t),
+        Some(Word::Domain) => property_to_class(roster, t),
+        Some(Word::Range) => property_to_class(roster, t),
     }
-    if kind == TYPE {
-        return class_at(roster, t.object);
-    }
-    if kind == SUBCLASS {
-        return both_classes(roster, t);
-    }
-    if kind == SUBPROPERTY {
-        return both_properties(roster, t);
-    }
-    property_to_class(roster, t)
 }
 
 // Check 4: some triple of the table is not covered.

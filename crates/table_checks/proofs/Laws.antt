@@ -9,22 +9,21 @@ use lib.ListN.{length}
 use lib.Dec.{ltb}
 use borrow.Author.Tests.{lt-ltb, le-ltb}
 use Rattle.model.specs.Lists.{any, zeros}
+use Rattle.std.specs.declared.result.Result.{Result}
+use Rattle.std.specs.declared.result.Result.TheVariants.{Ok, Err}
 use Rattle.model.specs.declared.Refusal.{Refusal}
 use Rattle.model.specs.declared.Refusal.TheVariants.{Length, Words, Roster, Code, Cover}
 use Rattle.model.specs.declared.Vocabulary.{Vocabulary}
 use Rattle.model.specs.Codes.{wrong_words}
 use Rattle.model.specs.Triples.{triples}
 use Rattle.model.specs.Roster.{covers, wrong_roster, wrong_codes}
-use Rattle.model.specs.Outcomes.{Outcome, refused, accepted, refusal_number, Check, check, decided, checked, Passes, zeroed, left, wrong_size, wrong_length}
+use Rattle.model.specs.Outcomes.{Outcome, refused, accepted, refusal_number, outcome_by, outcome_of, Check, check, decided, checked, Passes, zeroed, left, wrong_size, wrong_length}
 use Rattle.model.specs.Calls.{table_checks, Accepted}
 use Rattle.theory.proofs.Tests.{or_left, or_right, or-false, or_neither, bool_cases}
 use Rattle.theory.proofs.Checks.{passes-first, first-decides, not_accepted, accepted-passes}
 use Rattle.theory.specs.Tables.{AllBelow, Right}
 use Rattle.theory.proofs.Covered.{all_codes}
 use Rattle.theory.proofs.Accepted.{accepted-right}
-use Rattle.table_checks.specs.declared.Verdict.{Verdict}
-use Rattle.table_checks.specs.declared.Verdict.TheVariants.{Passed, Refused}
-use Rattle.table_checks.specs.Verdicts.{verdict}
 
 -- ── the checks in order ──
 -- the outcome, by what the five checks say
@@ -93,8 +92,8 @@ module _ (v : Vocabulary) where
     abbrev first : Bool
     first = wrong_size (length roster) || (wrong_length (length table) || lengths)
 
-    abbrev Is : Verdict → Type 0
-    Is r = verdict r ≡ checked (table_checks v lengths table roster) tt
+    abbrev Is : Result (Unit {0}) Refusal → Type 0
+    Is r = outcome_of r ≡ checked (table_checks v lengths table roster) tt
 
     outcome-is : {a w b c d : Bool} → first ≡ a → wrong_words v (length roster) ≡ w → wrong_roster v roster ≡ b
         → wrong_codes v (length roster) (triples table) ≡ c → not (covers v roster (triples table)) ≡ d
@@ -102,43 +101,43 @@ module _ (v : Vocabulary) where
     unfolding table_checks decided
     outcome-is p w q r s = λ i. first_of (p i) (w i) (q i) (r i) (s i)
 
-    by_length : first ≡ true → Is (Refused Length)
-    unfolding verdict refusal_number
+    by_length : first ≡ true → Is (Err Length)
+    unfolding outcome_by refusal_number
     by_length p = sym (outcome-is p refl refl refl refl)
 
-    pub by_size : wrong_size (length roster) ≡ true → Is (Refused Length)
+    pub by_size : wrong_size (length roster) ≡ true → Is (Err Length)
     by_size p = by_length (or_left (wrong_size (length roster)) _ p)
 
-    pub by-table : wrong_length (length table) ≡ true → Is (Refused Length)
+    pub by-table : wrong_length (length table) ≡ true → Is (Err Length)
     by-table p = by_length (or_right (wrong_size (length roster)) _ (or_left (wrong_length (length table)) _ p))
 
-    pub by-list : lengths ≡ true → Is (Refused Length)
+    pub by-list : lengths ≡ true → Is (Err Length)
     by-list p = by_length (or_right (wrong_size (length roster)) _ (or_right (wrong_length (length table)) _ p))
 
     module _ (p : wrong_size (length roster) ≡ false) (q : wrong_length (length table) ≡ false) (l : lengths ≡ false) where
       sizes : first ≡ false
       sizes = or_neither (wrong_size (length roster)) _ p (or_neither (wrong_length (length table)) _ q l)
 
-      pub by-words : wrong_words v (length roster) ≡ true → Is (Refused Words)
-      unfolding verdict refusal_number
+      pub by-words : wrong_words v (length roster) ≡ true → Is (Err Words)
+      unfolding outcome_by refusal_number
       by-words w = sym (outcome-is sizes w refl refl refl)
 
-      pub by-roster : wrong_words v (length roster) ≡ false → wrong_roster v roster ≡ true → Is (Refused Roster)
-      unfolding verdict refusal_number
+      pub by-roster : wrong_words v (length roster) ≡ false → wrong_roster v roster ≡ true → Is (Err Roster)
+      unfolding outcome_by refusal_number
       by-roster w a = sym (outcome-is sizes w a refl refl)
 
-      pub by_codes : wrong_words v (length roster) ≡ false → wrong_roster v roster ≡ false → wrong_codes v (length roster) (triples table) ≡ true → Is (Refused Code)
-      unfolding verdict refusal_number
+      pub by_codes : wrong_words v (length roster) ≡ false → wrong_roster v roster ≡ false → wrong_codes v (length roster) (triples table) ≡ true → Is (Err Code)
+      unfolding outcome_by refusal_number
       by_codes w a b = sym (outcome-is sizes w a b refl)
 
       pub by-cover : wrong_words v (length roster) ≡ false → wrong_roster v roster ≡ false → wrong_codes v (length roster) (triples table) ≡ false
-          → not (covers v roster (triples table)) ≡ true → Is (Refused Cover)
-      unfolding verdict refusal_number
+          → not (covers v roster (triples table)) ≡ true → Is (Err Cover)
+      unfolding outcome_by refusal_number
       by-cover w a b d = sym (outcome-is sizes w a b d)
 
       pub by_none : wrong_words v (length roster) ≡ false → wrong_roster v roster ≡ false → wrong_codes v (length roster) (triples table) ≡ false
-          → not (covers v roster (triples table)) ≡ false → Is Passed
-      unfolding verdict
+          → not (covers v roster (triples table)) ≡ false → Is (Ok tt)
+      unfolding outcome_by
       by_none w a b d = sym (outcome-is sizes w a b d)
 
   pub codes-below : (table roster : List ℕ) → wrong_codes v (length roster) (triples table) ≡ false → AllBelow (length roster) (triples table)
@@ -146,8 +145,8 @@ module _ (v : Vocabulary) where
 
   module _ (lengths : Bool) (table roster : List ℕ) where
     -- passed: no check fails, the table is accepted with the roster, and the other lists have right lengths
-    pub passed : Is lengths table roster Passed → Passes (table_checks v lengths table roster)
-    unfolding verdict
+    pub passed : Is lengths table roster (Ok tt) → Passes (table_checks v lengths table roster)
+    unfolding outcome_by
     passed e = accepted-passes (table_checks v lengths table roster) tt tt (sym e)
 
     pub passed-lengths : Passes (table_checks v lengths table roster) → lengths ≡ false
@@ -160,14 +159,14 @@ module _ (v : Vocabulary) where
     pub passed-right : Passes (table_checks v lengths table roster) → Right v roster (triples table)
     passed-right h = accepted-right v table roster (passed-accepted h)
 
-    module _ (r : Refusal) (e : Is lengths table roster (Refused r)) where
+    module _ (r : Refusal) (e : Is lengths table roster (Err r)) where
       -- refused: so is the call, whatever it checks afterwards
       pub refused-more : {A : Type 0} (more : List Check) (rest : Outcome A) → decided (table_checks v lengths table roster ++ more) rest ≡ refused (refusal_number r)
-      unfolding verdict
+      unfolding outcome_by
       refused-more more rest = refused-any (table_checks v lengths table roster) more tt (refusal_number r) rest (sym e)
 
       refused-kept : zeroed (refusal_number r) ≡ false
-      unfolding verdict
+      unfolding outcome_by
       refused-kept =
           kept_by (first lengths table roster) (wrong_words v (length roster)) (wrong_roster v roster) (wrong_codes v (length roster) (triples table))
           (not (covers v roster (triples table))) (refusal_number r)
