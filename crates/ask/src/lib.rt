@@ -22,30 +22,30 @@ fn known_rising(table: &[u32], count: u32) -> bool
 }
 
 // Whether some choice of nodes for the variables puts every counted pattern in the table.
-pub fn ask(words: Vocabulary, table: &[u32], map: &[u32], q: Query) -> Asked
+pub fn ask(words: Vocabulary, table: &[u32], map: &[u32], q: Query) -> Result<Asked, Refusal>
     ensures { asked result ≡ ask_outcome words table.now map.now q }
 {
     if checks::size_wrong(map.len()) {
-        return Asked::Refused(Refusal::Length);
+        return Err(Refusal::Length);
     }
     if checks::length_wrong(table.len()) {
-        return Asked::Refused(Refusal::Length);
+        return Err(Refusal::Length);
     }
     if checks::words_wrong(words, map.len()) {
-        return Asked::Refused(Refusal::Words);
+        return Err(Refusal::Words);
     }
     if checks::codes_wrong(words, table, map.len()) {
-        return Asked::Refused(Refusal::Code);
+        return Err(Refusal::Code);
     }
     if query_wrong(q, map.len()) {
-        return Asked::Refused(Refusal::Query);
+        return Err(Refusal::Query);
     }
     if query_retired(words, q) {
-        return Asked::Refused(Refusal::Retired);
+        return Err(Refusal::Retired);
     }
     let rising = known_rising(table, q.count);
     if some_choice(table, map, q, rising) {
-        return Asked::Maybe;
+        return Ok(Asked::Maybe);
     }
-    Asked::None
+    Ok(Asked::None)
 }

@@ -25,16 +25,3 @@ module _ {words : List ℕ} {Wrong : Type 0} {Right : Vocabulary → Type 0} whe
 pub words_are_faithful : WordsAreFaithful
 unfolding words_of
 words_are_faithful v = refl
-
-pub words-put : (l : List ℕ) (v : Vocabulary) → length l ≡ 5 → set (set (set (set (set l 0 v.instance) 1 v.subclass) 2 v.subproperty) 3 v.domain) 4 v.range ≡ codes v
-words-put [] v h = absurd (omega arith)
-words-put (a ∷ []) v h = absurd (omega arith)
-words-put (a ∷ b ∷ []) v h = absurd (omega arith)
-words-put (a ∷ b ∷ c ∷ []) v h = absurd (omega arith)
-words-put (a ∷ b ∷ c ∷ d ∷ []) v h = absurd (omega arith)
-words-put (a ∷ b ∷ c ∷ d ∷ e ∷ []) v h = refl
-words-put (a ∷ b ∷ c ∷ d ∷ e ∷ f ∷ l) v h = absurd (omega arith)
-
-pub words-made : (l : List ℕ) → record { instance = get_or l 0 0; subclass = get_or l 1 0; subproperty = get_or l 2 0; domain = get_or l 3 0; range = get_or l 4 0 } ≡ words_of l
-unfolding words_of
-words-made l = refl

@@ -3,37 +3,39 @@
 
 ghost use Rattle.std.specs.Prelude.{◌≡◌, ◌≤◌, length};
 ghost use Rattle.model.specs.Codes.{codes};
-ghost use Rattle.model.specs.Outcomes.{refusal_number, done, counted, found, replied};
+ghost use Rattle.model.specs.Outcomes.{refusal_number, outcome_of, found, replied};
 ghost use Rattle.query.specs.Ask.{asked};
 ghost use Rattle.call_numbers.specs.Status.{status_of, bit, bits, new_bit, Stores, Reports, ReportsPlace, StoresPart};
 ghost use Rattle.call_numbers.specs.Words.{words_of};
 
-use model::{Counted, Done, Found, Refusal, Reply, Vocabulary, refusal_number};
+use model::{Found, Refusal, Reply, Vocabulary, refusal_number};
 use query::Asked;
 use subject_lines::Part;
 
 // The numbers of a word table: the reserved codes of type, subclass, subproperty, domain and range.
 pub const WORDS_NUMBERS: usize = 5;
 
-pub fn done_status(d: Done) -> u32
-    ensures { result ≡ status_of (done d) }
+#[tactic(auto, unfolding(crate::specs::Status::status_of, model::specs::Outcomes::outcome_by))]
+pub fn done_status(d: Result<(), Refusal>) -> u32
+    ensures { result ≡ status_of (outcome_of d) }
 {
     match d {
-        Done::Accepted => 0,
-        Done::Refused(r) => refusal_number(r),
+        Ok(()) => 0,
+        Err(r) => refusal_number(r),
     }
 }
 
 // Stores the count of an accepted call.
-pub fn counted_status(c: Counted, count: &mut usize) -> u32
-    ensures { Stores (counted c) count.old result count.new }
+#[tactic(auto, unfolding(crate::specs::Status::status_of, crate::specs::Status::value_or, model::specs::Outcomes::outcome_by))]
+pub fn counted_status(c: Result<usize, Refusal>, count: &mut usize) -> u32
+    ensures { Stores (outcome_of c) count.old result count.new }
 {
     match c {
-        Counted::Count(k) => {
+        Ok(k) => {
             *count = k;
             0
         },
-        Counted::Refused(r) => refusal_number(r),
+        Err(r) => refusal_number(r),
     }
 }
 
@@ -46,83 +48,87 @@ pub fn refused_status(r: Refusal, place: &mut usize) -> u32
 }
 
 // Stores 1 for yes and 0 for no, and the place.
-pub fn found_status(f: Found, value: &mut u32, place: &mut usize) -> u32
+#[tactic(auto, unfolding(crate::specs::Status::status_of, crate::specs::Status::value_or, crate::specs::Status::numbered, model::specs::Outcomes::outcome_by, model::specs::Outcomes::seen, model::specs::Outcomes::place_of))]
+pub fn found_status(f: Result<Found, Refusal>, value: &mut u32, place: &mut usize) -> u32
     ensures { Reports bit (found f) value.old result value.new place.new }
 {
     match f {
-        Found::Yes(k) => {
+        Ok(Found::Yes(k)) => {
             *value = 1;
             *place = k;
             0
         },
-        Found::No(k) => {
+        Ok(Found::No(k)) => {
             *value = 0;
             *place = k;
             0
         },
-        Found::Refused(r) => refused_status(r, place),
+        Err(r) => refused_status(r, place),
     }
 }
 
-// Stores 1 for new and 0 for not new, and the place.
-pub fn reply_status(a: Reply, new: &mut u32, place: &mut usize) -> u32
+// Stores 1 for new and 0 for not new, and the place. No feed answers Removed.
+#[tactic(auto, unfolding(crate::specs::Status::status_of, crate::specs::Status::value_or, crate::specs::Status::numbered, model::specs::Outcomes::outcome_by, model::specs::Outcomes::reply, model::specs::Outcomes::place_of))]
+pub fn reply_status(a: Result<Reply, Refusal>, new: &mut u32, place: &mut usize) -> u32
     ensures { Reports new_bit (replied a) new.old result new.new place.new }
 {
     match a {
-        Reply::New(k) => {
+        Ok(Reply::New(k)) => {
             *new = 1;
             *place = k;
             0
         },
-        Reply::NotNew(k) => {
+        Ok(Reply::NotNew(k)) => {
             *new = 0;
             *place = k;
             0
         },
-        Reply::Removed(k) => {
-            *new = 0; // no feed answers so
+        Ok(Reply::Removed(k)) => {
+            *new = 0;
             *place = k;
             0
         },
-        Reply::Refused(r) => refused_status(r, place),
+        Err(r) => refused_status(r, place),
     }
 }
 
-// Stores the place.
-pub fn place_status(a: Reply, place: &mut usize) -> u32
+// Stores the place. No removal answers New or NotNew.
+#[tactic(auto, unfolding(crate::specs::Status::status_of, model::specs::Outcomes::outcome_by, model::specs::Outcomes::reply, model::specs::Outcomes::place_of))]
+pub fn place_status(a: Result<Reply, Refusal>, place: &mut usize) -> u32
     ensures { ReportsPlace (replied a) result place.new }
 {
     match a {
-        Reply::New(k) => {
-            *place = k; // no removal answers New or NotNew
-            0
-        },
-        Reply::NotNew(k) => {
+        Ok(Reply::New(k)) => {
             *place = k;
             0
         },
-        Reply::Removed(k) => {
+        Ok(Reply::NotNew(k)) => {
             *place = k;
             0
         },
-        Reply::Refused(r) => refused_status(r, place),
+        Ok(Reply::Removed(k)) => {
+            *place = k;
+            0
+        },
+        Err(r) => refused_status(r, place),
     }
 }
 
 // Stores 1 for maybe and 0 for none.
-pub fn asked_status(a: Asked, maybe: &mut u32) -> u32
+#[tactic(auto, unfolding(crate::specs::Status::status_of, crate::specs::Status::value_or, crate::specs::Status::numbered, model::specs::Outcomes::outcome_by, query::specs::Ask::says_maybe))]
+pub fn asked_status(a: Result<Asked, Refusal>, maybe: &mut u32) -> u32
     ensures { Stores (bits (asked a)) maybe.old result maybe.new }
 {
     match a {
-        Asked::Maybe => {
+        Ok(Asked::Maybe) => {
             *maybe = 1;
             0
         },
-        Asked::None => {
+        Ok(Asked::None) => {
             *maybe = 0;
             0
         },
-        Asked::Refused(r) => refusal_number(r),
+        Err(r) => refusal_number(r),
     }
 }
 
@@ -138,6 +144,7 @@ pub fn part_status(p: Part, own: &mut u32, start: &mut usize, count: &mut usize)
 }
 
 // The reserved codes of five numbers.
+#[tactic(auto, unfolding(crate::specs::Words::words_of))]
 pub fn words_of(words: &[u32]) -> Vocabulary
     requires { length words.now ≡ 5 }
     ensures { result ≡ words_of words.now }
@@ -156,9 +163,5 @@ pub fn put_words(list: &mut [u32], v: Vocabulary)
     requires { length list.old ≡ 5 }
     ensures { list.new ≡ codes v }
 {
-    list[0] = v.instance;
-    list[1] = v.subclass;
-    list[2] = v.subproperty;
-    list[3] = v.domain;
-    list[4] = v.range;
+    list.copy_from_slice(&[v.instance, v.subclass, v.subproperty, v.domain, v.range]);
 }

@@ -9,9 +9,9 @@ ghost use Rattle.property_groups.specs.Grouping.{NodesCleared};
 ghost use Rattle.cliques.specs.Calls.{CliquesCall};
 
 use lists::Code;
-use model::{Done, Vocabulary};
+use model::{Refusal, Vocabulary};
 use property_groups::group_side;
-use table_checks::{Verdict, table_refusal};
+use table_checks::table_refusal;
 use union_find::flatten;
 
 // Makes the entries of the unmarked codes absent.
@@ -55,16 +55,16 @@ pub fn cliques(
     roster: &[u8],
     sources: &mut [u32],
     targets: &mut [u32],
-) -> Done
+) -> Result<(), Refusal>
     ensures { CliquesCall words table.now roster.now sources.old targets.old result sources.new targets.new }
 {
     let lengths = lengths_wrong(roster.len(), sources.len(), targets.len());
     match table_refusal(words, lengths, table, roster) {
-        Verdict::Refused(r) => Done::Refused(r),
-        Verdict::Passed => {
+        Err(r) => Err(r),
+        Ok(()) => {
             clique_side(words, table, roster, true, sources);
             clique_side(words, table, roster, false, targets);
-            Done::Accepted
+            Ok(())
         },
     }
 }

@@ -7,7 +7,7 @@ use comparison::calls::table_call;
 use comparison::engines::{junk_marks, left, of_lengths};
 use comparison_report::digest::{Run, Seen, same};
 use comparison_report::report::{SATURATE, STRONG, TALLY, check};
-use model::{Counted, Vocabulary};
+use model::{Refusal, Vocabulary};
 use random_sites::random::{at_most, triples_end};
 use std::io;
 
@@ -89,7 +89,7 @@ fn condense(
     res: &mut [u32],
     map: &mut [u32],
     work: &mut [u32],
-) -> Counted {
+) -> Result<usize, Refusal> {
     if call == STRONG {
         return summarise_strong::summarise_strong(words, table, roster, res, map, work);
     }

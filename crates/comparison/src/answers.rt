@@ -1,5 +1,5 @@
 // The engine's answers as the naive one gives them: the number of a refusal, 0 for none, a count, and a place.
-use model::{Counted, Done, Found, Refusal, Reply};
+use model::{Found, Refusal, Reply};
 use naive_lists::Answer;
 use query::Asked;
 
@@ -36,41 +36,41 @@ fn answer_at(count: usize, place: usize) -> Answer {
     }
 }
 
-pub fn of_done(d: Done) -> Answer {
+pub fn of_done(d: Result<(), Refusal>) -> Answer {
     match d {
-        Done::Accepted => answer(0, 0),
-        Done::Refused(r) => answer(refused(r), 0),
+        Ok(()) => answer(0, 0),
+        Err(r) => answer(refused(r), 0),
     }
 }
 
-pub fn of_counted(c: Counted) -> Answer {
+pub fn of_counted(c: Result<usize, Refusal>) -> Answer {
     match c {
-        Counted::Count(k) => answer(0, k),
-        Counted::Refused(r) => answer(refused(r), 0),
+        Ok(k) => answer(0, k),
+        Err(r) => answer(refused(r), 0),
     }
 }
 
-pub fn of_found(f: Found) -> Answer {
+pub fn of_found(f: Result<Found, Refusal>) -> Answer {
     match f {
-        Found::Yes(place) => answer_at(1, place),
-        Found::No(place) => answer_at(0, place),
-        Found::Refused(r) => answer(refused(r), 0),
+        Ok(Found::Yes(place)) => answer_at(1, place),
+        Ok(Found::No(place)) => answer_at(0, place),
+        Err(r) => answer(refused(r), 0),
     }
 }
 
-pub fn of_reply(reply: Reply) -> Answer {
+pub fn of_reply(reply: Result<Reply, Refusal>) -> Answer {
     match reply {
-        Reply::New(place) => answer_at(1, place),
-        Reply::NotNew(place) => answer_at(0, place),
-        Reply::Removed(place) => answer_at(2, place),
-        Reply::Refused(r) => answer(refused(r), 0),
+        Ok(Reply::New(place)) => answer_at(1, place),
+        Ok(Reply::NotNew(place)) => answer_at(0, place),
+        Ok(Reply::Removed(place)) => answer_at(2, place),
+        Err(r) => answer(refused(r), 0),
     }
 }
 
-pub fn of_asked(a: Asked) -> Answer {
+pub fn of_asked(a: Result<Asked, Refusal>) -> Answer {
     match a {
-        Asked::Maybe => answer(0, 1),
-        Asked::None => answer(0, 0),
-        Asked::Refused(r) => answer(refused(r), 0),
+        Ok(Asked::Maybe) => answer(0, 1),
+        Ok(Asked::None) => answer(0, 0),
+        Err(r) => answer(refused(r), 0),
     }
 }

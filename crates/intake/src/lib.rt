@@ -2,14 +2,14 @@
 #![tactic(auto)]
 
 ghost use Rattle.model.specs.Triples.{triple};
-ghost use Rattle.model.specs.Outcomes.{done, replied};
+ghost use Rattle.model.specs.Outcomes.{outcome_of, replied};
 ghost use Rattle.model.specs.Intake.{Fed, Removes};
 ghost use Rattle.intake_opening.specs.Opening.{at_entry, at_exit, Opens};
 
 use intake_feeding::feed_lists;
 use intake_opening::{Counts, open_counts};
 use intake_removing::remove_lists;
-use model::{Done, Reply, Vocabulary};
+use model::{Refusal, Reply, Vocabulary};
 
 // Opens an intake: it holds nothing.
 pub fn open(
@@ -20,7 +20,7 @@ pub fn open(
     summary: &mut [u32],
     weights: &mut [u32],
     map: &mut [u32],
-) -> Done
+) -> Result<(), Refusal>
     ensures { Opens words roster.now
         (at_entry triples summary weights map counts.old.held counts.old.summarised) (done result)
         (at_exit triples summary weights map counts.new.held counts.new.summarised) }
@@ -53,7 +53,7 @@ pub fn feed(
     s: u32,
     p: u32,
     o: u32,
-) -> Reply
+) -> Result<Reply, Refusal>
     ensures { Fed words roster.now
         (at_entry triples summary weights map counts.old.held counts.old.summarised) work.old (triple s p o) (replied result)
         (at_exit triples summary weights map counts.new.held counts.new.summarised) work.new }
@@ -90,7 +90,7 @@ pub fn remove(
     s: u32,
     p: u32,
     o: u32,
-) -> Reply
+) -> Result<Reply, Refusal>
     ensures { Removes words roster.now
         (at_entry triples summary weights map counts.old.held counts.old.summarised) work.old (triple s p o) (replied result)
         (at_exit triples summary weights map counts.new.held counts.new.summarised) work.new }

@@ -7,9 +7,10 @@ use mathlib.Core.Bool.{true, false, true≢false}
 use mathlib.Core.List.{List, Memᴰ as Mem}
 use native.Mathlib.Omega.{arith}
 use lib.ListN.{length, get_or, set, length-set}
+use Rattle.std.specs.declared.result.Result.TheVariants.{Ok, Err}
 use Rattle.model.specs.declared.Triple.{Triple}
 use Rattle.model.specs.declared.Refusal.TheVariants.{Full}
-use Rattle.model.specs.declared.Reply.TheVariants.{New, Refused}
+use Rattle.model.specs.declared.Reply.TheVariants.{New}
 use Rattle.model.specs.declared.Vocabulary.{Vocabulary}
 use Rattle.model.specs.Codes.{absent}
 use Rattle.model.specs.Lists.{any, padded}
@@ -19,7 +20,7 @@ use Rattle.model.specs.Partition.{label}
 use Rattle.model.specs.Cliques.{Node}
 use Rattle.model.specs.Classes.{map_of}
 use Rattle.model.specs.Summary.{moved, summary, weights}
-use Rattle.model.specs.Outcomes.{Outcome, Answer, answer, Said, new, refusal_number, zeroed, replied}
+use Rattle.model.specs.Outcomes.{Outcome, Answer, answer, Said, new, refusal_number, zeroed, replied, outcome_by, outcome_of, reply}
 use Rattle.model.specs.Intake.{State, state_of, Valid}
 use Rattle.theory.proofs.Lists.{any_none, none_any, at_all, mem_get_d}
 use Rattle.theory.proofs.Order.{insert-mem, insert-new}
@@ -60,8 +61,8 @@ module _ (v : Vocabulary) where
       below-map = subst (λ (n : ℕ). Below n t) (sym R.map_size) (codes-right v (length roster) t R.right).below
 
       -- ── held triples that are wrong ──
-      pub added-wrong : any (bad v roster) (first triples held) ≡ true → Adds (replied (Refused Full)) s work
-      unfolding replied refusal_number zeroed any
+      pub added-wrong : any (bad v roster) (first triples held) ≡ true → Adds (replied (Err Full)) s work
+      unfolding outcome_by reply refusal_number zeroed any
       added-wrong h =
           record {
             passes = inl refl;
@@ -137,8 +138,8 @@ module _ (v : Vocabulary) where
                 (sym (quick_weights v roster H t all me room (node t.subject K.subject) (node t.object K.object) known j t f inside line))
 
           pub added_quick : (weighed' : List ℕ) → weighed' ≡ set weighed j ((get_or weighed j 0 + 1) % 2 ^ 32) → (w : List ℕ) → Cleared work w 0 (length work)
-              → Adds (replied (New i)) (state_with m sums weighed' map₀ (held + 1) summarised) w
-          unfolding replied state_of slots
+              → Adds (replied (Ok (New i))) (state_with m sums weighed' map₀ (held + 1) summarised) w
+          unfolding outcome_by reply state_of slots
           added_quick weighed' e w C =
               record {
                 passes = inr (answer new i, refl, refl);
@@ -193,8 +194,8 @@ module _ (v : Vocabulary) where
 
         module _ (h : any (bad v roster) (first triples held) ≡ false) (k : ℕ) (sums' weighed' map' work' : List ℕ)
             (C : Renewed v roster (first m (held + 1)) sums weighed work k sums' weighed' map' work') where
-          pub added_slow : Adds (replied (New i)) (state_with m sums' weighed' map' (held + 1) k) work'
-          unfolding replied slots
+          pub added_slow : Adds (replied (Ok (New i))) (state_with m sums' weighed' map' (held + 1) k) work'
+          unfolding outcome_by reply slots
           added_slow =
               let A = renewable h in
               record {

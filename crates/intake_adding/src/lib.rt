@@ -35,12 +35,12 @@ fn add_anew(
         (at_exit triples summary weights map result.counts.held result.counts.summarised) work.new }
 {
     if held_wrong(words, triples, held, roster) {
-        return with_counts(Reply::Refused(Refusal::Full), held, summarised);
+        return with_counts(Err(Refusal::Full), held, summarised);
     }
     insert_at(triples, held, i, t);
     let count = held + 1;
     let k = renew(words, triples, count, roster, summary, weights, map, work);
-    with_counts(Reply::New(i), count, k)
+    with_counts(Ok(Reply::New(i)), count, k)
 }
 
 // Takes in a triple that is not held, at its place i. Where its image is known, summary and map stay and its line weighs one more.
@@ -71,5 +71,5 @@ pub fn add(
     insert_at(triples, held, i, t);
     increment(weights, j);
     clear(work, 0, work.len()); // as after a summary
-    with_counts(Reply::New(i), held + 1, summarised)
+    with_counts(Ok(Reply::New(i)), held + 1, summarised)
 }

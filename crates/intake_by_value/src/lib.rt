@@ -3,7 +3,7 @@
 #![tactic(auto)]
 
 ghost use Rattle.model.specs.Triples.{triple};
-ghost use Rattle.model.specs.Outcomes.{done, replied};
+ghost use Rattle.model.specs.Outcomes.{outcome_of, replied};
 ghost use Rattle.model.specs.Intake.{Fed, Removes};
 ghost use Rattle.intake_opening.specs.Opening.{at_entry, at_exit, Opens};
 

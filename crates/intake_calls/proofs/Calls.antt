@@ -7,22 +7,20 @@ use mathlib.Core.List.{List, []}
 use lib.Dec.{eqb, ltb}
 use lib.ListN.{length}
 use borrow.Author.Tests.{ltb-false, eqb-true, not-false}
+use Rattle.std.specs.declared.result.Result.{Result}
+use Rattle.std.specs.declared.result.Result.TheVariants.{Ok, Err}
 use Rattle.model.specs.declared.Triple.{Triple}
 use Rattle.model.specs.declared.Refusal.{Refusal}
 use Rattle.model.specs.declared.Refusal.TheVariants.{Length, Words, Roster, Code, Cover}
 use Rattle.model.specs.declared.Reply.{Reply}
-use Rattle.model.specs.declared.Reply.TheVariants.{Refused as reply-refused}
 use Rattle.model.specs.declared.Vocabulary.{Vocabulary}
 use Rattle.model.specs.Codes.{wrong_words}
 use Rattle.model.specs.Triples.{slots}
 use Rattle.model.specs.Roster.{covers_triple, wrong_roster, wrong_triple}
-use Rattle.model.specs.Outcomes.{Outcome, refused, accepted, refusal_number, Answer, Said, replied, Check, decided, checked, Passes, zeroed, wrong_size, wrong_work}
+use Rattle.model.specs.Outcomes.{Outcome, refused, accepted, refusal_number, Answer, Said, replied, Check, decided, checked, Passes, zeroed, wrong_size, wrong_work, outcome_by, outcome_of, reply}
 use Rattle.model.specs.Intake.{State, Kind, own_refusal, judged_as, held_then, wrong_lists, intake_checks, Promises}
 use Rattle.theory.proofs.Tests.{or_left, or_right, or-false, or_neither}
 use Rattle.theory.proofs.Checks.{passes-first, decided-passes, not_accepted, accepted-passes}
-use Rattle.table_checks.specs.declared.Verdict.{Verdict}
-use Rattle.table_checks.specs.declared.Verdict.TheVariants.{Passed, Refused}
-use Rattle.table_checks.specs.Verdicts.{verdict}
 use Rattle.table_checks.proofs.Laws.{first_of, refused-any, kept_by}
 use Rattle.intake_opening.specs.Opening.{wrong_lengths, state_with}
 use Rattle.intake_calls.specs.declared.CalledCounts.{CalledCounts}
@@ -30,7 +28,7 @@ use Rattle.intake_calls.specs.Calls.{with_counts, CallVerdict, Ready, Passing}
 use Rattle.intake_calls.proofs.AnyState.{alters_nothing}
 
 -- an answer as `with_counts` gives it, in any promise of an answer, the state after it and the work list after it
-pub as_counted : (P : Outcome (Answer Said) → State → List ℕ → Type 0) (y : CalledCounts) (x : Reply) (n k : ℕ) → y ≡ with_counts x n k
+pub as_counted : (P : Outcome (Answer Said) → State → List ℕ → Type 0) (y : CalledCounts) (x : Result Reply Refusal) (n k : ℕ) → y ≡ with_counts x n k
     → (triples sums weighed map₀ w : List ℕ) → P (replied x) (state_with triples sums weighed map₀ n k) w
     → P (replied y.answer) (state_with triples sums weighed map₀ y.counts.held y.counts.summarised) w
 as_counted P y x n k e triples sums weighed map₀ w A =
@@ -45,7 +43,7 @@ module _ (v : Vocabulary) where
     abbrev tests : ℕ → ℕ → List Check
     tests held summarised = intake_checks v roster (state_with triples sums weighed map₀ held summarised) t (length work)
 
-    abbrev Is : Verdict → Type 0
+    abbrev Is : Result (Unit {0}) Refusal → Type 0
     Is = CallVerdict v roster triples sums weighed map₀ work t
 
     outcome-is : {a w b c d : Bool} → (lengths || wrong_work (length roster) (length work)) ≡ a → wrong_words v (length roster) ≡ w
@@ -54,38 +52,38 @@ module _ (v : Vocabulary) where
     unfolding intake_checks decided wrong_lists wrong_lengths slots
     outcome-is p w q r s held summarised = λ i. first_of (p i) (w i) (q i) (r i) (s i)
 
-    by_length : (lengths || wrong_work (length roster) (length work)) ≡ true → Is (Refused Length)
-    unfolding verdict refusal_number
+    by_length : (lengths || wrong_work (length roster) (length work)) ≡ true → Is (Err Length)
+    unfolding outcome_by refusal_number
     by_length p held summarised = sym (outcome-is p refl refl refl refl held summarised)
 
-    pub by_lengths : lengths ≡ true → Is (Refused Length)
+    pub by_lengths : lengths ≡ true → Is (Err Length)
     by_lengths p = by_length (or_left lengths _ p)
 
-    pub by-work : wrong_work (length roster) (length work) ≡ true → Is (Refused Length)
+    pub by-work : wrong_work (length roster) (length work) ≡ true → Is (Err Length)
     by-work p = by_length (or_right lengths _ p)
 
     module _ (l : lengths ≡ false) (k : wrong_work (length roster) (length work) ≡ false) where
       sizes : (lengths || wrong_work (length roster) (length work)) ≡ false
       sizes = or_neither lengths _ l k
 
-      pub by-words : wrong_words v (length roster) ≡ true → Is (Refused Words)
-      unfolding verdict refusal_number
+      pub by-words : wrong_words v (length roster) ≡ true → Is (Err Words)
+      unfolding outcome_by refusal_number
       by-words w held summarised = sym (outcome-is sizes w refl refl refl held summarised)
 
-      pub by-roster : wrong_words v (length roster) ≡ false → wrong_roster v roster ≡ true → Is (Refused Roster)
-      unfolding verdict refusal_number
+      pub by-roster : wrong_words v (length roster) ≡ false → wrong_roster v roster ≡ true → Is (Err Roster)
+      unfolding outcome_by refusal_number
       by-roster w a held summarised = sym (outcome-is sizes w a refl refl held summarised)
 
-      pub by_codes : wrong_words v (length roster) ≡ false → wrong_roster v roster ≡ false → wrong_triple v (length roster) t ≡ true → Is (Refused Code)
-      unfolding verdict refusal_number
+      pub by_codes : wrong_words v (length roster) ≡ false → wrong_roster v roster ≡ false → wrong_triple v (length roster) t ≡ true → Is (Err Code)
+      unfolding outcome_by refusal_number
       by_codes w a b held summarised = sym (outcome-is sizes w a b refl held summarised)
 
-      pub by-cover : wrong_words v (length roster) ≡ false → wrong_roster v roster ≡ false → wrong_triple v (length roster) t ≡ false → covers_triple v roster t ≡ false → Is (Refused Cover)
-      unfolding verdict refusal_number
+      pub by-cover : wrong_words v (length roster) ≡ false → wrong_roster v roster ≡ false → wrong_triple v (length roster) t ≡ false → covers_triple v roster t ≡ false → Is (Err Cover)
+      unfolding outcome_by refusal_number
       by-cover w a b d held summarised = sym (outcome-is sizes w a b (ap not d) held summarised)
 
-      pub by_none : wrong_words v (length roster) ≡ false → wrong_roster v roster ≡ false → wrong_triple v (length roster) t ≡ false → covers_triple v roster t ≡ true → Is Passed
-      unfolding verdict
+      pub by_none : wrong_words v (length roster) ≡ false → wrong_roster v roster ≡ false → wrong_triple v (length roster) t ≡ false → covers_triple v roster t ≡ true → Is (Ok tt)
+      unfolding outcome_by
       by_none w a b d held summarised = sym (outcome-is sizes w a b (ap not d) held summarised)
 
   module _ (roster triples sums weighed map₀ work : List ℕ) (held summarised : ℕ) (t : Triple) where
@@ -96,12 +94,12 @@ module _ (v : Vocabulary) where
     abbrev cs : List Check
     cs = tests roster triples sums weighed map₀ work t held summarised
 
-    module _ (x : Verdict) (J : CallVerdict v roster triples sums weighed map₀ work t x) where
+    module _ (x : Result (Unit {0}) Refusal) (J : CallVerdict v roster triples sums weighed map₀ work t x) where
       -- a check refuses
-      module _ (r : Refusal) (e : x ≡ Refused r) where
+      module _ (r : Refusal) (e : x ≡ Err r) where
         decides : checked cs (tt {0}) ≡ refused (refusal_number r)
-        unfolding verdict
-        decides = sym (J held summarised) ∙ ap verdict e
+        unfolding outcome_by
+        decides = sym (J held summarised) ∙ ap outcome_of e
 
         refuses-any : (rest : Outcome (Answer Said)) → decided cs rest ≡ refused (refusal_number r)
         unfolding intake_checks
@@ -116,8 +114,8 @@ module _ (v : Vocabulary) where
             (wrong_roster v roster) (wrong_triple v (length roster) t) (not (covers_triple v roster t)) (refusal_number r)
             (sym decides ∙ outcome-is roster triples sums weighed map₀ work t refl refl refl refl refl held summarised)
 
-        pub by_refusal : (kind : Kind) → Promises v roster kind s work t (replied (reply-refused r)) s work
-        unfolding replied held_then
+        pub by_refusal : (kind : Kind) → Promises v roster kind s work t (replied (Err r)) s work
+        unfolding outcome_by reply held_then
         by_refusal kind =
             record {
               refuses = λ k. sym (refuses-any (refused (own_refusal kind)));
@@ -127,10 +125,10 @@ module _ (v : Vocabulary) where
             }
 
       -- no check fails
-      module _ (e : x ≡ Passed) where
+      module _ (e : x ≡ (Ok tt)) where
         passes : Passes cs
-        unfolding verdict
-        passes = accepted-passes cs tt tt (sym (J held summarised) ∙ ap verdict e)
+        unfolding outcome_by
+        passes = accepted-passes cs tt tt (sym (J held summarised) ∙ ap outcome_of e)
 
         pub ready : Ready v roster triples sums weighed map₀ work t
         unfolding intake_checks wrong_lists wrong_work slots

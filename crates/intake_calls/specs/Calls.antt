@@ -1,5 +1,7 @@
 -- What the steps of a call promise, a feed or a removal; the call itself promises the model's `Promises`.
 -- Assumes nothing.
+use Rattle.std.specs.declared.result.Result.{Result}
+use Rattle.model.specs.declared.Refusal.{Refusal}
 use Rattle.std.specs.Prelude.{ℕ, ◌*◌, ◌/◌, ◌≤◌, ◌≡◌, true, false, List, length}
 use Rattle.model.specs.declared.Triple.{Triple}
 use Rattle.model.specs.declared.Reply.{Reply}
@@ -7,22 +9,20 @@ use Rattle.model.specs.declared.Vocabulary.{Vocabulary}
 use Rattle.model.specs.Codes.{wrong_words, most_triples}
 use Rattle.model.specs.Triples.{slots}
 use Rattle.model.specs.Roster.{covers_triple, wrong_roster, wrong_triple}
-use Rattle.model.specs.Outcomes.{Outcome, Answer, Said, checked, wrong_size}
+use Rattle.model.specs.Outcomes.{Outcome, Answer, Said, checked, wrong_size, outcome_by, outcome_of}
 use Rattle.model.specs.Intake.{State, Kind, OwnOrAccepted, judged_as, held_then, state_of, intake_checks, Valid, InAnyState}
-use Rattle.table_checks.specs.declared.Verdict.{Verdict}
-use Rattle.table_checks.specs.Verdicts.{verdict}
 use Rattle.intake_opening.specs.Opening.{state_with}
 use Rattle.intake_calls.specs.declared.CalledCounts.{CalledCounts}
 
 -- an answer with the counts after it
-abbrev pub with_counts : Reply → ℕ → ℕ → CalledCounts
+abbrev pub with_counts : Result Reply Refusal → ℕ → ℕ → CalledCounts
 with_counts answer held summarised = record { answer = answer; counts = record { held = held; summarised = summarised } }
 
 module _ (v : Vocabulary) where
   -- what the checks 1, 10, 2, 3, 4 of a call decide, whatever the counts are
-  abbrev pub CallVerdict : (roster triples summary weights map work : List ℕ) → Triple → Verdict → Type 0
+  abbrev pub CallVerdict : (roster triples summary weights map work : List ℕ) → Triple → Result (Unit {0}) Refusal → Type 0
   CallVerdict roster triples summary weights map work t r =
-      (held summarised : ℕ) → verdict r ≡ checked (intake_checks v roster (state_with triples summary weights map held summarised) t (length work)) tt
+      (held summarised : ℕ) → outcome_of r ≡ checked (intake_checks v roster (state_with triples summary weights map held summarised) t (length work)) tt
 
   -- the checks pass
   pub record Ready (roster triples summary weights map work : List ℕ) (t : Triple) : Type 0 where

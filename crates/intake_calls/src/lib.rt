@@ -8,17 +8,16 @@ use checks::{triple_wrong, words_wrong, work_wrong};
 use intake_opening::{Counts, lengths_wrong};
 use model::{Refusal, Reply, Triple, Vocabulary};
 use roster_checks::{covers_triple, roster_wrong};
-use table_checks::Verdict;
 
 // What a call leaves: the answer and the record.
 #[derive(Clone, Copy)]
 pub struct CalledCounts {
-    pub answer: Reply,
+    pub answer: Result<Reply, Refusal>,
     pub counts: Counts,
 }
 
 // An answer with the counts after it.
-pub fn with_counts(answer: Reply, held: usize, summarised: usize) -> CalledCounts
+pub fn with_counts(answer: Result<Reply, Refusal>, held: usize, summarised: usize) -> CalledCounts
     ensures { result ≡ with_counts answer held summarised }
 {
     CalledCounts {
@@ -37,28 +36,28 @@ pub fn call_refusal(
     map: &[u32],
     work: &[u32],
     t: Triple,
-) -> Verdict
+) -> Result<(), Refusal>
     ensures { CallVerdict words roster.now
         triples.now summary.now weights.now map.now work.now t result }
 {
     let n = roster.len();
     if lengths_wrong(n, triples.len(), summary.len(), weights.len(), map.len()) {
-        return Verdict::Refused(Refusal::Length);
+        return Err(Refusal::Length);
     }
     if work_wrong(n, work.len()) {
-        return Verdict::Refused(Refusal::Length);
+        return Err(Refusal::Length);
     }
     if words_wrong(words, n) {
-        return Verdict::Refused(Refusal::Words);
+        return Err(Refusal::Words);
     }
     if roster_wrong(words, roster) {
-        return Verdict::Refused(Refusal::Roster);
+        return Err(Refusal::Roster);
     }
     if triple_wrong(words, t, n) {
-        return Verdict::Refused(Refusal::Code);
+        return Err(Refusal::Code);
     }
     if !covers_triple(words, roster, t) {
-        return Verdict::Refused(Refusal::Cover);
+        return Err(Refusal::Cover);
     }
-    Verdict::Passed
+    Ok(())
 }

@@ -7,9 +7,10 @@ use mathlib.Core.Bool.{true, false, true≢false}
 use mathlib.Core.List.{List, Memᴰ as Mem}
 use native.Mathlib.Omega.{arith}
 use lib.ListN.{length, get_or, set}
+use Rattle.std.specs.declared.result.Result.TheVariants.{Ok, Err}
 use Rattle.model.specs.declared.Triple.{Triple}
 use Rattle.model.specs.declared.Refusal.TheVariants.{Missing}
-use Rattle.model.specs.declared.Reply.TheVariants.{Removed, Refused}
+use Rattle.model.specs.declared.Reply.TheVariants.{Removed}
 use Rattle.model.specs.declared.Vocabulary.{Vocabulary}
 use Rattle.model.specs.Codes.{absent}
 use Rattle.model.specs.Lists.{any, padded}
@@ -19,7 +20,7 @@ use Rattle.model.specs.Roster.{covers_triple, covers, wrong_triple, wrong_codes}
 use Rattle.model.specs.Partition.{label}
 use Rattle.model.specs.Classes.{map_of}
 use Rattle.model.specs.Summary.{moved, condensed, summary, weights_by, weights}
-use Rattle.model.specs.Outcomes.{Outcome, Answer, answer, Said, removed, refusal_number, zeroed, replied}
+use Rattle.model.specs.Outcomes.{Outcome, Answer, answer, Said, removed, refusal_number, zeroed, replied, outcome_by, outcome_of, reply}
 use Rattle.model.specs.Intake.{State, state_of, Valid}
 use Rattle.theory.specs.Tables.{Below, AllBelow, Right}
 use Rattle.theory.proofs.Lists.{any_none, none_any, at_all, mem-tabulate}
@@ -94,8 +95,8 @@ module _ (v : Vocabulary) (roster triples sums weighed map₀ work : List ℕ) (
         (subst (KeptImage v roster triples held i sums summarised map₀ u) q f)
 
   -- ── held triples that are wrong ──
-  pub cut_wrong : any (bad v roster) (first triples held) ≡ true → Cuts (replied (Refused Missing)) s work
-  unfolding replied refusal_number zeroed any
+  pub cut_wrong : any (bad v roster) (first triples held) ≡ true → Cuts (replied (Err Missing)) s work
+  unfolding outcome_by reply refusal_number zeroed any
   cut_wrong h =
       record {
         passes = inl refl;
@@ -161,8 +162,8 @@ module _ (v : Vocabulary) (roster triples sums weighed map₀ work : List ℕ) (
 
     module _ (h : any (bad v roster) (first triples held) ≡ false) (k : ℕ) (sums' weighed' map' work' : List ℕ)
         (C : Renewed v roster (first m (held - 1)) sums weighed work k sums' weighed' map' work') where
-      pub cut_slow : Cuts (replied (Removed i)) (state_with m sums' weighed' map' (held - 1) k) work'
-      unfolding replied slots
+      pub cut_slow : Cuts (replied (Ok (Removed i))) (state_with m sums' weighed' map' (held - 1) k) work'
+      unfolding outcome_by reply slots
       cut_slow =
           let A = renewable h in
           record {
@@ -283,8 +284,8 @@ module _ (v : Vocabulary) (roster triples sums weighed map₀ work : List ℕ) (
               let x6 : lines ≡ length (summary v roster without-t) = after.count ∙ ap {B = ℕ} (λ (z : List ℕ). length (condensed z without-t)) map-stays in
               λ k. record { triples = x1 k; summary = x2 k; weights = x3 k; map = x4 k; held = x5 k; summarised = x6 k }
 
-        pub cut_quick : (w : List ℕ) → Cleared work w 0 (length work) → Cuts (replied (Removed i)) (state_with m sums' weighed' map₀ (held - 1) lines) w
-        unfolding replied slots
+        pub cut_quick : (w : List ℕ) → Cleared work w 0 (length work) → Cuts (replied (Ok (Removed i))) (state_with m sums' weighed' map₀ (held - 1) lines) w
+        unfolding outcome_by reply slots
         cut_quick w C =
             let z = lightened_sizes sums weighed summarised j lines sums' weighed' L in
             record {

@@ -60,12 +60,12 @@ fn cut_anew(
         (at_exit triples summary weights map result.counts.held result.counts.summarised) work.new }
 {
     if held_wrong(words, triples, held, roster) {
-        return with_counts(Reply::Refused(Refusal::Missing), held, summarised);
+        return with_counts(Err(Refusal::Missing), held, summarised);
     }
     delete_at(triples, held, i);
     let count = held - 1;
     let k = renew(words, triples, count, roster, summary, weights, map, work);
-    with_counts(Reply::Removed(i), count, k)
+    with_counts(Ok(Reply::Removed(i)), count, k)
 }
 
 // Takes out the triple at place i. Where the others keep its ends the map stays, and its line weighs one less or goes.
@@ -97,5 +97,5 @@ pub fn cut(
     delete_at(triples, held, i);
     let lines = lighten(summary, weights, summarised, j);
     clear(work, 0, work.len()); // as after a summary
-    with_counts(Reply::Removed(i), held - 1, lines)
+    with_counts(Ok(Reply::Removed(i)), held - 1, lines)
 }

@@ -9,7 +9,6 @@ ghost use Rattle.intake_opening.specs.Opening.{at_entry, at_exit};
 use intake_calls::{CalledCounts, call_refusal, with_counts};
 use intake_taking::take_in;
 use model::{Reply, Triple, Vocabulary};
-use table_checks::Verdict;
 
 // Feeds a triple to an intake with two counts, over plain lists.
 pub fn feed_lists(
@@ -36,8 +35,8 @@ pub fn feed_lists(
         object: o,
     };
     match call_refusal(words, roster, triples, summary, weights, map, work, t) {
-        Verdict::Refused(r) => with_counts(Reply::Refused(r), held, summarised),
-        Verdict::Passed => take_in(
+        Err(r) => with_counts(Err(r), held, summarised),
+        Ok(()) => take_in(
             held, summarised, words, roster, triples, summary, weights, map, work, t,
         ),
     }

@@ -9,15 +9,15 @@ use lib.Dec.{eqb, ltb}
 use lib.ListN.{length, replicate, length-replicate, get_or-replicate}
 use lib.Seq.{ext_get_or}
 use borrow.Author.Tests.{ne_eqb, eq-eqb, lt-ltb, le-ltb}
-use Rattle.model.specs.declared.Done.{Done}
+use Rattle.std.specs.declared.result.Result.{Result}
+use Rattle.std.specs.declared.result.Result.TheVariants.{Ok, Err}
 use Rattle.model.specs.declared.Refusal.{Refusal}
-use Rattle.model.specs.declared.Done.TheVariants.{Accepted, Refused}
 use Rattle.model.specs.declared.Refusal.TheVariants.{Length, Words, Roster}
 use Rattle.model.specs.declared.Vocabulary.{Vocabulary}
 use Rattle.model.specs.Codes.{wrong_words, absent}
 use Rattle.model.specs.Triples.{slots}
 use Rattle.model.specs.Roster.{wrong_roster}
-use Rattle.model.specs.Outcomes.{Outcome, refused, accepted, refusal_number, done, decided, wrong_size}
+use Rattle.model.specs.Outcomes.{Outcome, refused, accepted, refusal_number, decided, wrong_size, outcome_by, outcome_of}
 use Rattle.model.specs.Intake.{State, wrong_lists, open_outcome, opened, open_leaves}
 use Rattle.theory.proofs.Tests.{or_left, or_right}
 use Rattle.lists.specs.Flat.{Cleared}
@@ -71,8 +71,8 @@ module _ (v : Vocabulary) where
     unfolding open_outcome decided wrong_lists wrong_lengths slots
     outcome-is a w b p x q held summarised = λ i. first_of (p i) (x i) (q i)
 
-    pub opened-length : wrong ≡ true → OpenCall v roster triples summary weights map (Refused Length) triples summary weights map
-    unfolding done refusal_number open_leaves
+    pub opened-length : wrong ≡ true → OpenCall v roster triples summary weights map (Err Length) triples summary weights map
+    unfolding outcome_by refusal_number open_leaves
     opened-length p =
         record {
           answer = λ h s. sym (outcome-is true (wrong_words v (length roster)) (wrong_roster v roster) p refl refl h s);
@@ -82,8 +82,8 @@ module _ (v : Vocabulary) where
           in_map = λ h s. refl;
         }
 
-    pub opened-words : wrong ≡ false → wrong_words v (length roster) ≡ true → OpenCall v roster triples summary weights map (Refused Words) triples summary weights map
-    unfolding done refusal_number open_leaves
+    pub opened-words : wrong ≡ false → wrong_words v (length roster) ≡ true → OpenCall v roster triples summary weights map (Err Words) triples summary weights map
+    unfolding outcome_by refusal_number open_leaves
     opened-words p q =
         record {
           answer = λ h s. sym (outcome-is false true (wrong_roster v roster) p q refl h s);
@@ -93,8 +93,8 @@ module _ (v : Vocabulary) where
           in_map = λ h s. refl;
         }
 
-    pub opened-roster : wrong ≡ false → wrong_words v (length roster) ≡ false → wrong_roster v roster ≡ true → OpenCall v roster triples summary weights map (Refused Roster) triples summary weights map
-    unfolding done refusal_number open_leaves
+    pub opened-roster : wrong ≡ false → wrong_words v (length roster) ≡ false → wrong_roster v roster ≡ true → OpenCall v roster triples summary weights map (Err Roster) triples summary weights map
+    unfolding outcome_by refusal_number open_leaves
     opened-roster p k q =
         record {
           answer = λ h s. sym (outcome-is false false true p k q h s);
@@ -106,8 +106,8 @@ module _ (v : Vocabulary) where
 
     pub opened-all : wrong ≡ false → wrong_words v (length roster) ≡ false → wrong_roster v roster ≡ false → (x y w z : List ℕ)
         → Cleared triples x 0 (length triples) → Cleared summary y 0 (length summary) → Cleared weights w 0 (length weights) → Emptied map z (length map)
-        → OpenCall v roster triples summary weights map Accepted x y w z
-    unfolding done open_leaves opened
+        → OpenCall v roster triples summary weights map (Ok tt) x y w z
+    unfolding outcome_by open_leaves opened
     opened-all p k q x y w z a b c d =
         record {
           answer = λ h s. sym (outcome-is false false false p k q h s);
@@ -118,18 +118,18 @@ module _ (v : Vocabulary) where
         }
 
     -- ── with the counts ──
-    module _ (held summarised : ℕ) (d : Done) (x y w z : List ℕ) (C : OpenCall v roster triples summary weights map d x y w z) where
+    module _ (held summarised : ℕ) (d : Result (Unit {0}) Refusal) (x y w z : List ℕ) (C : OpenCall v roster triples summary weights map d x y w z) where
       abbrev s : State
       s = state_with triples summary weights map held summarised
 
-      pub opens-refused : (r : Refusal) → d ≡ Refused r → Opens v roster s (done (Refused r)) (state_with x y w z held summarised)
-      unfolding done open_leaves
+      pub opens-refused : (r : Refusal) → d ≡ Err r → Opens v roster s (outcome_of (Err r)) (state_with x y w z held summarised)
+      unfolding outcome_by open_leaves
       opens-refused r e =
-          let K = subst (λ (d : Done). OpenCall v roster triples summary weights map d x y w z) e C in
+          let K = subst (λ (d : Result (Unit {0}) Refusal). OpenCall v roster triples summary weights map d x y w z) e C in
           record { answer = K.answer held summarised; leaves = λ i. state_with (K.in_triples held summarised i) (K.in_summary held summarised i) (K.in_weights held summarised i) (K.in_map held summarised i) held summarised }
 
-      pub opens-accepted : d ≡ Accepted → Opens v roster s (done Accepted) (state_with x y w z 0 0)
-      unfolding done open_leaves opened
+      pub opens-accepted : d ≡ (Ok tt) → Opens v roster s (outcome_of (Ok tt)) (state_with x y w z 0 0)
+      unfolding outcome_by open_leaves opened
       opens-accepted e =
-          let K = subst (λ (d : Done). OpenCall v roster triples summary weights map d x y w z) e C in
+          let K = subst (λ (d : Result (Unit {0}) Refusal). OpenCall v roster triples summary weights map d x y w z) e C in
           record { answer = K.answer held summarised; leaves = λ i. state_with (K.in_triples held summarised i) (K.in_summary held summarised i) (K.in_weights held summarised i) (K.in_map held summarised i) 0 0 }

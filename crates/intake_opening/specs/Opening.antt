@@ -1,12 +1,13 @@
 -- What opening returns and leaves in the lent lists.
 -- Assumes nothing.
+use Rattle.std.specs.declared.result.Result.{Result}
+use Rattle.model.specs.declared.Refusal.{Refusal}
 use Rattle.std.specs.Prelude.{ℕ, ◌/◌, ◌≡◌, Bool, not, ◌||◌, List, eqb, ltb}
 use Rattle.std.specs.Borrow.{MutBor}
 use denote.Triple.Both.{Both}
-use Rattle.model.specs.declared.Done.{Done}
 use Rattle.model.specs.declared.Vocabulary.{Vocabulary}
 use Rattle.model.specs.Codes.{most_triples}
-use Rattle.model.specs.Outcomes.{Outcome, done, wrong_size}
+use Rattle.model.specs.Outcomes.{Outcome, wrong_size, outcome_by, outcome_of}
 use Rattle.model.specs.Intake.{State, open_outcome, open_leaves}
 
 -- the model's `wrong_lists`, by the lengths
@@ -33,12 +34,12 @@ at_exit triples summary weights map = state_with triples.exit.now summary.exit.n
 
 module _ (v : Vocabulary) where
   -- the answer, and the four lists after the call, whatever the counts are
-  pub record OpenCall (roster triples summary weights map : List ℕ) (r : Done) (triples' summary' weights' map' : List ℕ) : Type 0 where
-    pub answer : (held summarised : ℕ) → done r ≡ open_outcome v roster (state_with triples summary weights map held summarised)
-    pub in_triples : (held summarised : ℕ) → triples' ≡ (open_leaves v roster (done r) (state_with triples summary weights map held summarised)).triples
-    pub in_summary : (held summarised : ℕ) → summary' ≡ (open_leaves v roster (done r) (state_with triples summary weights map held summarised)).summary
-    pub in_weights : (held summarised : ℕ) → weights' ≡ (open_leaves v roster (done r) (state_with triples summary weights map held summarised)).weights
-    pub in_map : (held summarised : ℕ) → map' ≡ (open_leaves v roster (done r) (state_with triples summary weights map held summarised)).map
+  pub record OpenCall (roster triples summary weights map : List ℕ) (r : Result (Unit {0}) Refusal) (triples' summary' weights' map' : List ℕ) : Type 0 where
+    pub answer : (held summarised : ℕ) → outcome_of r ≡ open_outcome v roster (state_with triples summary weights map held summarised)
+    pub in_triples : (held summarised : ℕ) → triples' ≡ (open_leaves v roster (outcome_of r) (state_with triples summary weights map held summarised)).triples
+    pub in_summary : (held summarised : ℕ) → summary' ≡ (open_leaves v roster (outcome_of r) (state_with triples summary weights map held summarised)).summary
+    pub in_weights : (held summarised : ℕ) → weights' ≡ (open_leaves v roster (outcome_of r) (state_with triples summary weights map held summarised)).weights
+    pub in_map : (held summarised : ℕ) → map' ≡ (open_leaves v roster (outcome_of r) (state_with triples summary weights map held summarised)).map
 
   -- the whole call: its outcome, and the lists and counts after it
   pub record Opens (roster : List ℕ) (s : State) (outcome : Outcome (Unit {0})) (after : State) : Type 0 where

@@ -2,12 +2,12 @@
 #![tactic(auto)]
 
 ghost use Rattle.std.specs.Prelude.{◌≡◌};
-ghost use Rattle.model.specs.Outcomes.{done};
+ghost use Rattle.model.specs.Outcomes.{outcome_of};
 ghost use Rattle.intake_opening.specs.Opening.{wrong_lengths, at_entry, at_exit, OpenCall, Opens};
 
 use checks::{MOST_TRIPLES, size_wrong, words_wrong};
 use lists::{clear, empty};
-use model::{Done, Refusal, Vocabulary};
+use model::{Refusal, Vocabulary};
 use roster_checks::roster_wrong;
 
 // Whether the lengths of an intake's lists are wrong with n codes.
@@ -37,26 +37,26 @@ fn open_lists(
     summary: &mut [u32],
     weights: &mut [u32],
     map: &mut [u32],
-) -> Done
+) -> Result<(), Refusal>
     ensures { OpenCall words roster.now
         triples.old summary.old weights.old map.old result
         triples.new summary.new weights.new map.new }
 {
     let n = roster.len();
     if lengths_wrong(n, triples.len(), summary.len(), weights.len(), map.len()) {
-        return Done::Refused(Refusal::Length);
+        return Err(Refusal::Length);
     }
     if words_wrong(words, n) {
-        return Done::Refused(Refusal::Words);
+        return Err(Refusal::Words);
     }
     if roster_wrong(words, roster) {
-        return Done::Refused(Refusal::Roster);
+        return Err(Refusal::Roster);
     }
     clear(triples, 0, triples.len());
     clear(summary, 0, summary.len());
     clear(weights, 0, weights.len());
     empty(map);
-    Done::Accepted
+    Ok(())
 }
 
 // What an intake's record holds: how many triples are held, and how many their summary has.
@@ -69,7 +69,7 @@ pub struct Counts {
 // What opening leaves: the answer and the record.
 #[derive(Clone, Copy)]
 pub struct OpenedCounts {
-    pub answer: Done,
+    pub answer: Result<(), Refusal>,
     pub counts: Counts,
 }
 
@@ -89,12 +89,12 @@ pub fn open_counts(
         (at_exit triples summary weights map result.counts.held result.counts.summarised) }
 {
     match open_lists(words, roster, triples, summary, weights, map) {
-        Done::Refused(r) => OpenedCounts {
-            answer: Done::Refused(r),
+        Err(r) => OpenedCounts {
+            answer: Err(r),
             counts: Counts { held, summarised },
         },
-        Done::Accepted => OpenedCounts {
-            answer: Done::Accepted,
+        Ok(()) => OpenedCounts {
+            answer: Ok(()),
             counts: Counts {
                 held: 0,
                 summarised: 0,

@@ -7,13 +7,13 @@ use mathlib.Core.Bool.{Bool, true, false, cond}
 use mathlib.Core.List.{List}
 use native.Mathlib.Omega.{arith}
 use lib.ListN.{length}
+use Rattle.std.specs.declared.result.Result.TheVariants.{Ok, Err}
 use Rattle.model.specs.declared.Triple.{Triple}
 use Rattle.model.specs.declared.Refusal.TheVariants.{Missing}
-use Rattle.model.specs.declared.Reply.TheVariants.{Refused as reply-refused}
 use Rattle.model.specs.declared.Vocabulary.{Vocabulary}
 use Rattle.model.specs.Triples.{slots, holds, place, without}
 use Rattle.model.specs.Lists.{any}
-use Rattle.model.specs.Outcomes.{Outcome, refused, accepted, refusal_number, Answer, answer, Said, removed, replied, zeroed}
+use Rattle.model.specs.Outcomes.{Outcome, refused, accepted, refusal_number, Answer, answer, Said, removed, replied, zeroed, outcome_by, outcome_of, reply}
 use Rattle.model.specs.Intake.{State, removing, judged_removal, after_saying, held_then, state_of, Valid, InAnyState}
 use Rattle.lists.specs.Flat.{at, Place}
 use Rattle.intake_opening.specs.Opening.{state_with}
@@ -43,8 +43,8 @@ module _ (v : Vocabulary) (roster triples sums weighed map₀ work : List ℕ) (
   then_without H i = refl
 
   -- more triples than slots: an intake altered by hand
-  pub out-over : length triples / 3 < held → TakesOut (replied (reply-refused Missing)) s work
-  unfolding replied refusal_number slots
+  pub out-over : length triples / 3 < held → TakesOut (replied (Err Missing)) s work
+  unfolding outcome_by reply refusal_number slots
   out-over h =
       record {
         passes = inl refl;
@@ -54,8 +54,8 @@ module _ (v : Vocabulary) (roster triples sums weighed map₀ work : List ℕ) (
 
   module _ (i : ℕ) (P : Place (at triples) 0 held t i) (r : Bool) (S : StandsAt triples held i t r) where
     -- the triple is not held
-    pub out-missing : r ≡ false → TakesOut (replied (reply-refused Missing)) s work
-    unfolding replied refusal_number held_then
+    pub out-missing : r ≡ false → TakesOut (replied (Err Missing)) s work
+    unfolding outcome_by reply refusal_number held_then
     out-missing e =
         record {
           passes = inl refl;

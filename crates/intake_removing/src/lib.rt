@@ -12,7 +12,6 @@ use intake_cutting::cut;
 use intake_insertion::stands_at;
 use lists::lower_bound;
 use model::{Refusal, Reply, Triple, Vocabulary};
-use table_checks::Verdict;
 
 // A removal that no check refuses.
 fn take_out(
@@ -33,7 +32,7 @@ fn take_out(
         (at_exit triples summary weights map result.counts.held result.counts.summarised) work.new }
 {
     if triples.len() / 3 < held {
-        return with_counts(Reply::Refused(Refusal::Missing), held, summarised); // only where the record was altered by hand
+        return with_counts(Err(Refusal::Missing), held, summarised); // only where the record was altered by hand
     }
     let i = lower_bound(triples, 0, held, t);
     if stands_at(triples, held, i, t) {
@@ -41,7 +40,7 @@ fn take_out(
             held, summarised, words, roster, triples, summary, weights, map, work, i,
         );
     }
-    with_counts(Reply::Refused(Refusal::Missing), held, summarised)
+    with_counts(Err(Refusal::Missing), held, summarised)
 }
 
 // Removes a triple from an intake with two counts, over plain lists.
@@ -69,8 +68,8 @@ pub fn remove_lists(
         object: o,
     };
     match call_refusal(words, roster, triples, summary, weights, map, work, t) {
-        Verdict::Refused(r) => with_counts(Reply::Refused(r), held, summarised),
-        Verdict::Passed => take_out(
+        Err(r) => with_counts(Err(r), held, summarised),
+        Ok(()) => take_out(
             held, summarised, words, roster, triples, summary, weights, map, work, t,
         ),
     }

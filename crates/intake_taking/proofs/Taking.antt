@@ -9,13 +9,14 @@ use native.Mathlib.Omega.{arith}
 use lib.Dec.{leb}
 use lib.ListN.{length}
 use borrow.Author.Tests.{le-leb, lt-leb}
+use Rattle.std.specs.declared.result.Result.TheVariants.{Ok, Err}
 use Rattle.model.specs.declared.Triple.{Triple}
 use Rattle.model.specs.declared.Refusal.TheVariants.{Full}
-use Rattle.model.specs.declared.Reply.TheVariants.{NotNew, Refused as reply-refused}
+use Rattle.model.specs.declared.Reply.TheVariants.{NotNew}
 use Rattle.model.specs.declared.Vocabulary.{Vocabulary}
 use Rattle.model.specs.Triples.{slots, holds, place, insert}
 use Rattle.model.specs.Lists.{any}
-use Rattle.model.specs.Outcomes.{Outcome, refused, accepted, refusal_number, Answer, answer, Said, new, not_new, replied, zeroed}
+use Rattle.model.specs.Outcomes.{Outcome, refused, accepted, refusal_number, Answer, answer, Said, new, not_new, replied, zeroed, outcome_by, outcome_of, reply}
 use Rattle.model.specs.Intake.{State, feeding, judged, after_saying, held_then, state_of, Valid, InAnyState}
 use Rattle.lists.specs.Flat.{at, Cleared, Place}
 use Rattle.lists.proofs.Search.{cleared-all}
@@ -48,8 +49,8 @@ module _ (v : Vocabulary) where
     held_then-new H i = refl
 
     -- more triples than slots: an intake altered by hand
-    pub taken-over : length triples / 3 < held → Takes (replied (reply-refused Full)) s work
-    unfolding replied refusal_number slots
+    pub taken-over : length triples / 3 < held → Takes (replied (Err Full)) s work
+    unfolding outcome_by reply refusal_number slots
     taken-over h =
         record {
           passes = inl refl;
@@ -62,8 +63,8 @@ module _ (v : Vocabulary) where
       answered x H W = λ j. accepted (answer x (sym (place_is v roster triples sums weighed map₀ held summarised t i P r S H W) j))
 
       -- the triple is held
-      pub taken-same : r ≡ true → (w : List ℕ) → Cleared work w 0 (length work) → Takes (replied (NotNew i)) s w
-      unfolding replied held_then after_saying
+      pub taken-same : r ≡ true → (w : List ℕ) → Cleared work w 0 (length work) → Takes (replied (Ok (NotNew i))) s w
+      unfolding outcome_by reply held_then after_saying
       taken-same e w C =
           record {
             passes = inr (answer not_new i, refl, refl);
@@ -72,8 +73,8 @@ module _ (v : Vocabulary) where
           }
 
       -- the intake is full
-      pub taken-full : r ≡ false → length triples / 3 ≤ held → Takes (replied (reply-refused Full)) s work
-      unfolding replied refusal_number held_then slots
+      pub taken-full : r ≡ false → length triples / 3 ≤ held → Takes (replied (Err Full)) s work
+      unfolding outcome_by reply refusal_number held_then slots
       taken-full e h =
           record {
             passes = inl refl;

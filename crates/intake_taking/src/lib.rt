@@ -32,17 +32,17 @@ pub fn take_in(
 {
     let slots = triples.len() / 3;
     if slots < held {
-        return with_counts(Reply::Refused(Refusal::Full), held, summarised); // only where the record was altered by hand
+        return with_counts(Err(Refusal::Full), held, summarised); // only where the record was altered by hand
     }
     let i = lower_bound(triples, 0, held, t);
     if stands_at(triples, held, i, t) {
         clear(work, 0, work.len());
-        return with_counts(Reply::NotNew(i), held, summarised);
+        return with_counts(Ok(Reply::NotNew(i)), held, summarised);
     }
     if held < slots {
         return add(
             held, summarised, words, roster, triples, summary, weights, map, work, t, i,
         );
     }
-    with_counts(Reply::Refused(Refusal::Full), held, summarised)
+    with_counts(Err(Refusal::Full), held, summarised)
 }

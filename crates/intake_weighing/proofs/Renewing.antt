@@ -1,12 +1,12 @@
 -- The summary, its weights and the map made anew.
 -- Assumes nothing.
+use Rattle.std.specs.declared.result.Result.{Result}
+use Rattle.std.specs.declared.result.Result.TheVariants.{Ok, Err}
 use Rattle.std.proofs.Common.{◌≡◌, ℕ, ◌+◌, ◌*◌, ◌/◌, ◌<◌, ◌≤◌, List, [], length, sym, refl, ap, ◌∙◌, subst, arith}
 use mathlib.Core.List.{Memᴰ as Mem}
 use lib.ListN.{length-replicate}
 use Rattle.model.specs.declared.Triple.{Triple}
 use Rattle.model.specs.declared.Refusal.{Refusal}
-use Rattle.model.specs.declared.Counted.{Counted}
-use Rattle.model.specs.declared.Counted.TheVariants.{Count, Refused}
 use Rattle.model.specs.declared.Vocabulary.{Vocabulary}
 use Rattle.model.specs.Lists.{zeros, padded}
 use Rattle.model.specs.Triples.{slots, listed}
@@ -14,7 +14,7 @@ use Rattle.model.specs.Order.{Rising}
 use Rattle.model.specs.Partition.{label}
 use Rattle.model.specs.Classes.{map_of}
 use Rattle.model.specs.Summary.{moved, summary, weights_of, weights_by}
-use Rattle.model.specs.Outcomes.{Outcome, accepted, counted}
+use Rattle.model.specs.Outcomes.{Outcome, accepted, outcome_by, outcome_of}
 use Rattle.theory.specs.Tables.{Below}
 use Rattle.theory.proofs.Lists.{length-tabulate, mem-tabulate}
 use Rattle.theory.proofs.Checks.{no_checks, not_accepted}
@@ -51,15 +51,15 @@ module _ (v : Vocabulary) (triples : List ℕ) (count : ℕ) (roster sums weighe
   unfolding slots
   ok = enough [] (length sums / 3) (length us) no_checks (omega (arith, few-enough))
 
-  module _ (r : Counted) (sums' map' work' : List ℕ) (C : Condensed m ts sums map₀ work r sums' map' work') where
-    pub renewed_never : (q : Refusal) → r ≡ Refused q → {P : Type 0} → P
-    unfolding counted
-    renewed_never q e = absurd (not_accepted (ap counted (sym e) ∙ C.answer ∙ ok))
+  module _ (r : Result ℕ Refusal) (sums' map' work' : List ℕ) (C : Condensed m ts sums map₀ work r sums' map' work') where
+    pub renewed_never : (q : Refusal) → r ≡ Err q → {P : Type 0} → P
+    unfolding outcome_by
+    renewed_never q e = absurd (not_accepted (ap outcome_of (sym e) ∙ C.answer ∙ ok))
 
-    module _ (k : ℕ) (e : r ≡ Count k) where
+    module _ (k : ℕ) (e : r ≡ Ok k) where
       answer-is : ◌≡◌ {A = Outcome ℕ} (accepted k) (accepted (length us))
-      unfolding counted
-      answer-is = ap counted (sym e) ∙ C.answer ∙ ok
+      unfolding outcome_by
+      answer-is = ap outcome_of (sym e) ∙ C.answer ∙ ok
 
       k-is : k ≡ length us
       k-is = let q = answer-is in cc

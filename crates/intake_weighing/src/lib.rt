@@ -10,7 +10,7 @@ ghost use Rattle.intake_weighing.specs.Weighing.{Weighable, Renewable, Renewed};
 
 use intake_insertion::stands_at;
 use lists::{clear, lower_bound, narrow, triple_at, wide};
-use model::{Counted, Triple, Vocabulary};
+use model::{Triple, Vocabulary};
 use summarise::{condense, image};
 
 // One more at a place. A list altered by hand may hold the highest number, which becomes 0.
@@ -77,7 +77,7 @@ pub fn renew(
         summary.old weights.old work.old result
         summary.new weights.new map.new work.new }
 {
-    let Counted::Count(k) = condense(words, triples, count, roster, summary, map, work) else {
+    let Ok(k) = condense(words, triples, count, roster, summary, map, work) else {
         return 0; // cannot be: the summary has no more triples than there are slots
     };
     weigh(triples, count, map, summary, k, weights, work);

@@ -8,12 +8,13 @@ use native.Mathlib.Omega.{arith}
 use native.Mathlib.Nat.{zero-add}
 use lib.ListN.{length}
 use mir.Val.{bool_byte}
+use Rattle.std.specs.declared.result.Result.TheVariants.{Ok, Err}
 use Rattle.model.specs.declared.Triple.{Triple}
-use Rattle.model.specs.declared.Found.TheVariants.{Yes, No, Refused}
+use Rattle.model.specs.declared.Found.TheVariants.{Yes, No}
 use Rattle.model.specs.declared.Refusal.TheVariants.{Length}
 use Rattle.model.specs.Lists.{any, how_many, tabulate}
 use Rattle.model.specs.Triples.{triples, before, same, holds, place}
-use Rattle.model.specs.Outcomes.{Outcome, refused, accepted, Answer, answer, refusal_number, found, decided, wrong_length}
+use Rattle.model.specs.Outcomes.{Outcome, refused, accepted, Answer, answer, refusal_number, found, decided, wrong_length, outcome_by, outcome_of, seen}
 use Rattle.model.specs.Calls.{look_up_outcome}
 use Rattle.theory.proofs.Tests.{byte_of}
 use Rattle.theory.proofs.Lists.{many-le, length-tabulate}
@@ -69,8 +70,8 @@ module _ (l : List ℕ) (t : Triple) where
   unfolding look_up_outcome decided
   outcome-is p = λ i. cond (p i) (refused 1) (accepted (answer (holds t (triples l)) (place t (triples l))))
 
-  pub by_length : wrong_length (length l) ≡ true → found (Refused Length) ≡ look_up_outcome l t
-  unfolding found refusal_number
+  pub by_length : wrong_length (length l) ≡ true → found (Err Length) ≡ look_up_outcome l t
+  unfolding outcome_by seen refusal_number
   by_length p = sym (outcome-is p)
 
   module _ (s : Seen) (e : s ≡ seen_in (triples l) t) (p : wrong_length (length l) ≡ false) where
@@ -78,10 +79,10 @@ module _ (l : List ℕ) (t : Triple) where
     unfolding seen_in
     answered b h = (λ i. accepted (answer ((sym h ∙ ap (λ (x : Seen). x.found) e) i) (e i).place)) ∙ sym (outcome-is p)
 
-    pub by-yes : s.found ≡ true → found (Yes s.place) ≡ look_up_outcome l t
-    unfolding found
+    pub by-yes : s.found ≡ true → found (Ok (Yes s.place)) ≡ look_up_outcome l t
+    unfolding outcome_by seen
     by-yes h = answered true h
 
-    pub by-no : s.found ≡ false → found (No s.place) ≡ look_up_outcome l t
-    unfolding found
+    pub by-no : s.found ≡ false → found (Ok (No s.place)) ≡ look_up_outcome l t
+    unfolding outcome_by seen
     by-no h = answered false h

@@ -38,15 +38,15 @@ fn seen_in(list: &[u32], t: Triple) -> Seen
     Seen { found, place }
 }
 
-pub fn look_up(list: &[u32], t: Triple) -> Found
+pub fn look_up(list: &[u32], t: Triple) -> Result<Found, Refusal>
     ensures { found result ≡ look_up_outcome list.now t }
 {
     if length_wrong(list.len()) {
-        return Found::Refused(Refusal::Length);
+        return Err(Refusal::Length);
     }
     let seen = seen_in(list, t);
     if seen.found {
-        return Found::Yes(seen.place);
+        return Ok(Found::Yes(seen.place));
     }
-    Found::No(seen.place)
+    Ok(Found::No(seen.place))
 }

@@ -5,7 +5,7 @@ ghost use Rattle.std.specs.Prelude.{◌≡◌, eqb};
 ghost use Rattle.model.specs.Outcomes.{refusal_number};
 ghost use Rattle.query.specs.Ask.{blank};
 
-use model::{Refusal, refusal_number};
+use model::Refusal;
 
 // An end of a pattern: a variable 0 to 7, or a code.
 #[derive(Clone, Copy)]
@@ -28,12 +28,11 @@ pub struct Query {
     pub count: u32,
 }
 
-// The answer to a query; `asked` in specs/Ask.antt gives the outcome of each case.
-#[derive(Clone, Copy)]
+// The answer to a query that is not refused; `asked` in specs/Ask.antt gives the outcome.
+#[derive(Clone, Copy, PartialEq, Eq)]
 pub enum Asked {
     Maybe,
     None,
-    Refused(Refusal),
 }
 
 // Whether a pattern's end fits a node, and the variables' nodes afterwards.
@@ -55,8 +54,9 @@ pub fn blank_pattern() -> Pattern
 }
 
 // Whether a refusal is that of a retired query.
+#[tactic(auto, unfolding(model::specs::Outcomes::refusal_number))]
 pub fn is_retired(refusal: Refusal) -> bool
     ensures { result ≡ eqb (refusal_number refusal) 12 }
 {
-    refusal_number(refusal) == refusal_number(Refusal::Retired)
+    refusal == Refusal::Retired
 }

@@ -2,7 +2,7 @@
 #![tactic(auto)]
 
 use lists::Code;
-use model::{Vocabulary, refusal_number};
+use model::{Refusal, Vocabulary, refusal_number};
 use query::{Asked, End, Pattern, Query, blank_pattern};
 use std::io;
 
@@ -12,11 +12,11 @@ const SUMMARY: [u32; 42] = [
     0, 9, 10, 5, 12, 10, 6, 12, 10, 7, 12,
 ];
 
-fn show(rt: &impl Print, a: Asked) -> io::Result<()> {
+fn show(rt: &impl Print, a: Result<Asked, Refusal>) -> io::Result<()> {
     match a {
-        Asked::Maybe => println!(rt; "(ask maybe)"),
-        Asked::None => println!(rt; "(ask none)"),
-        Asked::Refused(r) => println!(rt; "(refused {})", refusal_number(r)),
+        Ok(Asked::Maybe) => println!(rt; "(ask maybe)"),
+        Ok(Asked::None) => println!(rt; "(ask none)"),
+        Err(r) => println!(rt; "(refused {})", refusal_number(r)),
     }
 }
 

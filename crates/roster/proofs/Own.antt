@@ -5,14 +5,14 @@ use mathlib.Core.Path.{◌≡◌, refl, sym, ◌∙◌, ap, subst}
 use mathlib.Core.Bool.{Bool, true, false, cond, ◌||◌}
 use mathlib.Core.List.{List}
 use lib.ListN.{length, length-replicate}
-use Rattle.model.specs.declared.Done.TheVariants.{Accepted, Refused}
+use Rattle.std.specs.declared.result.Result.TheVariants.{Ok, Err}
 use Rattle.model.specs.declared.Refusal.TheVariants.{Length, Code, Words}
 use Rattle.model.specs.declared.Vocabulary.{Vocabulary}
 use Rattle.model.specs.Codes.{wrong_words}
 use Rattle.model.specs.Lists.{any, zeros}
 use Rattle.model.specs.Triples.{triples}
 use Rattle.model.specs.Roster.{own_roster, wrong_codes}
-use Rattle.model.specs.Outcomes.{Outcome, refused, accepted, refusal_number, done, decided, left, zeroed, wrong_size, wrong_length}
+use Rattle.model.specs.Outcomes.{Outcome, refused, accepted, refusal_number, decided, left, zeroed, wrong_size, wrong_length, outcome_by, outcome_of}
 use Rattle.model.specs.Calls.{own_roster_outcome, own_roster_leaves}
 use Rattle.theory.proofs.Tests.{or_left, or_right, or_neither}
 use Rattle.theory.specs.Tables.{AllBelow}
@@ -38,30 +38,30 @@ module _ (v : Vocabulary) where
     unfolding own_roster_leaves
     leaves-is e = ap (λ (o : Outcome (Unit {0})). left o roster (own_roster v (length roster) (triples table))) e
 
-    by_length : first ≡ true → OwnRosterCall v table roster (Refused Length) roster
-    unfolding done refusal_number left zeroed any
+    by_length : first ≡ true → OwnRosterCall v table roster (Err Length) roster
+    unfolding outcome_by refusal_number left zeroed any
     by_length p = let e = outcome-is p refl refl in record { answer = sym e; leaves = sym (leaves-is e) }
 
-    pub by_size : wrong_size (length roster) ≡ true → OwnRosterCall v table roster (Refused Length) roster
+    pub by_size : wrong_size (length roster) ≡ true → OwnRosterCall v table roster (Err Length) roster
     by_size p = by_length (or_left (wrong_size (length roster)) _ p)
 
-    pub by-table : wrong_length (length table) ≡ true → OwnRosterCall v table roster (Refused Length) roster
+    pub by-table : wrong_length (length table) ≡ true → OwnRosterCall v table roster (Err Length) roster
     by-table p = by_length (or_right (wrong_size (length roster)) _ p)
 
     module _ (p : wrong_size (length roster) ≡ false) (q : wrong_length (length table) ≡ false) where
       passed : first ≡ false
       passed = or_neither (wrong_size (length roster)) _ p q
 
-      pub by-words : wrong_words v (length roster) ≡ true → OwnRosterCall v table roster (Refused Words) roster
-      unfolding done refusal_number left zeroed any
+      pub by-words : wrong_words v (length roster) ≡ true → OwnRosterCall v table roster (Err Words) roster
+      unfolding outcome_by refusal_number left zeroed any
       by-words h = let e = outcome-is passed h refl in record { answer = sym e; leaves = sym (leaves-is e) }
 
-      pub by_codes : wrong_words v (length roster) ≡ false → third ≡ true → OwnRosterCall v table roster (Refused Code) roster
-      unfolding done refusal_number left zeroed any
+      pub by_codes : wrong_words v (length roster) ≡ false → third ≡ true → OwnRosterCall v table roster (Err Code) roster
+      unfolding outcome_by refusal_number left zeroed any
       by_codes w h = let e = outcome-is passed w h in record { answer = sym e; leaves = sym (leaves-is e) }
 
-      pub by_marking : wrong_words v (length roster) ≡ false → third ≡ false → (a b : List ℕ) → a ≡ zeros (length roster) → b ≡ table_marked v a (triples table) → OwnRosterCall v table roster Accepted b
-      unfolding done left
+      pub by_marking : wrong_words v (length roster) ≡ false → third ≡ false → (a b : List ℕ) → a ≡ zeros (length roster) → b ≡ table_marked v a (triples table) → OwnRosterCall v table roster (Ok tt) b
+      unfolding outcome_by left
       by_marking w h a b x y =
           let e = outcome-is passed w h in
           record {

@@ -6,24 +6,21 @@ use mathlib.Core.Bool.{true, false}
 use mathlib.Core.List.{List}
 use native.Mathlib.Omega.{arith}
 use lib.ListN.{length}
+use Rattle.std.specs.declared.result.Result.{Result}
+use Rattle.std.specs.declared.result.Result.TheVariants.{Ok, Err}
 use Rattle.model.specs.declared.Triple.{Triple}
 use Rattle.model.specs.declared.Refusal.{Refusal}
 use Rattle.model.specs.declared.Refusal.TheVariants.{Slots}
-use Rattle.model.specs.declared.Counted.{Counted}
-use Rattle.model.specs.declared.Counted.TheVariants.{Count, Refused as counted-refused}
 use Rattle.model.specs.declared.Vocabulary.{Vocabulary}
 use Rattle.model.specs.Lists.{zeros}
 use Rattle.model.specs.Triples.{triples, slots, sorted, listed}
-use Rattle.model.specs.Outcomes.{accepted, refusal_number, counted, checked, Passes}
+use Rattle.model.specs.Outcomes.{accepted, refusal_number, checked, Passes, outcome_by, outcome_of}
 use Rattle.model.specs.Calls.{table_checks, saturated, saturate_outcome, saturate_leaves}
 use Rattle.theory.proofs.Order.{sorted-rising, sorted-mem, mem-sorted, sorted-length}
 use Rattle.theory.proofs.Lists.{length-tabulate}
 use Rattle.theory.specs.Tables.{In, Right}
 use Rattle.theory.proofs.Saturated.{saturation-exact, saturation_unique}
 use Rattle.theory.proofs.Accepted.{type-below, below, in_codes}
-use Rattle.table_checks.specs.declared.Verdict.{Verdict}
-use Rattle.table_checks.specs.declared.Verdict.TheVariants.{Passed, Refused}
-use Rattle.table_checks.specs.Verdicts.{verdict}
 use Rattle.table_checks.proofs.Laws.{passed, passed-right, refused-more, refused-left, too_few, enough, left-zeros, left_after}
 use Rattle.lists.specs.Flat.{at, Cleared}
 use Rattle.lists.proofs.Search.{cleared-all}
@@ -33,28 +30,28 @@ use Rattle.strata.specs.Strata.{Closed, FreeEnds}
 
 module _ (v : Vocabulary) where
   -- what derive asks for
-  pub free-ends : (table roster : List ℕ) (w : Verdict) → verdict w ≡ checked (table_checks v false table roster) tt → w ≡ Passed → FreeEnds v (triples table)
+  pub free-ends : (table roster : List ℕ) (w : Result (Unit {0}) Refusal) → outcome_of w ≡ checked (table_checks v false table roster) tt → w ≡ (Ok tt) → FreeEnds v (triples table)
   free-ends table roster w e k t m =
-      let passes : Passes (table_checks v false table roster) = passed v false table roster (subst (λ (z : Verdict). verdict z ≡ checked (table_checks v false table roster) tt) k e) in
+      let passes : Passes (table_checks v false table roster) = passed v false table roster (subst (λ (z : Result (Unit {0}) Refusal). outcome_of z ≡ checked (table_checks v false table roster) tt) k e) in
       let codes = in_codes v roster (triples table) (passed-right v false table roster passes) t m in
       (codes.subject_free, codes.object_free)
 
   module _ (table roster l : List ℕ) where
-    abbrev Answers : Counted → List ℕ → Type 0
-    Answers r m = (counted r ≡ saturate_outcome v table roster l) × (m ≡ saturate_leaves v table roster l)
+    abbrev Answers : Result ℕ Refusal → List ℕ → Type 0
+    Answers r m = (outcome_of r ≡ saturate_outcome v table roster l) × (m ≡ saturate_leaves v table roster l)
 
-    -- the verdict of the checks
-    abbrev Is : Verdict → Type 0
-    Is w = verdict w ≡ checked (table_checks v false table roster) tt
+    -- the outcome_of of the checks
+    abbrev Is : Result (Unit {0}) Refusal → Type 0
+    Is w = outcome_of w ≡ checked (table_checks v false table roster) tt
 
-    pub answer-refused : (w : Verdict) (r : Refusal) → Is w → w ≡ Refused r → Answers (counted-refused r) l
-    unfolding counted saturate_outcome saturate_leaves
+    pub answer-refused : (w : Result (Unit {0}) Refusal) (r : Refusal) → Is w → w ≡ Err r → Answers (Err r) l
+    unfolding outcome_by saturate_outcome saturate_leaves
     answer-refused w r e k =
-        let z : Is (Refused r) = subst Is k e in
+        let z : Is (Err r) = subst Is k e in
         let q = refused-more v false table roster r z _ _ in
         (sym q, sym (refused-left v false table roster r z _ q _ _))
 
-    module _ (w : Verdict) (e : Is w) (k : w ≡ Passed) where
+    module _ (w : Result (Unit {0}) Refusal) (e : Is w) (k : w ≡ (Ok tt)) where
       passes : Passes (table_checks v false table roster)
       passes = passed v false table roster (subst Is k e)
 
@@ -62,8 +59,8 @@ module _ (v : Vocabulary) where
       right = passed-right v false table roster passes
 
       module _ (m : List ℕ) (b : Builder) (C : Closed v (In (triples table)) l m b) where
-        pub answer-slots : b.full ≡ true → (n : List ℕ) → Cleared m n 0 (length m) → Answers (counted-refused Slots) n
-        unfolding counted refusal_number saturate_outcome saturate_leaves saturated slots
+        pub answer-slots : b.full ≡ true → (n : List ℕ) → Cleared m n 0 (length m) → Answers (Err Slots) n
+        unfolding outcome_by refusal_number saturate_outcome saturate_leaves saturated slots
         answer-slots f n z =
             let sat = saturated v table roster in
             let long : length l / 3 < length sat = C.over f sat (λ u d. (saturation-exact v (length roster) (type-below right) (triples table) (below v roster (triples table) right) u).1 d) in
@@ -80,8 +77,8 @@ module _ (v : Vocabulary) where
           count-is : r ≡ length (saturated v table roster)
           count-is = F.count ∙ ap {B = ℕ} (λ (x : List Triple). length x) is-saturation
 
-          pub answer-count : Answers (Count r) n
-          unfolding counted saturate_outcome saturate_leaves slots
+          pub answer-count : Answers (Ok r) n
+          unfolding outcome_by saturate_outcome saturate_leaves slots
           answer-count =
               let sat = saturated v table roster in
               let few = sorted-length (first m b.filled) in

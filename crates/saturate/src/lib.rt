@@ -4,15 +4,15 @@
 ghost use mathlib.Core.List.{Memᴰ as Mem};
 ghost use Rattle.std.specs.Prelude.{◌≡◌};
 ghost use Rattle.model.specs.Triples.{triples};
-ghost use Rattle.model.specs.Outcomes.{counted};
+ghost use Rattle.model.specs.Outcomes.{outcome_of};
 ghost use Rattle.model.specs.Calls.{saturate_outcome, saturate_leaves};
 ghost use Rattle.strata.specs.Strata.{Closed, FreeEnds};
 
 use builder::{Builder, finish};
 use lists::clear;
-use model::{Counted, Refusal, Vocabulary};
+use model::{Refusal, Vocabulary};
 use strata::{add_others, derive_schema, draw_strata};
-use table_checks::{Verdict, table_refusal};
+use table_checks::table_refusal;
 
 // All that the rules derive from the table, in any order, or the builder is full. The schema triples are closed first: no other triple
 // gives one.
@@ -32,18 +32,14 @@ fn derive(words: Vocabulary, table: &[u32], list: &mut [u32]) -> Builder
 }
 
 // Saturates a table into the result: 01's "saturate".
-pub fn saturate(words: Vocabulary, table: &[u32], roster: &[u8], res: &mut [u32]) -> Counted
-    ensures { (counted result ≡ saturate_outcome words table.now roster.now res.old) × (res.new ≡ saturate_leaves words table.now roster.now res.old) }
+pub fn saturate(words: Vocabulary, table: &[u32], roster: &[u8], res: &mut [u32]) -> Result<usize, Refusal>
+    ensures { (outcome_of result ≡ saturate_outcome words table.now roster.now res.old) × (res.new ≡ saturate_leaves words table.now roster.now res.old) }
 {
-    match table_refusal(words, false, table, roster) {
-        Verdict::Refused(r) => Counted::Refused(r),
-        Verdict::Passed => {
-            let state = derive(words, table, res);
-            if state.full {
-                clear(res, 0, res.len());
-                return Counted::Refused(Refusal::Slots);
-            }
-            Counted::Count(finish(res, state.filled))
-        },
+    table_refusal(words, false, table, roster)?;
+    let state = derive(words, table, res);
+    if state.full {
+        clear(res, 0, res.len());
+        return Err(Refusal::Slots);
     }
+    Ok(finish(res, state.filled))
 }

@@ -83,19 +83,19 @@ fn put_refused_query(out: &mut [u8], at: usize, refusal: Refusal) -> usize
 }
 
 // Stores the line of an answer.
-fn put_answer(out: &mut [u8], at: usize, answer: Asked) -> usize
+fn put_answer(out: &mut [u8], at: usize, answer: Result<Asked, Refusal>) -> usize
     requires { Room at (answer_line (asked answer)) }
     ensures { Put out.old at (answer_line (asked answer)) out.new result }
 {
     match answer {
-        Asked::Maybe => put_bytes(out, at, b"(ask maybe)\n"),
-        Asked::None => put_bytes(out, at, b"(ask none)\n"),
-        Asked::Refused(r) => put_refused_query(out, at, r),
+        Ok(Asked::Maybe) => put_bytes(out, at, b"(ask maybe)\n"),
+        Ok(Asked::None) => put_bytes(out, at, b"(ask none)\n"),
+        Err(r) => put_refused_query(out, at, r),
     }
 }
 
 // Stores a line for each of the first `count` answers.
-pub fn put_answers(out: &mut [u8], at: usize, answers: [Asked; MOST_ASKS], count: usize) -> usize
+pub fn put_answers(out: &mut [u8], at: usize, answers: [Result<Asked, Refusal>; MOST_ASKS], count: usize) -> usize
     requires { (count ≤ most_asks) × Room at (collect answer_line (answers_in answers count)) }
     ensures { Put out.old at (collect answer_line (answers_in answers count)) out.new result }
 {

@@ -12,7 +12,7 @@ ghost use Rattle.site_bytes.specs.Calls.{Room, Put};
 ghost use Rattle.site_writer.specs.Calls.{WriteCall};
 
 use lists::Code;
-use model::{Counted, Refusal, Triple, Vocabulary};
+use model::{Refusal, Triple, Vocabulary};
 use site_bytes::{put_after, put_bytes};
 use site_form::MOST_LINES;
 
@@ -108,24 +108,24 @@ fn clear_bytes(out: &mut [u8], a: usize, b: usize)
 
 // Writes the site line, the line of the reserved codes where they are not 0 to 4, and the table's triples in their order, with zeros
 // behind; the number of bytes. Refused with 1, then 10, then 3, then with 5 where the list has too few bytes.
-pub fn write(words: Vocabulary, n: u32, table: &[u32], out: &mut [u8]) -> Counted
+pub fn write(words: Vocabulary, n: u32, table: &[u32], out: &mut [u8]) -> Result<usize, Refusal>
     ensures { WriteCall words n table.now out.old result out.new }
 {
     let size = n as usize;
     if checks::size_wrong(size) {
-        return Counted::Refused(Refusal::Length);
+        return Err(Refusal::Length);
     }
     if checks::length_wrong(table.len()) {
-        return Counted::Refused(Refusal::Length);
+        return Err(Refusal::Length);
     }
     if MOST_LINES < table.len() / 3 {
-        return Counted::Refused(Refusal::Length);
+        return Err(Refusal::Length);
     }
     if checks::words_wrong(words, size) {
-        return Counted::Refused(Refusal::Words);
+        return Err(Refusal::Words);
     }
     if checks::codes_wrong(words, table, size) {
-        return Counted::Refused(Refusal::Code);
+        return Err(Refusal::Code);
     }
     let i = put_site(out, 0, n);
     let j = put_loaded(out, i, words);
@@ -133,8 +133,8 @@ pub fn write(words: Vocabulary, n: u32, table: &[u32], out: &mut [u8]) -> Counte
     let room = out.len();
     if room < count {
         clear_bytes(out, 0, room);
-        return Counted::Refused(Refusal::Slots);
+        return Err(Refusal::Slots);
     }
     clear_bytes(out, count, room);
-    Counted::Count(count)
+    Ok(count)
 }

@@ -8,17 +8,17 @@ use mathlib.Core.List.{List, [], ◌∷◌, map, Memᴰ as Mem}
 use native.Mathlib.Omega.{arith}
 use lib.Dec.{eqb, ltb}
 use lib.ListN.{length}
+use Rattle.std.specs.declared.result.Result.{Result}
+use Rattle.std.specs.declared.result.Result.TheVariants.{Ok, Err}
 use Rattle.model.specs.declared.Triple.{Triple}
 use Rattle.model.specs.declared.Refusal.{Refusal}
 use Rattle.model.specs.declared.Refusal.TheVariants.{Slots}
-use Rattle.model.specs.declared.Counted.{Counted}
-use Rattle.model.specs.declared.Counted.TheVariants.{Count, Refused as counted-refused}
 use Rattle.model.specs.declared.Vocabulary.{Vocabulary}
 use Rattle.model.specs.Lists.{tabulate, zeros}
 use Rattle.model.specs.Triples.{triples, slots, sorted, listed}
 use Rattle.model.specs.Partition.{label}
 use Rattle.model.specs.Summary.{moved, condensed}
-use Rattle.model.specs.Outcomes.{Outcome, refused, accepted, refusal_number, counted, check, checked, Passes, left, wrong_work}
+use Rattle.model.specs.Outcomes.{Outcome, refused, accepted, refusal_number, check, checked, Passes, left, wrong_work, outcome_by, outcome_of}
 use Rattle.model.specs.Calls.{table_checks, summarise_outcome_by, summarise_leaves_by}
 use Rattle.theory.proofs.Checks.{no_checks}
 use Rattle.theory.proofs.Lists.{length-tabulate, tabulate-mem, mem-tabulate, map-mem, mem-map}
@@ -27,9 +27,6 @@ use Rattle.theory.specs.Tables.{Right, AllBelow}
 use Rattle.theory.proofs.Accepted.{below}
 use Rattle.theory.proofs.Tests.{or-false, bool_cases}
 use borrow.Author.Tests.{eqb-true, ltb-true, ltb-false, not-false}
-use Rattle.table_checks.specs.declared.Verdict.{Verdict}
-use Rattle.table_checks.specs.declared.Verdict.TheVariants.{Passed, Refused}
-use Rattle.table_checks.specs.Verdicts.{verdict}
 use Rattle.table_checks.proofs.Laws.{passed, passed-right, passed-lengths, passed-more, refused-more, refused-left, too_few, enough, left-zeros, left_after}
 use Rattle.lists.specs.Flat.{at, Cleared}
 use Rattle.lists.proofs.Places.{triples-table}
@@ -61,8 +58,8 @@ module _ (table : List ℕ) (count : ℕ) (m result l : List ℕ) (b : Builder) 
   unfolding condensed
   images_are = sorted-members _ _ (images-mapped (moved (label m)) table count)
 
-  pub imaged_full : b.full ≡ true → (n k : List ℕ) → Cleared l n 0 (length l) → Cleared m k 0 (length m) → Imaged m ts result (counted-refused Slots) n k
-  unfolding counted refusal_number slots
+  pub imaged_full : b.full ≡ true → (n k : List ℕ) → Cleared l n 0 (length l) → Cleared m k 0 (length m) → Imaged m ts result (Err Slots) n k
+  unfolding outcome_by refusal_number slots
   imaged_full f n k z y =
       let long : length result / 3 < length (condensed m ts) = subst (λ (x : List Triple). length result / 3 < length x) images_are (C.over f) in
       let q = too_few [] (length result / 3) (length (condensed m ts)) no_checks long in
@@ -79,8 +76,8 @@ module _ (table : List ℕ) (count : ℕ) (m result l : List ℕ) (b : Builder) 
     count-is : r ≡ length (condensed m ts)
     count-is = F.count ∙ ap {B = ℕ} (λ (x : List Triple). length x) collected_are
 
-    pub imaged_count : Imaged m ts result (Count r) n m
-    unfolding counted slots
+    pub imaged_count : Imaged m ts result (Ok r) n m
+    unfolding outcome_by slots
     imaged_count =
         let few = sorted-length (first l b.filled) in
         let full = length-tabulate (at l) 0 b.filled in
@@ -111,7 +108,7 @@ module _ (roster m map₁ : List ℕ) (size : length m ≡ length roster) (e : m
       subst (λ (k : ℕ). AllBelow k (first table count)) (sym n) (below words roster (first table count) R)
 
   pub condensed-by : (ts : List Triple) (result map₀ work work₁ : List ℕ) → length map₀ ≡ length roster → work₁ ≡ zeros (length work)
-      → (r : Counted) (result' map' : List ℕ) → Imaged map₁ ts result r result' map' → Condensed m ts result map₀ work r result' map' work₁
+      → (r : Result ℕ Refusal) (result' map' : List ℕ) → Imaged map₁ ts result r result' map' → Condensed m ts result map₀ work r result' map' work₁
   condensed-by ts result map₀ work work₁ size₀ w r result' map' I =
       let J = subst (λ (x : List ℕ). Imaged x ts result r result' map') e I in
       let n : length m ≡ length map₀ = size ∙ sym size₀ in
@@ -138,15 +135,15 @@ module _ (words : Vocabulary) (table roster result map₀ work : List ℕ) (leng
   abbrev wrong : Bool
   wrong = not (eqb (length map₀) (length roster)) || wrong_work (length roster) (length work)
 
-  -- the verdict of the checks
-  abbrev Is : Verdict → Type 0
-  Is v = verdict v ≡ checked (table_checks words lengths table roster) tt
+  -- the outcome_of of the checks
+  abbrev Is : Result (Unit {0}) Refusal → Type 0
+  Is v = outcome_of v ≡ checked (table_checks words lengths table roster) tt
 
-  pub call_refused : (m : List ℕ) (v : Verdict) (r : Refusal) → Is v → v ≡ Refused r → SummariseCallBy words m table roster result map₀ work (counted-refused r) result map₀ work
-  unfolding counted summarise_outcome_by summarise_leaves_by
+  pub call_refused : (m : List ℕ) (v : Result (Unit {0}) Refusal) (r : Refusal) → Is v → v ≡ Err r → SummariseCallBy words m table roster result map₀ work (Err r) result map₀ work
+  unfolding outcome_by summarise_outcome_by summarise_leaves_by
   call_refused m v r h k =
-      let z : verdict (Refused r) ≡ checked (table_checks words lengths table roster) tt = subst Is k h in
-      let Z = subst (λ (b : Bool). verdict (Refused r) ≡ checked (table_checks words b table roster) tt) e z in
+      let z : outcome_of (Err r) ≡ checked (table_checks words lengths table roster) tt = subst Is k h in
+      let Z = subst (λ (b : Bool). outcome_of (Err r) ≡ checked (table_checks words b table roster) tt) e z in
       let q = refused-more words wrong table roster r Z _ _ in
       let kept = refused-left words wrong table roster r Z _ q in
       record {
@@ -154,7 +151,7 @@ module _ (words : Vocabulary) (table roster result map₀ work : List ℕ) (leng
         leaves = λ i. record { result = sym (kept result (listed (length result) (condensed m (triples table)))) i; map = sym (kept map₀ m) i; work = sym (kept work (zeros (length work))) i };
       }
 
-  module _ (v : Verdict) (h : Is v) (k : v ≡ Passed) where
+  module _ (v : Result (Unit {0}) Refusal) (h : Is v) (k : v ≡ (Ok tt)) where
     passes : Passes (table_checks words lengths table roster)
     passes = passed words lengths table roster (subst Is k h)
 
@@ -179,7 +176,7 @@ module _ (words : Vocabulary) (table roster result map₀ work : List ℕ) (leng
     call_ready = (omega arith, call_right, map_size, work_size)
 
     -- f gives the map of triples
-    pub call_condensed : (f : List Triple → List ℕ) (r : Counted) (result' map' work' : List ℕ)
+    pub call_condensed : (f : List Triple → List ℕ) (r : Result ℕ Refusal) (result' map' work' : List ℕ)
         → Condensed (f (first table (length table / 3))) (first table (length table / 3)) result map₀ work r result' map' work'
         → SummariseCallBy words (f (triples table)) table roster result map₀ work r result' map' work'
     unfolding summarise_outcome_by summarise_leaves_by slots

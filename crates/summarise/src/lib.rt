@@ -14,8 +14,8 @@ ghost use Rattle.summarise.specs.Condensed.{Imaged, Condensed, SummariseCall};
 use builder::{Builder, finish, offer};
 use checks::work_wrong;
 use lists::{clear, triple_at, wide};
-use model::{Counted, Refusal, Triple, Vocabulary};
-use table_checks::{Verdict, table_refusal};
+use model::{Refusal, Triple, Vocabulary};
+use table_checks::table_refusal;
 use weak_map::weak_map;
 
 // A triple with its ends replaced by their entries of the map.
@@ -41,21 +41,19 @@ fn images(table: &[u32], count: usize, map: &[u32], list: &mut [u32]) -> Builder
         filled: 0,
         full: false,
     };
-    let mut i = 0;
-    while i < count {
+    for i in 0..count {
         let t = triple_at(table, i);
         state = offer(list, state, image(map, t));
         if state.full {
             return state;
         }
-        i += 1;
     }
     state
 }
 
 // The images of the first `count` triples under a finished map, each once, in rising order. Without the slots for them the result
 // and the map are zero afterwards.
-pub fn condense_by(table: &[u32], count: usize, map: &mut [u32], res: &mut [u32]) -> Counted
+pub fn condense_by(table: &[u32], count: usize, map: &mut [u32], res: &mut [u32]) -> Result<usize, Refusal>
     requires { (3 * count ≤ length table.now) × AllBelow (length map.old) (first table.now count) }
     ensures { Imaged map.old (first table.now count) res.old result res.new map.new }
 {
@@ -63,9 +61,9 @@ pub fn condense_by(table: &[u32], count: usize, map: &mut [u32], res: &mut [u32]
     if state.full {
         clear(res, 0, res.len());
         clear(map, 0, map.len());
-        return Counted::Refused(Refusal::Slots);
+        return Err(Refusal::Slots);
     }
-    Counted::Count(finish(res, state.filled))
+    Ok(finish(res, state.filled))
 }
 
 // Summarises the first `count` triples of a list, which pass the checks 1, 10, 2, 3, 4 with the words and the roster.
@@ -77,7 +75,7 @@ pub fn condense(
     res: &mut [u32],
     map: &mut [u32],
     work: &mut [u32],
-) -> Counted
+) -> Result<usize, Refusal>
     requires { (3 * count ≤ length table.now) × Right words roster.now (first table.now count) × (length map.old ≡ length roster.now) × (length work.old ≡ 2 * length roster.now) }
     ensures { Condensed (map_of words roster.now (first table.now count)) (first table.now count) res.old map.old work.old result res.new map.new work.new }
 {
@@ -89,10 +87,7 @@ pub fn condense(
 pub fn lengths_wrong(n: usize, map: usize, work: usize) -> bool
     ensures { result ≡ (not (eqb map n) || wrong_work n work) }
 {
-    if map != n {
-        return true;
-    }
-    work_wrong(n, work)
+    map != n || work_wrong(n, work)
 }
 
 // The summary of a table in rising order, the map of representatives, and the summary's size.
@@ -103,12 +98,10 @@ pub fn summarise(
     res: &mut [u32],
     map: &mut [u32],
     work: &mut [u32],
-) -> Counted
+) -> Result<usize, Refusal>
     ensures { SummariseCall words table.now roster.now res.old map.old work.old result res.new map.new work.new }
 {
     let lengths = lengths_wrong(roster.len(), map.len(), work.len());
-    match table_refusal(words, lengths, table, roster) {
-        Verdict::Refused(r) => Counted::Refused(r),
-        Verdict::Passed => condense(words, table, table.len() / 3, roster, res, map, work),
-    }
+    table_refusal(words, lengths, table, roster)?;
+    condense(words, table, table.len() / 3, roster, res, map, work)
 }

@@ -7,10 +7,10 @@ ghost use Rattle.theory.specs.Tables.{Right};
 ghost use Rattle.builder.specs.Builder.{first};
 ghost use Rattle.summarise.specs.Condensed.{Condensed, SummariseStrongCall};
 
-use model::{Counted, Vocabulary};
+use model::{Refusal, Vocabulary};
 use strong_map::strong_map;
 use summarise::{condense_by, lengths_wrong};
-use table_checks::{Verdict, table_refusal};
+use table_checks::table_refusal;
 
 // Summarises a table that passes the checks 1, 10, 2, 3, 4 with the words and the roster.
 fn condense_strong(
@@ -20,7 +20,7 @@ fn condense_strong(
     res: &mut [u32],
     map: &mut [u32],
     work: &mut [u32],
-) -> Counted
+) -> Result<usize, Refusal>
     requires { Right words roster.now (first table.now (length table.now / 3)) × (length map.old ≡ length roster.now) × (length work.old ≡ 2 * length roster.now) }
     ensures { Condensed (strong_map_of words roster.now (first table.now (length table.now / 3))) (first table.now (length table.now / 3)) res.old map.old work.old result res.new map.new work.new }
 {
@@ -36,12 +36,10 @@ pub fn summarise_strong(
     res: &mut [u32],
     map: &mut [u32],
     work: &mut [u32],
-) -> Counted
+) -> Result<usize, Refusal>
     ensures { SummariseStrongCall words table.now roster.now res.old map.old work.old result res.new map.new work.new }
 {
     let lengths = lengths_wrong(roster.len(), map.len(), work.len());
-    match table_refusal(words, lengths, table, roster) {
-        Verdict::Refused(r) => Counted::Refused(r),
-        Verdict::Passed => condense_strong(words, table, roster, res, map, work),
-    }
+    table_refusal(words, lengths, table, roster)?;
+    condense_strong(words, table, roster, res, map, work)
 }

@@ -8,15 +8,17 @@ use native.Mathlib.Omega.{arith}
 use lib.Dec.{eqb}
 use lib.ListN.{length, get_or, set, length-set, replicate}
 use lib.Seq.{get_or-set_same, get_or-set_other}
+use Rattle.std.specs.declared.result.Result.{Result}
+use Rattle.std.specs.declared.result.Result.TheVariants.{Ok, Err}
 use Rattle.model.specs.declared.Refusal.{Refusal}
 use Rattle.model.specs.declared.Triple.{Triple}
 use Rattle.model.specs.declared.Vocabulary.{Vocabulary}
 use Rattle.model.specs.Lists.{any, tabulate}
 use Rattle.model.specs.Triples.{flat}
-use Rattle.model.specs.Outcomes.{Outcome, refusal_number}
+use Rattle.model.specs.Outcomes.{Outcome, refusal_number, outcome_by, outcome_of}
 use Rattle.lists.proofs.Compare.{Cmp, lt, eq, gt, cmp}
 use Rattle.query.specs.declared.Asked.{Asked}
-use Rattle.query.specs.declared.Asked.TheVariants.{Maybe, None, Refused}
+use Rattle.query.specs.declared.Asked.TheVariants.{Maybe, None}
 use Rattle.query.specs.declared.Pattern.{Pattern}
 use Rattle.query.specs.declared.Query.{Query}
 use Rattle.query.specs.Ask.{asked, ask_outcome}
@@ -26,21 +28,21 @@ use Rattle.site_report.specs.Lines.{answer_at, answers_in}
 use Rattle.table_printing.specs.Outcomes.{no_query, asked_of}
 
 -- ── one answer ──
-module _ (a : Asked) where
+module _ (a : Result Asked Refusal) where
   pub not_maybe : a ≡ Maybe → false ≡ is_wrong (asked a)
-  unfolding asked
-  not_maybe e = ap (λ (x : Asked). is_wrong (asked x)) (sym e)
+  unfolding outcome_by says_maybe
+  not_maybe e = ap (λ (x : Result Asked Refusal). is_wrong (asked x)) (sym e)
 
   pub not_none : a ≡ None → false ≡ is_wrong (asked a)
-  unfolding asked
-  not_none e = ap (λ (x : Asked). is_wrong (asked x)) (sym e)
+  unfolding outcome_by says_maybe
+  not_none e = ap (λ (x : Result Asked Refusal). is_wrong (asked x)) (sym e)
 
-  pub if_refused : (r : Refusal) (t : Bool) → a ≡ Refused r → t ≡ eqb (refusal_number r) 12 → not t ≡ is_wrong (asked a)
-  unfolding asked
-  if_refused r t e h = ap not h ∙ ap (λ (x : Asked). is_wrong (asked x)) (sym e)
+  pub if_refused : (r : Refusal) (t : Bool) → a ≡ Err r → t ≡ eqb (refusal_number r) 12 → not t ≡ is_wrong (asked a)
+  unfolding outcome_by says_maybe
+  if_refused r t e h = ap not h ∙ ap (λ (x : Result Asked Refusal). is_wrong (asked x)) (sym e)
 
 -- ── some answer ──
-pub wrong-by : (answers : List Asked) (n : ℕ) {b : Bool} → b ≡ any is_wrong (tabulate (answer_at answers) 0 n) → b ≡ any is_wrong (answers_in answers n)
+pub wrong-by : (answers : List Result Asked Refusal) (n : ℕ) {b : Bool} → b ≡ any is_wrong (tabulate (answer_at answers) 0 n) → b ≡ any is_wrong (answers_in answers n)
 unfolding answers_in
 wrong-by answers n e = e
 
@@ -64,14 +66,14 @@ module _ (v : Vocabulary) where
     abbrev pub outcome_at : ℕ → Outcome Bool
     outcome_at i = ask_outcome v table map (get_or queries i no_query)
 
-    pub record Asking (answers : List Asked) (i : ℕ) : Type 0 where
+    pub record Asking (answers : List Result Asked Refusal) (i : ℕ) : Type 0 where
       pub size : length answers ≡ 16
       pub same : (j : ℕ) → j < i → answer_at answers j ≡ outcome_at j
 
     pub asks-start : Asking (replicate 16 Maybe) 0
     asks-start = record { size = refl; same = λ j h. absurd (omega arith) }
 
-    pub asks-step : (answers : List Asked) (i : ℕ) → Asking answers i → i < 16 → (a : Asked) → asked a ≡ outcome_at i → Asking (set answers i a) (i + 1)
+    pub asks-step : (answers : List Result Asked Refusal) (i : ℕ) → Asking answers i → i < 16 → (a : Result Asked Refusal) → asked a ≡ outcome_at i → Asking (set answers i a) (i + 1)
     asks-step answers i h k a e = record {
       size = length-set answers i a ∙ h.size;
       same = λ j m. go j m (cmp j i);
@@ -91,7 +93,7 @@ module _ (v : Vocabulary) where
     same-table f g i zero h = refl
     same-table f g i (suc n) h = λ k. h i (omega arith) k ∷ same-table f g (suc i) n (λ j l. h j (omega arith)) k
 
-    pub asks-end : (answers : List Asked) (i n : ℕ) → Asking answers i → n ≤ i → answers_in answers n ≡ asked_of v table map queries n
+    pub asks-end : (answers : List Result Asked Refusal) (i n : ℕ) → Asking answers i → n ≤ i → answers_in answers n ≡ asked_of v table map queries n
     unfolding answers_in asked_of
     asks-end answers i n h k = same-table (answer_at answers) outcome_at 0 n (λ j l. h.same j (omega arith))
 

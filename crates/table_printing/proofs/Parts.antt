@@ -10,11 +10,10 @@ use lib.Dec.{eqb, ltb}
 use lib.ListN.{length, take}
 use lib.Seq.{take-append_seam, length-take-le}
 use borrow.Author.Tests.{eq-eqb, lt-ltb, le-ltb, ltb-false, ltb-true}
+use Rattle.std.specs.declared.result.Result.{Result}
+use Rattle.std.specs.declared.result.Result.TheVariants.{Ok, Err}
 use Rattle.model.specs.declared.Refusal.{Refusal}
 use Rattle.model.specs.declared.Refusal.TheVariants.{Length, Words, Code, Slots}
-use Rattle.model.specs.declared.Counted.{Counted}
-use Rattle.model.specs.declared.Counted.TheVariants.{Count, Refused as counted-refused}
-use Rattle.model.specs.declared.Done.{Done}
 use Rattle.model.specs.declared.Triple.{Triple}
 use Rattle.model.specs.declared.Vocabulary.{Vocabulary}
 use Rattle.model.specs.Codes.{wrong_words, most_triples}
@@ -24,7 +23,7 @@ use Rattle.model.specs.Roster.{own_roster, wrong_codes}
 use Rattle.model.specs.Saturation.{saturation}
 use Rattle.model.specs.Classes.{map_of}
 use Rattle.model.specs.Summary.{summary}
-use Rattle.model.specs.Outcomes.{refused, accepted, refusal_number, counted, decided, Passes, wrong_size, wrong_length, wrong_work}
+use Rattle.model.specs.Outcomes.{refused, accepted, refusal_number, decided, Passes, wrong_size, wrong_length, wrong_work, outcome_by, outcome_of}
 use Rattle.model.specs.Calls.{table_checks, Accepted, Summarised, saturated, own_roster_outcome, own_roster_leaves, saturate_outcome, saturate_leaves, summarise_outcome, summarise_outcome_by, summarise_leaves_by}
 use Rattle.theory.proofs.Tests.{or_left, or_right, or_neither, bool_cases}
 use Rattle.theory.proofs.Checks.{first_passes, no_checks, decided-passes, not_accepted, same-value}
@@ -85,10 +84,10 @@ module _ (words : Vocabulary) where
         let f = few in
         enough (table_checks words lengths table roster) (length result / 3) (length sum) passes (omega (arith, condensed-length (map_of words roster (triples table)) (triples table)))
 
-    module _ (r : Counted) (result' map' work' : List ℕ) (S : SummariseCall words table roster result map work r result' map' work') where
-      pub never_refused : (x : Refusal) → r ≡ counted-refused x → ⊥
-      unfolding counted
-      never_refused x e = not_accepted (sym (ap counted e) ∙ S.answer ∙ outcome)
+    module _ (r : Result ℕ Refusal) (result' map' work' : List ℕ) (S : SummariseCall words table roster result map work r result' map' work') where
+      pub never_refused : (x : Refusal) → r ≡ Err x → ⊥
+      unfolding outcome_by
+      never_refused x e = not_accepted (sym (ap outcome_of e) ∙ S.answer ∙ outcome)
 
       result-is : result' ≡ listed (length result) sum
       unfolding summarise_leaves_by
@@ -98,10 +97,10 @@ module _ (words : Vocabulary) where
       unfolding summarise_leaves_by
       map_is = ap (λ (s : Summarised words). s.map) S.leaves ∙ left_after _ _ _ _ outcome
 
-      module _ (k : ℕ) (e : r ≡ Count k) where
+      module _ (k : ℕ) (e : r ≡ Ok k) where
         count-is : length sum ≡ k
-        unfolding counted
-        count-is = same-value (sym outcome ∙ sym S.answer ∙ ap counted e)
+        unfolding outcome_by
+        count-is = same-value (sym outcome ∙ sym S.answer ∙ ap outcome_of e)
 
         pub sum-few : 3 * k ≤ 3 * printer_slots
         sum-few = let f = few in omega (arith, count-is, condensed-length (map_of words roster (triples table)) (triples table))
@@ -136,7 +135,7 @@ module _ (words : Vocabulary) where
           sum-put l out x p = shows l _ _ (λ i. asks_outcome (sym triples_are i) (sym map_is i) (asked_of words (sym part-is i) (sym map_is i) queries count)) out x p
 
   -- ── saturate ──
-  module _ (table roster list : List ℕ) (given : CheckedTable words table (length roster)) (hl : length list ≡ 3 * printer_slots) (d : Done)
+  module _ (table roster list : List ℕ) (given : CheckedTable words table (length roster)) (hl : length list ≡ 3 * printer_slots) (d : Result (Unit {0}) Refusal)
       (own : List ℕ) (O : OwnRosterCall words table roster d own) where
     abbrev ts : List Triple
     ts = triples table
@@ -184,21 +183,21 @@ module _ (words : Vocabulary) where
     unfolding saturation_outcome decided
     outcome-is queries count b e = ap (λ (x : Bool). cond x (refused 5) (summary_outcome words (own_roster words (length roster) ts) sat queries count)) e
 
-    module _ (r : Counted) (list' : List ℕ) (S : (counted r ≡ saturate_outcome words table own list) × (list' ≡ saturate_leaves words table own list)) where
-      pub sat-refused : (x : Refusal) → r ≡ counted-refused x → (queries : List Query) (count : ℕ) → saturation_outcome words (length roster) ts queries count ≡ refused (refusal_number Slots)
-      unfolding counted refusal_number
+    module _ (r : Result ℕ Refusal) (list' : List ℕ) (S : (outcome_of r ≡ saturate_outcome words table own list) × (list' ≡ saturate_leaves words table own list)) where
+      pub sat-refused : (x : Refusal) → r ≡ Err x → (queries : List Query) (count : ℕ) → saturation_outcome words (length roster) ts queries count ≡ refused (refusal_number Slots)
+      unfolding outcome_by refusal_number
       sat-refused x e queries count =
           ⊎_elim
           (λ t. outcome-is queries count true t)
-          (λ f. absurd (not_accepted (sym (ap counted e) ∙ S.0 ∙ within (ltb-false printer_slots (length sat) f))))
+          (λ f. absurd (not_accepted (sym (ap outcome_of e) ∙ S.0 ∙ within (ltb-false printer_slots (length sat) f))))
           (bool_cases (ltb printer_slots (length sat)))
 
-      module _ (k : ℕ) (e : r ≡ Count k) where
+      module _ (k : ℕ) (e : r ≡ Ok k) where
         fits : ltb printer_slots (length sat) ≡ false
-        unfolding counted
+        unfolding outcome_by
         fits =
             ⊎_elim
-            (λ t. absurd (not_accepted (sym (over (ltb-true printer_slots (length sat) t)) ∙ sym S.0 ∙ ap counted e)))
+            (λ t. absurd (not_accepted (sym (over (ltb-true printer_slots (length sat) t)) ∙ sym S.0 ∙ ap outcome_of e)))
             (λ f. f)
             (bool_cases (ltb printer_slots (length sat)))
 
@@ -206,8 +205,8 @@ module _ (words : Vocabulary) where
         few-sat = ltb-false printer_slots (length sat) fits
 
         count-sat : length sat ≡ k
-        unfolding counted
-        count-sat = sym sat-count ∙ same-value (sym (within few-sat) ∙ sym S.0 ∙ ap counted e)
+        unfolding outcome_by
+        count-sat = sym sat-count ∙ same-value (sym (within few-sat) ∙ sym S.0 ∙ ap outcome_of e)
 
         list-is : list' ≡ listed (length list) sat
         unfolding saturate_leaves

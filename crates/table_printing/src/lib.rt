@@ -14,7 +14,7 @@ ghost use Rattle.table_printing.specs.Outcomes.{asked_of, asks_outcome, summary_
 
 use ask::ask;
 use lists::narrow;
-use model::{Counted, Refusal, Vocabulary, refusal_number};
+use model::{Refusal, Vocabulary, refusal_number};
 use query::{Asked, Query, is_retired};
 use roster::own_roster;
 use saturate::saturate;
@@ -36,18 +36,18 @@ pub fn refuse(out: &mut [u8], refusal: Refusal) -> usize
 }
 
 // Whether a query was refused, and not because it is retired.
-fn is_wrong(answer: Asked) -> bool
+fn is_wrong(answer: Result<Asked, Refusal>) -> bool
     ensures { result ≡ is_wrong (asked answer) }
 {
     match answer {
-        Asked::Maybe => false,
-        Asked::None => false,
-        Asked::Refused(r) => !is_retired(r),
+        Ok(Asked::Maybe) => false,
+        Ok(Asked::None) => false,
+        Err(r) => !is_retired(r),
     }
 }
 
 // Whether one of the first `count` queries is wrong.
-fn any_wrong(answers: [Asked; MOST_ASKS], count: usize) -> bool
+fn any_wrong(answers: [Result<Asked, Refusal>; MOST_ASKS], count: usize) -> bool
     requires { count ≤ most_asks }
     ensures { result ≡ any is_wrong (answers_in answers count) }
 {
@@ -68,11 +68,11 @@ fn ask_all(
     map: &[u32],
     queries: [Query; MOST_ASKS],
     count: usize,
-) -> [Asked; MOST_ASKS]
+) -> [Result<Asked, Refusal>; MOST_ASKS]
     requires { count ≤ most_asks }
     ensures { answers_in result count ≡ asked_of words table.now map.now queries count }
 {
-    let mut answers = [Asked::Maybe; MOST_ASKS];
+    let mut answers = [Ok(Asked::Maybe); MOST_ASKS];
     let mut i = 0;
     while i < count {
         answers[i] = ask(words, table, map, queries[i]);
@@ -86,7 +86,7 @@ fn put_report(
     out: &mut [u8],
     table: &[u32],
     map: &[u32],
-    answers: [Asked; MOST_ASKS],
+    answers: [Result<Asked, Refusal>; MOST_ASKS],
     count: usize,
 ) -> usize
     requires { (count ≤ most_asks) × (length table.now ≤ 3 * printer_slots) × (length map.now ≤ largest_printed) × Room 0 (report (triples table.now) map.now (answers_in answers count)) }
@@ -132,7 +132,7 @@ fn summarise_and_print(
     requires { (count ≤ most_asks) × Whole words table.now roster.now × (length res.old ≡ 3 * printer_slots) × (length map.old ≡ length roster.now) × (length work.old ≡ 2 * length roster.now) }
     ensures { Put out.old 0 (shown (summary_outcome words roster.now (triples table.now) queries count)) out.new result }
 {
-    let Counted::Count(k) = summarise(words, table, roster, res, map, work) else {
+    let Ok(k) = summarise(words, table, roster, res, map, work) else {
         return refuse(out, Refusal::Slots); // cannot be: the summary has no more triples than the table
     };
     ask_and_print(words, out, &res[0..3 * k], map, queries, count)
@@ -181,7 +181,7 @@ pub fn saturate_and_print(
     ensures { Put out.old 0 (shown (saturation_outcome words (length roster.old) (triples table.now) queries count)) out.new result }
 {
     own_roster(words, table, roster);
-    let Counted::Count(k) = saturate(words, table, roster, list) else {
+    let Ok(k) = saturate(words, table, roster, list) else {
         return refuse(out, Refusal::Slots);
     };
     print_saturated_table(words, out, &list[0..3 * k], roster, queries, count)

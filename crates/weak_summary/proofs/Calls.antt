@@ -9,13 +9,14 @@ use native.Mathlib.Omega.{arith}
 use lib.Dec.{ltb}
 use lib.ListN.{length}
 use borrow.Author.Tests.{eq-eqb, ne_eqb}
-use Rattle.model.specs.declared.Done.{Done}
+use Rattle.std.specs.declared.result.Result.{Result}
+use Rattle.model.specs.declared.Refusal.{Refusal}
 use Rattle.model.specs.declared.Refusal.TheVariants.{Length}
 use Rattle.model.specs.declared.Vocabulary.{Vocabulary}
 use Rattle.model.specs.Codes.{codes}
 use Rattle.model.specs.Lists.{any, zeros, collect, tabulate}
 use Rattle.model.specs.Triples.{slots}
-use Rattle.model.specs.Outcomes.{Outcome, refused, accepted, refusal_number, done, decided, left, zeroed}
+use Rattle.model.specs.Outcomes.{Outcome, refused, accepted, refusal_number, decided, left, zeroed, outcome_by, outcome_of}
 use Rattle.model.specs.Intake.{State, open_leaves}
 use Rattle.intake_opening.specs.Opening.{Opens}
 use Rattle.query.specs.Ask.{ask_outcome}
@@ -131,7 +132,7 @@ module _ (v : Vocabulary) where
     ask-passed h = sym (ap (λ (b : Bool). cond (not b) (refused 1) (ask_outcome v table map (flat_query query))) (eq-eqb (length query) 41 h))
 
   -- ── opening ──
-  pub open_status : (roster : List ℕ) (s : State) (d : Done) (status : ℕ) (after : State) → Opens v roster s (done d) after → status ≡ status_of (done d)
+  pub open_status : (roster : List ℕ) (s : State) (d : Result (Unit {0}) Refusal) (status : ℕ) (after : State) → Opens v roster s (outcome_of d) after → status ≡ status_of (outcome_of d)
       → OpenStatus v roster s status after
   open_status roster s d status after o e = record {
     answer = e ∙ ap status_of o.answer;
