@@ -22,7 +22,7 @@ pub fn open(
     map: &mut [u32],
 ) -> Result<(), Refusal>
     ensures { Opens words roster.now
-        (at_entry triples summary weights map counts.old.held counts.old.summarised) (done result)
+        (at_entry triples summary weights map counts.old.held counts.old.summarised) (outcome_of result)
         (at_exit triples summary weights map counts.new.held counts.new.summarised) }
 {
     let opened = open_counts(

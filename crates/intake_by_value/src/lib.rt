@@ -22,7 +22,7 @@ pub fn open_by_value(
     map: &mut [u32],
 ) -> OpenedCounts
     ensures { Opens words roster.now
-        (at_entry triples summary weights map counts.held counts.summarised) (done result.answer)
+        (at_entry triples summary weights map counts.held counts.summarised) (outcome_of result.answer)
         (at_exit triples summary weights map result.counts.held result.counts.summarised) }
 {
     let mut record = counts;

@@ -25,33 +25,6 @@ use Rattle.lists.proofs.Search.{cleared-all}
 use Rattle.lists.specs.Flat.{Emptied}
 use Rattle.intake_opening.specs.Opening.{wrong_lengths, state_with, OpenCall, Opens}
 
--- ── the lengths ──
-module _ (n triples summary weights map : ℕ) where
-  pub by_size : wrong_size n ≡ true → true ≡ wrong_lengths n triples summary weights map
-  unfolding wrong_lengths
-  by_size h = sym (or_left (wrong_size n) _ h)
-
-  module _ (z : wrong_size n ≡ false) where
-    pub by_map : (map ≡ n → ⊥) → true ≡ wrong_lengths n triples summary weights map
-    unfolding wrong_lengths
-    by_map h = sym (or_right (wrong_size n) _ (or_left (not (eqb map n)) _ (ap not (ne_eqb map n h))))
-
-    pub by_slots : map ≡ n → (triples / 3 ≡ summary / 3 → ⊥) → true ≡ wrong_lengths n triples summary weights map
-    unfolding wrong_lengths
-    by_slots e h = sym (or_right (wrong_size n) _ (or_right (not (eqb map n)) _ (or_left (not (eqb (triples / 3) (summary / 3))) _ (ap not (ne_eqb (triples / 3) (summary / 3) h)))))
-
-    module _ (e : map ≡ n) (h : triples / 3 ≡ summary / 3) where
-      last_is : (b : Bool) → (ltb 1048576 (triples / 3) || not (eqb weights (triples / 3))) ≡ b → b ≡ wrong_lengths n triples summary weights map
-      unfolding wrong_lengths
-      last_is b q = sym q ∙ (λ i. sym z i || (not (sym (eq-eqb map n e) i)
-          || (not (sym (eq-eqb (triples / 3) (summary / 3) h) i) || (ltb 1048576 (triples / 3) || not (eqb weights (triples / 3))))))
-
-      pub by_most : 1048576 < triples / 3 → true ≡ wrong_lengths n triples summary weights map
-      by_most l = last_is true (or_left (ltb 1048576 (triples / 3)) _ (lt-ltb 1048576 (triples / 3) l))
-
-      pub by_weights : triples / 3 ≤ 1048576 → (r : Bool) → r ≡ not (eqb weights (triples / 3)) → r ≡ wrong_lengths n triples summary weights map
-      by_weights l r q = last_is r (ap (λ (b : Bool). b || not (eqb weights (triples / 3))) (le-ltb 1048576 (triples / 3) l) ∙ sym q)
-
 -- ── the answers ──
 emptied_all : (l m : List ℕ) → Emptied l m (length l) → m ≡ replicate (length l) absent
 emptied_all l m e =

@@ -11,22 +11,15 @@ use model::{Refusal, Vocabulary};
 use roster_checks::roster_wrong;
 
 // Whether the lengths of an intake's lists are wrong with n codes.
+#[tactic(auto, unfolding(crate::specs::Opening::wrong_lengths))]
 pub fn lengths_wrong(n: usize, triples: usize, summary: usize, weights: usize, map: usize) -> bool
     ensures { result ≡ wrong_lengths n triples summary weights map }
 {
-    if size_wrong(n) {
-        return true;
-    }
-    if map != n {
-        return true;
-    }
-    if triples / 3 != summary / 3 {
-        return true;
-    }
-    if MOST_TRIPLES < triples / 3 {
-        return true;
-    }
-    weights != triples / 3
+    size_wrong(n)
+        || map != n
+        || triples / 3 != summary / 3
+        || MOST_TRIPLES < triples / 3
+        || weights != triples / 3
 }
 
 // Opens an intake: both triple lists and the weights zero, the map absent.
@@ -85,7 +78,7 @@ pub fn open_counts(
     map: &mut [u32],
 ) -> OpenedCounts
     ensures { Opens words roster.now
-        (at_entry triples summary weights map held summarised) (done result.answer)
+        (at_entry triples summary weights map held summarised) (outcome_of result.answer)
         (at_exit triples summary weights map result.counts.held result.counts.summarised) }
 {
     match open_lists(words, roster, triples, summary, weights, map) {

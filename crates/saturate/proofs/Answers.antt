@@ -40,7 +40,7 @@ module _ (v : Vocabulary) where
     abbrev Answers : Result ℕ Refusal → List ℕ → Type 0
     Answers r m = (outcome_of r ≡ saturate_outcome v table roster l) × (m ≡ saturate_leaves v table roster l)
 
-    -- the outcome_of of the checks
+    -- the verdict of the checks
     abbrev Is : Result (Unit {0}) Refusal → Type 0
     Is w = outcome_of w ≡ checked (table_checks v false table roster) tt
 

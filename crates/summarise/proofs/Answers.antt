@@ -135,7 +135,7 @@ module _ (words : Vocabulary) (table roster result map₀ work : List ℕ) (leng
   abbrev wrong : Bool
   wrong = not (eqb (length map₀) (length roster)) || wrong_work (length roster) (length work)
 
-  -- the outcome_of of the checks
+  -- the verdict of the checks
   abbrev Is : Result (Unit {0}) Refusal → Type 0
   Is v = outcome_of v ≡ checked (table_checks words lengths table roster) tt
 

@@ -53,7 +53,12 @@ fn images(table: &[u32], count: usize, map: &[u32], list: &mut [u32]) -> Builder
 
 // The images of the first `count` triples under a finished map, each once, in rising order. Without the slots for them the result
 // and the map are zero afterwards.
-pub fn condense_by(table: &[u32], count: usize, map: &mut [u32], res: &mut [u32]) -> Result<usize, Refusal>
+pub fn condense_by(
+    table: &[u32],
+    count: usize,
+    map: &mut [u32],
+    res: &mut [u32],
+) -> Result<usize, Refusal>
     requires { (3 * count ≤ length table.now) × AllBelow (length map.old) (first table.now count) }
     ensures { Imaged map.old (first table.now count) res.old result res.new map.new }
 {

@@ -6,15 +6,15 @@ use Rattle.intake_feeding.proofs.feed_lists.Goals as goal
 pub take_in-requires : goal.take_in-requires
 take_in-requires c = let a = c.args in
     ready _ a.roster.now a.triples.now a.summary.now a.weights.now a.map.now a.work.now a.held a.summarised
-    (triple a.s a.p a.o) _ c.call_refusal.ensures c.in-Passed.is
+    (triple a.s a.p a.o) _ c.call_refusal.ensures c.in-Ok.is
 
-pub returns-in-Refused : goal.returns-in-Refused
-returns-in-Refused c = let a = c.args in
+pub returns-in-Err : goal.returns-in-Err
+returns-in-Err c = let a = c.args in
     as_counted (Promises _ a.roster.now feeding _ a.work.now (triple a.s a.p a.o)) _ _ _ _ c.with_counts.ensures _ _ _ _ _
     (by_refusal _ a.roster.now a.triples.now a.summary.now a.weights.now a.map.now a.work.now a.held a.summarised
-    (triple a.s a.p a.o) _ c.call_refusal.ensures _ c.in-Refused.is feeding)
+    (triple a.s a.p a.o) _ c.call_refusal.ensures _ c.in-Err.is feeding)
 
-pub returns-in-Passed : goal.returns-in-Passed
-returns-in-Passed c = let a = c.args in
+pub returns-in-Ok : goal.returns-in-Ok
+returns-in-Ok c = let a = c.args in
     by_passing _ a.roster.now a.triples.now a.summary.now a.weights.now a.map.now a.work.now a.held a.summarised
-    (triple a.s a.p a.o) _ c.call_refusal.ensures c.in-Passed.is feeding _ _ _ c.take_in.ensures
+    (triple a.s a.p a.o) _ c.call_refusal.ensures c.in-Ok.is feeding _ _ _ c.take_in.ensures

@@ -6,15 +6,15 @@ use Rattle.intake_removing.proofs.remove_lists.Goals as goal
 pub take_out-requires : goal.take_out-requires
 take_out-requires c = let a = c.args in
     ready _ a.roster.now a.triples.now a.summary.now a.weights.now a.map.now a.work.now a.held a.summarised
-    (triple a.s a.p a.o) _ c.call_refusal.ensures c.in-Passed.is
+    (triple a.s a.p a.o) _ c.call_refusal.ensures c.in-Ok.is
 
-pub returns-in-Refused : goal.returns-in-Refused
-returns-in-Refused c = let a = c.args in
+pub returns-in-Err : goal.returns-in-Err
+returns-in-Err c = let a = c.args in
     as_counted (Promises _ a.roster.now removing _ a.work.now (triple a.s a.p a.o)) _ _ _ _ c.with_counts.ensures _ _ _ _ _
     (by_refusal _ a.roster.now a.triples.now a.summary.now a.weights.now a.map.now a.work.now a.held a.summarised
-    (triple a.s a.p a.o) _ c.call_refusal.ensures _ c.in-Refused.is removing)
+    (triple a.s a.p a.o) _ c.call_refusal.ensures _ c.in-Err.is removing)
 
-pub returns-in-Passed : goal.returns-in-Passed
-returns-in-Passed c = let a = c.args in
+pub returns-in-Ok : goal.returns-in-Ok
+returns-in-Ok c = let a = c.args in
     by_passing _ a.roster.now a.triples.now a.summary.now a.weights.now a.map.now a.work.now a.held a.summarised
-    (triple a.s a.p a.o) _ c.call_refusal.ensures c.in-Passed.is removing _ _ _ c.take_out.ensures
+    (triple a.s a.p a.o) _ c.call_refusal.ensures c.in-Ok.is removing _ _ _ c.take_out.ensures

@@ -21,12 +21,6 @@ returns-then-state c = collecting_full _ _ _ _ _ _ _ _ c.loop-i.invariant _ c.lo
     (image-at c.args.map.now c.args.table.now _ _ _ c.triple_at-t.ensures c.image.ensures)
     c.offer-state.ensures c.if-state.true
 
-pub overflow_add-i : goal.overflow_add-i
-overflow_add-i c = omega (arith, c.loop-i-test.true)
-
-pub loop-i-smaller : goal.loop-i-smaller
-loop-i-smaller c = omega (arith, c.loop-i-test.true)
-
 pub loop-i-preserved : goal.loop-i-preserved
 loop-i-preserved c = collecting_next _ _ _ _ _ _ _ _ c.loop-i.invariant _ c.loop-i-test.true
     (image-at c.args.map.now c.args.table.now _ _ _ c.triple_at-t.ensures c.image.ensures)

@@ -1,4 +1,4 @@
-use Prim.Native.Nat.{ℕ, ◌-◌}
+use Prim.Native.Nat.{ℕ}
 use Rattle.model.specs.Partition.{label}
 use Rattle.model.specs.Summary.{moved}
 use Rattle.lists.specs.Flat.{at}
@@ -7,6 +7,3 @@ use Rattle.summarise.proofs.images.Given as goal
 
 abbrev pub invariant-loop-i : goal.invariant-loop-i
 invariant-loop-i l = Collecting (λ (k : ℕ). moved (label l.map) (at l.table k)) l.count l.initial.list l.list l.state l.i
-
-abbrev pub decreases-loop-i : goal.decreases-loop-i
-decreases-loop-i l = l.count - l.i

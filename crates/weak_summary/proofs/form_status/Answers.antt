@@ -6,6 +6,6 @@ pub returns-in-Read : goal.returns-in-Read
 unfolding form_status
 returns-in-Read c = rw c.in-Read.is
 
-pub returns-in-Refused : goal.returns-in-Refused
+pub returns-in-Err : goal.returns-in-Err
 unfolding form_status
-returns-in-Refused c = c.refusal_number.ensures ∙ sym (ap form_status c.in-Refused.is)
+returns-in-Err c = c.refusal_number.ensures ∙ sym (ap form_status c.in-Err.is)
