@@ -3,7 +3,7 @@
 use mathlib.Core.Path.{◌≡◌, sym, ◌∙◌, ap, subst}
 use mathlib.Core.Bool.{Bool, true, false, ◌&&◌, true≢false}
 use lib.Dec.{eqb}
-use borrow.Author.Tests.{eqb-true, eq-eqb, ne_eqb}
+use borrow.Author.Tests.{eqb-true, eq-eqb}
 use Rattle.model.specs.declared.Triple.{Triple}
 use Rattle.model.specs.Triples.{triple, before}
 use Rattle.model.specs.Order.{Lt}
@@ -13,14 +13,8 @@ use Rattle.lists.proofs.Fronts as fronts
 abbrev pub front : Triple → Triple → Bool
 front t k = eqb t.subject k.subject && eqb t.property k.property
 
-pub front-property : (t k : Triple) (r : Bool) → t.subject ≡ k.subject → r ≡ eqb t.property k.property → r ≡ front t k
-front-property t k r e h = h ∙ ap (λ (x : Bool). x && eqb t.property k.property) (sym (eq-eqb _ _ e))
-
-pub front-subject : (t k : Triple) → (t.subject ≡ k.subject → ⊥) → false ≡ front t k
-front-subject t k n = ap (λ (x : Bool). x && eqb t.property k.property) (sym (ne_eqb _ _ n))
-
 -- a front as a test, and as two equations
-pub front-has : (t k : Triple) → front t k ≡ true → (t.subject ≡ k.subject) × (t.property ≡ k.property)
+front-has : (t k : Triple) → front t k ≡ true → (t.subject ≡ k.subject) × (t.property ≡ k.property)
 front-has t k e = let p = and_true (eqb t.subject k.subject) _ e in (eqb-true _ _ p.0, eqb-true _ _ p.1)
 
 least : (k : Triple) → k.object ≡ 0 → k ≡ triple k.subject k.property 0

@@ -19,82 +19,28 @@ use Rattle.theory.proofs.RuleLaws.{All, none, more, all_in}
 use Rattle.theory.proofs.Covered.{code_of_kind}
 use Rattle.rule_premises.specs.Premises.{drives, partner_key, first_of, second_of}
 
--- ── the test ──
-pub any-kind : (k w : ℕ) → w ≡ 5 → true ≡ (eqb w 5 || eqb k w)
-any-kind k w e = ap (λ (x : Bool). x || eqb k w) (sym (eq-eqb w 5 e))
-
-pub one-kind : (k w : ℕ) (r : Bool) → (w ≡ 5 → ⊥) → r ≡ eqb k w → r ≡ (eqb w 5 || eqb k w)
-one-kind k w r n e = e ∙ ap (λ (x : Bool). x || eqb k w) (sym (ne_eqb w 5 n))
-
 module _ (v : Vocabulary) where
   -- ── places ──
   module _ (a b : Triple) where
-    pub at_place : (k j : ℕ) → k ≡ j → (x : ℕ) → x ≡ place v a b j → x ≡ place v a b k
-    at_place k j e x h = h ∙ ap (place v a b) (sym e)
-
-    pub place_0 : a.subject ≡ place v a b 0
+    place_0 : a.subject ≡ place v a b 0
     unfolding place
     place_0 = refl
 
-    pub place_1 : a.property ≡ place v a b 1
-    unfolding place
-    place_1 = refl
-
-    pub place_2 : a.object ≡ place v a b 2
-    unfolding place
-    place_2 = refl
-
-    pub place_3 : b.subject ≡ place v a b 3
+    place_3 : b.subject ≡ place v a b 3
     unfolding place
     place_3 = refl
 
-    pub place_4 : b.property ≡ place v a b 4
-    unfolding place
-    place_4 = refl
-
-    pub place_5 : b.object ≡ place v a b 5
-    unfolding place
-    place_5 = refl
-
-    pub place-type : (k : ℕ) → (k ≡ 0 → ⊥) → (k ≡ 1 → ⊥) → (k ≡ 2 → ⊥) → (k ≡ 3 → ⊥) → (k ≡ 4 → ⊥) → (k ≡ 5 → ⊥) → v.instance ≡ place v a b k
-    unfolding place
-    place-type zero p q r s t u = absurd (p refl)
-    place-type (suc zero) p q r s t u = absurd (q refl)
-    place-type (suc (suc zero)) p q r s t u = absurd (r refl)
-    place-type (suc (suc (suc zero))) p q r s t u = absurd (s refl)
-    place-type (suc (suc (suc (suc zero)))) p q r s t u = absurd (t refl)
-    place-type (suc (suc (suc (suc (suc zero))))) p q r s t u = absurd (u refl)
-    place-type (suc (suc (suc (suc (suc (suc k)))))) p q r s t u = refl
-
-  module _ (r : Rule) (a b : Triple) where
-    pub fits_not_first : (kind v a.property ≡ r.first → ⊥) → false ≡ fits v r a b
-    unfolding fits
-    fits_not_first n = rw (ne_eqb _ _ n)
-
-    pub fits_not_second : kind v a.property ≡ r.first → (eqb r.second 5 || eqb (kind v b.property) r.second) ≡ false → false ≡ fits v r a b
-    unfolding fits
-    fits_not_second e n = rw (eq-eqb _ _ e, n)
-
-    pub fits-join : kind v a.property ≡ r.first → (eqb r.second 5 || eqb (kind v b.property) r.second) ≡ true
-        → eqb (place v a b r.left) (place v a b r.right) ≡ fits v r a b
-    unfolding fits
-    fits-join e n = rw (eq-eqb _ _ e, n)
-
   -- ── the partner ──
   module _ (r : Rule) (d t : Triple) where
-    pub key-second : r.left ≡ 0 → triple (place v d d r.right) (code_of v r.first) 0 ≡ partner_key v r d
-    unfolding partner_key
-    key-second e = rw (eq-eqb _ _ e)
-
-    pub key-first : (r.left ≡ 0 → ⊥) → triple (place v d d r.left) (code_of v r.second) 0 ≡ partner_key v r d
+    key-first : (r.left ≡ 0 → ⊥) → triple (place v d d r.left) (code_of v r.second) 0 ≡ partner_key v r d
     unfolding partner_key
     key-first n = rw (ne_eqb _ _ n)
 
-    pub order-second : r.left ≡ 0 → (first_of r d t ≡ t) × (second_of r d t ≡ d)
+    order-second : r.left ≡ 0 → (first_of r d t ≡ t) × (second_of r d t ≡ d)
     unfolding first_of second_of
     order-second e = (rw (eq-eqb _ _ e), rw (eq-eqb _ _ e))
 
-    pub order-first : (r.left ≡ 0 → ⊥) → (first_of r d t ≡ d) × (second_of r d t ≡ t)
+    order-first : (r.left ≡ 0 → ⊥) → (first_of r d t ≡ d) × (second_of r d t ≡ t)
     unfolding first_of second_of
     order-first n = (rw (ne_eqb _ _ n), rw (ne_eqb _ _ n))
 
@@ -181,11 +127,11 @@ module _ (v : Vocabulary) where
       go (inr e) = let o = order-first r a b (eqb-false _ _ e) in record { driver = a; other = b; first = o.0; second = o.1; which = inr (refl, refl) }
 
   -- ── the kind of the driving premise ──
-  pub drives-second : (r : Rule) (d : Triple) (x : Bool) → r.left ≡ 0 → x ≡ (eqb r.second 5 || eqb (kind v d.property) r.second) → x ≡ drives v r d
+  drives-second : (r : Rule) (d : Triple) (x : Bool) → r.left ≡ 0 → x ≡ (eqb r.second 5 || eqb (kind v d.property) r.second) → x ≡ drives v r d
   unfolding drives
   drives-second r d x e h = h ∙ ap (λ (b : Bool). cond b (eqb r.second 5 || eqb (kind v d.property) r.second) (eqb (kind v d.property) r.first)) (sym (eq-eqb r.left 0 e))
 
-  pub drives-first : (r : Rule) (d : Triple) (k : ℕ) → (r.left ≡ 0 → ⊥) → k ≡ kind v d.property → eqb k r.first ≡ drives v r d
+  drives-first : (r : Rule) (d : Triple) (k : ℕ) → (r.left ≡ 0 → ⊥) → k ≡ kind v d.property → eqb k r.first ≡ drives v r d
   unfolding drives
   drives-first r d k n h =
       ap (λ (x : ℕ). eqb x r.first) h

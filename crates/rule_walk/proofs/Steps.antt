@@ -27,6 +27,3 @@ module _ (v : Vocabulary) where
 
   pub drawn-none : (l : List ℕ) (b : Builder) (r : Rule) (a p : Triple) → fits v r a p ≡ false → Drawn v l l b b r a p
   drawn-none l b r a p f = record { steps = λ X S k x y. step-none (round v X) X l b S; drawn = λ g h. absurd (true≢false (sym h ∙ f)) }
-
-  pub drawn_as : (l l' : List ℕ) (b b' : Builder) (r : Rule) (a p a' p' : Triple) → a' ≡ a → p' ≡ p → Drawn v l l' b b' r a p → Drawn v l l' b b' r a' p'
-  drawn_as l l' b b' r a p a' p' e f D = subst (λ (z : Triple). Drawn v l l' b b' r z p') (sym e) (subst (λ (z : Triple). Drawn v l l' b b' r a z) (sym f) D)

@@ -3,7 +3,7 @@
 
 ghost use mathlib.Core.List.{Memᴰ as Mem};
 ghost use Rattle.std.specs.Prelude.{◌*◌, ◌≤◌, length};
-ghost use Rattle.model.specs.Rules.{rules};
+ghost use Rattle.model.specs.Rules.{rules, numbered};
 ghost use Rattle.lists.specs.Flat.{at, RisingPart};
 ghost use Rattle.builder.specs.Builder.{first, Built};
 ghost use Rattle.rule_premises.specs.Premises.{rule_count, first_of, second_of};
@@ -12,12 +12,12 @@ ghost use Rattle.rule_walk.specs.Rounds.{RoundReady, Drawn, DrawnPartners, Drawn
 use builder::{Builder, offer};
 use lists::{lower_bound, triple_at};
 use model::{Rule, Triple, Vocabulary};
-use rule_premises::{drives, fits, gives, partner_key, rule_at, same_front};
+use rule_premises::{drives, fits, gives, partner_key, rule_at, same_front, second_drives};
 
 // Draws the conclusion of a rule from two triples of the frozen part, where they fit.
 fn draw(words: Vocabulary, list: &mut [u32], b: Builder, r: Rule, a: Triple, p: Triple) -> Builder
     requires { Built list.old b }
-    ensures { Drawn words list.old list.new b result r a p }
+    ensures { Drawn words list.old list.new b result (numbered r) a p }
 {
     if fits(words, r, a, p) {
         return offer(list, b, gives(words, r, a, p));
@@ -26,6 +26,7 @@ fn draw(words: Vocabulary, list: &mut [u32], b: Builder, r: Rule, a: Triple, p: 
 }
 
 // Draws from a driving premise and a partner.
+#[tactic(auto, unfolding(rule_premises::specs::Premises::first_of, rule_premises::specs::Premises::second_of))]
 fn draw_pair(
     words: Vocabulary,
     list: &mut [u32],
@@ -35,9 +36,9 @@ fn draw_pair(
     partner: Triple,
 ) -> Builder
     requires { Built list.old b }
-    ensures { Drawn words list.old list.new b result r (first_of r driver partner) (second_of r driver partner) }
+    ensures { Drawn words list.old list.new b result (numbered r) (first_of (numbered r) driver partner) (second_of (numbered r) driver partner) }
 {
-    if r.left == 0 {
+    if second_drives(r) {
         return draw(words, list, b, r, partner, driver);
     }
     draw(words, list, b, r, driver, partner)
@@ -51,8 +52,8 @@ fn draw_partners(
     r: Rule,
     driver: Triple,
 ) -> Builder
-    requires { RoundReady words list.old b × Mem r rules × Mem driver (first list.old b.base) }
-    ensures { DrawnPartners words list.old list.new b result r driver }
+    requires { RoundReady words list.old b × Mem (numbered r) rules × Mem driver (first list.old b.base) }
+    ensures { DrawnPartners words list.old list.new b result (numbered r) driver }
 {
     let key = partner_key(words, r, driver);
     let base = b.base;
@@ -74,8 +75,8 @@ fn draw_partners(
 
 // Draws from a triple of the frozen part, where it is a driving premise, and each of its partners.
 fn draw_driver(words: Vocabulary, list: &mut [u32], b: Builder, r: Rule, driver: Triple) -> Builder
-    requires { RoundReady words list.old b × Mem r rules × Mem driver (first list.old b.base) }
-    ensures { DrawnPartners words list.old list.new b result r driver }
+    requires { RoundReady words list.old b × Mem (numbered r) rules × Mem driver (first list.old b.base) }
+    ensures { DrawnPartners words list.old list.new b result (numbered r) driver }
 {
     if !drives(words, r, driver) {
         return b;
@@ -85,8 +86,8 @@ fn draw_driver(words: Vocabulary, list: &mut [u32], b: Builder, r: Rule, driver:
 
 // Draws with one rule from each driving premise of the frozen part.
 fn draw_rule(words: Vocabulary, list: &mut [u32], b: Builder, r: Rule) -> Builder
-    requires { RoundReady words list.old b × Mem r rules }
-    ensures { DrawnRule words list.old list.new b result r }
+    requires { RoundReady words list.old b × Mem (numbered r) rules }
+    ensures { DrawnRule words list.old list.new b result (numbered r) }
 {
     let base = b.base;
     let mut state = b;
