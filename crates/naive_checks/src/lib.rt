@@ -93,26 +93,36 @@ pub fn check_codes(words: Words, table: &[u32], n: usize) -> Result<(), Refusal>
     )
 }
 
-// The checks 1, 10, 2, 3, 4 of a table with its roster. The caller has looked at its other lists.
-pub fn check_table(
-    words: Words,
-    others_wrong: bool,
-    table: &[u32],
-    roster: &[u8],
-) -> Result<(), Refusal> {
-    let n = roster.len();
-    refuse_if(
-        others_wrong || size_wrong(n) || table_wrong(table.len()),
-        Refusal::Length,
-    )?;
-    refuse_if(words_wrong(words, n), Refusal::Words)?;
-    refuse_if(roster_wrong(words, roster), Refusal::Roster)?;
-    refuse_if(
-        triples_of(table).any(|t| triple_wrong(words, t, n)),
-        Refusal::Code,
-    )?;
-    refuse_if(
-        triples_of(table).any(|t| !covered(words, roster, t)),
-        Refusal::Cover,
-    )
+// A table with the reserved codes and the roster that it is read by.
+#[derive(Clone, Copy)]
+pub struct Site<'a> {
+    pub words: Words,
+    pub table: &'a [u32],
+    pub roster: &'a [u8],
+}
+
+impl Site<'_> {
+    // The checks 1, 10, 2, 3, 4. The caller has looked at its other lists.
+    pub fn check(self, others_wrong: bool) -> Result<(), Refusal> {
+        let Self {
+            words,
+            table,
+            roster,
+        } = self;
+        let n = roster.len();
+        refuse_if(
+            others_wrong || size_wrong(n) || table_wrong(table.len()),
+            Refusal::Length,
+        )?;
+        refuse_if(words_wrong(words, n), Refusal::Words)?;
+        refuse_if(roster_wrong(words, roster), Refusal::Roster)?;
+        refuse_if(
+            triples_of(table).any(|t| triple_wrong(words, t, n)),
+            Refusal::Code,
+        )?;
+        refuse_if(
+            triples_of(table).any(|t| !covered(words, roster, t)),
+            Refusal::Cover,
+        )
+    }
 }
