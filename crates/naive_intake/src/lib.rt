@@ -2,411 +2,171 @@
 // rising order, its summary, the weights of the summary's triples, and its map.
 #![tactic(auto)]
 
-use naive_checks::{covered, mark, roster_wrong, size_wrong, triple_wrong, words_wrong};
-use naive_cliques::{end_of, is_data};
-use naive_lists::{
-    ABSENT, Triple, Words, fill, holds, place, put, same, set, sort, triple_at, triple_of,
-};
-use naive_summary::{image, summarise};
+ghost use Rattle.std.specs.Prelude.{◌*◌, ◌≤◌, length};
 
-// N as for any call, a map of N numbers, equal slots and not too many, as many weights as slots.
-fn lengths_wrong(n: usize, triples: usize, summary: usize, weights: usize, map: usize) -> bool {
-    if size_wrong(n) || map != n {
-        return true;
-    }
-    let slots = triples / 3;
-    if summary / 3 != slots || 1048576 < slots {
-        return true;
-    }
-    weights != slots
+use naive_checks::{Site, covered, refuse_if, roster_wrong, size_wrong, triple_wrong, words_wrong};
+use naive_cliques::{Side, links};
+use naive_lists::{ABSENT, Refusal, Triple, Words, holds, place, put, sort, triple_at, triples_of};
+use naive_summary::{Equivalence, image, summarise};
+
+// The lists that are lent to every call.
+#[derive(Drop)]
+pub struct Lists<'a> {
+    pub triples: &'a mut [u32],
+    pub summary: &'a mut [u32],
+    pub weights: &'a mut [u32],
+    pub map: &'a mut [u32],
 }
 
-// Opening: both triple lists and the weights zero, the map absent.
-pub fn open(
-    words: Words,
-    roster: &[u8],
-    triples: &mut [u32],
-    summary: &mut [u32],
-    weights: &mut [u32],
-    map: &mut [u32],
-) -> u32 {
-    if lengths_wrong(
-        roster.len(),
-        triples.len(),
-        summary.len(),
-        weights.len(),
-        map.len(),
-    ) {
-        return 1;
-    }
-    if words_wrong(words, roster.len()) {
-        return 10;
-    }
-    if roster_wrong(words, roster) {
-        return 2;
-    }
-    fill(triples, 0);
-    fill(summary, 0);
-    fill(weights, 0);
-    fill(map, ABSENT);
-    0
-}
-
-// The answer to a call, a refusal's number or 0, whether the triple was new or was removed, how many triples of H, as it was before, come
-// before it, and the sizes of H and of its summary afterwards.
-#[derive(Clone, Copy)]
-pub struct Called {
-    pub refused: u32,
-    pub new: bool,
-    pub removed: bool,
-    pub place: usize,
+// How many triples H and its summary have.
+#[derive(Clone, Copy, PartialEq, Eq)]
+pub struct Counts {
     pub held: usize,
     pub summarised: usize,
 }
 
-// Refused: all stays as it is, and the place is 0.
-fn refuse(refused: u32, held: usize, summarised: usize) -> Called {
-    Called {
-        refused: refused,
-        new: false,
-        removed: false,
-        place: 0,
-        held: held,
-        summarised: summarised,
-    }
+// What an accepted call says of its triple, and how many triples of H, as it was before, come before it.
+#[derive(Clone, Copy, PartialEq, Eq)]
+pub enum Reply {
+    New(usize),
+    NotNew(usize),
+    Removed(usize),
 }
 
-// A triple of H at a place of it.
-fn repeat(place: usize, held: usize, summarised: usize) -> Called {
-    Called {
-        refused: 0,
-        new: false,
-        removed: false,
-        place: place,
-        held: held,
-        summarised: summarised,
+impl Lists<'_> {
+    // N as for any call, a map of N numbers, equal slots and not too many, as many weights as slots.
+    fn lengths_wrong(&self, n: usize) -> bool {
+        let slots = self.triples.len() / 3;
+        size_wrong(n)
+            || self.map.len() != n
+            || self.summary.len() / 3 != slots
+            || 1048576 < slots
+            || self.weights.len() != slots
     }
-}
 
-// The work list has 2 * N numbers.
-fn work_wrong(n: usize, work: usize) -> bool {
-    work / 2 != n || work % 2 != 0
-}
+    // Both triple lists and the weights become zero, the map absent, and both counts are zero.
+    pub fn open(self, words: Words, roster: &[u8]) -> Result<Counts, Refusal> {
+        let n = roster.len();
+        refuse_if(self.lengths_wrong(n), Refusal::Length)?;
+        refuse_if(words_wrong(words, n), Refusal::Words)?;
+        refuse_if(roster_wrong(words, roster), Refusal::Roster)?;
+        self.triples.fill(0);
+        self.summary.fill(0);
+        self.weights.fill(0);
+        self.map.fill(ABSENT);
+        Ok(Counts {
+            held: 0,
+            summarised: 0,
+        })
+    }
 
-// The checks 10, 2, 3, 4 of a call: the refusal's number, or 0.
-fn call_refusal(words: Words, roster: &[u8], t: Triple) -> u32 {
-    let n = roster.len();
-    if words_wrong(words, n) {
-        return 10;
+    // The checks 1, 10, 2, 3, 4 of a call. The work list has 2 * N numbers.
+    fn check(&self, words: Words, roster: &[u8], work: usize, t: Triple) -> Result<(), Refusal> {
+        let n = roster.len();
+        refuse_if(
+            self.lengths_wrong(n) || work / 2 != n || work % 2 != 0,
+            Refusal::Length,
+        )?;
+        refuse_if(words_wrong(words, n), Refusal::Words)?;
+        refuse_if(roster_wrong(words, roster), Refusal::Roster)?;
+        refuse_if(triple_wrong(words, t, n), Refusal::Code)?;
+        refuse_if(!covered(words, roster, t), Refusal::Cover)
     }
-    if roster_wrong(words, roster) {
-        return 2;
-    }
-    if triple_wrong(words, t, n) {
-        return 3;
-    }
-    if !covered(words, roster, t) {
-        return 4;
-    }
-    0
-}
 
-// How many of the first `held` triples have that line of the summary as their image. There are at most 1,048,576, so no sum wraps.
-fn weight(triples: &[u32], held: usize, map: &[u32], line: Triple) -> u32 {
-    let mut sum = 0;
-    let mut i = 0;
-    while i < held {
-        if same(image(map, triple_at(triples, i)), line) {
-            sum = std::num::wrapping_add_u32(sum, 1);
+    // Feeds a triple to an intake with those two counts. A refused call leaves all as it is.
+    pub fn feed(
+        self,
+        counts: &mut Counts,
+        words: Words,
+        roster: &[u8],
+        work: &mut [u32],
+        t: Triple,
+    ) -> Result<Reply, Refusal> {
+        self.check(words, roster, work.len(), t)?;
+        let held = counts.held;
+        let before = place(self.triples, held, t);
+        if holds(self.triples, held, t) {
+            work.fill(0);
+            return Ok(Reply::NotNew(before));
         }
-        i += 1;
+        if self.triples.len() / 3 <= held {
+            return Err(Refusal::Full);
+        }
+        put(self.triples, held, t);
+        *counts = self.renew(held + 1, words, roster, work);
+        Ok(Reply::New(before))
     }
-    sum
-}
 
-// The weight of each line of the summary, and zero behind them.
-fn weigh(
-    triples: &[u32],
-    held: usize,
-    map: &[u32],
-    summary: &[u32],
-    summarised: usize,
-    weights: &mut [u32],
-) {
-    fill(weights, 0);
-    let mut k = 0;
-    while k < summarised {
-        set(
+    // Removes a triple from an intake with those two counts. A refused call leaves all as it is. No triple is in H where nothing is held, nor
+    // where more is held than there are slots.
+    pub fn remove(
+        self,
+        counts: &mut Counts,
+        words: Words,
+        roster: &[u8],
+        work: &mut [u32],
+        t: Triple,
+    ) -> Result<Reply, Refusal> {
+        self.check(words, roster, work.len(), t)?;
+        let held = counts.held;
+        let slots = self.triples.len() / 3;
+        if held == 0 || slots < held || !holds(self.triples, held, t) {
+            return Err(Refusal::Missing);
+        }
+        let before = place(self.triples, held, t);
+        let last = triple_at(self.triples, held - 1);
+        put(self.triples, before, last);
+        put(self.triples, held - 1, Triple::new(0, 0, 0));
+        *counts = self.renew(held - 1, words, roster, work);
+        Ok(Reply::Removed(before))
+    }
+
+    // Sorts the first triples, and makes their summary, its map and the weight of each line anew, zero behind them.
+    fn renew(self, held: usize, words: Words, roster: &[u8], work: &mut [u32]) -> Counts
+        requires { 3 * held ≤ length self.triples.now }
+    {
+        let Self {
+            triples,
+            summary,
             weights,
-            k,
-            weight(triples, held, map, triple_at(summary, k)),
-        );
-        k += 1;
+            map,
+        } = self;
+        sort(triples, held);
+        let table = &triples[..3 * held];
+        let site = Site {
+            words,
+            table,
+            roster,
+        };
+        let summarised = summarise(site, Equivalence::Weak, summary, map, work).unwrap_or(0);
+        weights.fill(0);
+        for (slot, line) in weights.iter_mut().zip(triples_of(summary).take(summarised)) {
+            *slot = weight(table, map, line);
+        }
+        Counts { held, summarised }
     }
 }
 
-// Makes the summary of a table, its map and its weights anew; how many lines the summary has.
-fn renew(
-    words: Words,
-    roster: &[u8],
-    table: &[u32],
-    summary: &mut [u32],
-    weights: &mut [u32],
-    map: &mut [u32],
-    work: &mut [u32],
-) -> usize {
-    let answer = summarise(words, false, table, roster, summary, map, work);
-    let lines = answer.count;
-    weigh(table, table.len() / 3, map, summary, lines, weights);
-    lines
-}
-
-// A triple that is not in H: refused with 7 if every slot holds one, else it joins H, and the summary, the map and the weights are
-// made anew.
-fn take_in(
-    held: usize,
-    summarised: usize,
-    words: Words,
-    roster: &[u8],
-    triples: &mut [u32],
-    summary: &mut [u32],
-    weights: &mut [u32],
-    map: &mut [u32],
-    work: &mut [u32],
-    t: Triple,
-) -> Called {
-    if triples.len() / 3 <= held {
-        return refuse(7, held, summarised);
-    }
-    let before = place(triples, held, t);
-    let count = held + 1;
-    put(triples, held, t);
-    sort(triples, count);
-    let lines = renew(
-        words,
-        roster,
-        &triples[0..3 * count],
-        summary,
-        weights,
-        map,
-        work,
-    );
-    Called {
-        refused: 0,
-        new: true,
-        removed: false,
-        place: before,
-        held: count,
-        summarised: lines,
-    }
-}
-
-// A triple of H: the last one takes its slot, the others are sorted again, and the summary, the map and the weights are made anew. No
-// triple is in H where nothing is held, nor where more is held than there are slots.
-fn take_out(
-    held: usize,
-    summarised: usize,
-    words: Words,
-    roster: &[u8],
-    triples: &mut [u32],
-    summary: &mut [u32],
-    weights: &mut [u32],
-    map: &mut [u32],
-    work: &mut [u32],
-    t: Triple,
-) -> Called {
-    if held == 0 {
-        return refuse(9, held, summarised);
-    }
-    let count = held - 1;
-    if triples.len() / 3 <= count {
-        return refuse(9, held, summarised);
-    }
-    let end = 3 * count;
-    let before = place(triples, held, t);
-    put(triples, before, triple_at(triples, count));
-    put(triples, count, triple_of(0, 0, 0));
-    sort(triples, count);
-    let lines = renew(words, roster, &triples[0..end], summary, weights, map, work);
-    Called {
-        refused: 0,
-        new: false,
-        removed: true,
-        place: before,
-        held: count,
-        summarised: lines,
-    }
-}
-
-// A feed that check 1 does not refuse; H is the first `held` triples.
-fn judge(
-    held: usize,
-    summarised: usize,
-    words: Words,
-    roster: &[u8],
-    triples: &mut [u32],
-    summary: &mut [u32],
-    weights: &mut [u32],
-    map: &mut [u32],
-    work: &mut [u32],
-    t: Triple,
-) -> Called {
-    let refused = call_refusal(words, roster, t);
-    if refused != 0 {
-        return refuse(refused, held, summarised);
-    }
-    if holds(triples, held, t) {
-        fill(work, 0);
-        return repeat(place(triples, held, t), held, summarised);
-    }
-    take_in(
-        held, summarised, words, roster, triples, summary, weights, map, work, t,
-    )
-}
-
-// A removal that check 1 does not refuse: refused with 9 if the triple is not in H.
-fn judge_removal(
-    held: usize,
-    summarised: usize,
-    words: Words,
-    roster: &[u8],
-    triples: &mut [u32],
-    summary: &mut [u32],
-    weights: &mut [u32],
-    map: &mut [u32],
-    work: &mut [u32],
-    t: Triple,
-) -> Called {
-    let refused = call_refusal(words, roster, t);
-    if refused != 0 {
-        return refuse(refused, held, summarised);
-    }
-    if !holds(triples, held, t) {
-        return refuse(9, held, summarised);
-    }
-    take_out(
-        held, summarised, words, roster, triples, summary, weights, map, work, t,
-    )
-}
-
-// Feeds a triple to an intake with those two counts.
-pub fn feed(
-    held: usize,
-    summarised: usize,
-    words: Words,
-    roster: &[u8],
-    triples: &mut [u32],
-    summary: &mut [u32],
-    weights: &mut [u32],
-    map: &mut [u32],
-    work: &mut [u32],
-    s: u32,
-    p: u32,
-    o: u32,
-) -> Called {
-    let n = roster.len();
-    if lengths_wrong(n, triples.len(), summary.len(), weights.len(), map.len()) {
-        return refuse(1, held, summarised);
-    }
-    if work_wrong(n, work.len()) {
-        return refuse(1, held, summarised);
-    }
-    judge(
-        held,
-        summarised,
-        words,
-        roster,
-        triples,
-        summary,
-        weights,
-        map,
-        work,
-        triple_of(s, p, o),
-    )
-}
-
-// Removes a triple from an intake with those two counts.
-pub fn remove(
-    held: usize,
-    summarised: usize,
-    words: Words,
-    roster: &[u8],
-    triples: &mut [u32],
-    summary: &mut [u32],
-    weights: &mut [u32],
-    map: &mut [u32],
-    work: &mut [u32],
-    s: u32,
-    p: u32,
-    o: u32,
-) -> Called {
-    let n = roster.len();
-    if lengths_wrong(n, triples.len(), summary.len(), weights.len(), map.len()) {
-        return refuse(1, held, summarised);
-    }
-    if work_wrong(n, work.len()) {
-        return refuse(1, held, summarised);
-    }
-    judge_removal(
-        held,
-        summarised,
-        words,
-        roster,
-        triples,
-        summary,
-        weights,
-        map,
-        work,
-        triple_of(s, p, o),
-    )
+// How many triples of the table have that line of the summary as their image.
+fn weight(table: &[u32], map: &[u32], line: Triple) -> u32 {
+    let count = triples_of(table).filter(|t| image(map, *t) == line).count();
+    u32::try_from(count).unwrap_or(u32::MAX)
 }
 
 // Whether u is another triple than t and keeps t's end at a side. Where that is an unmarked end of a data triple, u has the property of t
 // and the same end at that side; else u has it at either side.
-fn keeps_end(words: Words, roster: &[u8], sources: bool, t: Triple, u: Triple) -> bool {
-    if same(t, u) {
-        return false;
+fn keeps_end(words: Words, roster: &[u8], side: Side, t: Triple, u: Triple) -> bool {
+    let end = side.end(t);
+    if links(words, roster, side, t) {
+        u != t && u.property == t.property && side.end(u) == end
+    } else {
+        u != t && (u.subject == end || u.object == end)
     }
-    let end = end_of(t, sources);
-    if mark(roster, end) == 0 && is_data(words, t) {
-        return u.property == t.property && end_of(u, sources) == end;
-    }
-    u.subject == end || u.object == end
 }
 
-// Whether one of the first `held` triples does.
-fn end_kept(
-    words: Words,
-    roster: &[u8],
-    triples: &[u32],
-    held: usize,
-    sources: bool,
-    t: Triple,
-) -> bool {
-    let mut i = 0;
-    while i < held {
-        if keeps_end(words, roster, sources, t, triple_at(triples, i)) {
-            return true;
-        }
-        i += 1;
-    }
-    false
-}
-
-// Whether both ends of a triple are kept by other triples of H. Then its removal changes no class. The plain intake makes no use of it: the
-// programs count by it which removals they made.
-pub fn ends_kept(
-    words: Words,
-    roster: &[u8],
-    triples: &[u32],
-    held: usize,
-    s: u32,
-    p: u32,
-    o: u32,
-) -> bool {
-    let t = triple_of(s, p, o);
-    if end_kept(words, roster, triples, held, true, t) {
-        return end_kept(words, roster, triples, held, false, t);
-    }
-    false
+// Whether both ends of a triple are kept by others of the first `held` triples. Then its removal changes no class. The plain intake makes
+// no use of it: the programs count by it which removals they made.
+pub fn ends_kept(words: Words, roster: &[u8], triples: &[u32], held: usize, t: Triple) -> bool {
+    let kept = |side| (0..held).any(|i| keeps_end(words, roster, side, t, triple_at(triples, i)));
+    kept(Side::Source) && kept(Side::Target)
 }

@@ -1,200 +1,130 @@
 // Saturation: the ten rules written out, over all pairs of triples, until nothing is new.
 #![tactic(auto)]
 
-use naive_checks::table_refusal;
-use naive_lists::{Answer, Triple, Words, accept, add, fill, refuse, sort, triple_at, triple_of};
+use naive_checks::Site;
+use naive_lists::{Refusal, Triple, Words, add, sort, triple_at, triples_of};
 
 // Rule 1: a domain c, s a o gives s type c.
-fn rdfs2(words: Words, list: &mut [u32], so_far: Answer, first: Triple, second: Triple) -> Answer {
-    if first.property == words.domain && second.property == first.subject {
-        return add(
-            list,
-            so_far,
-            triple_of(second.subject, words.instance, first.object),
-        );
-    }
-    so_far
+fn rdfs2(words: Words, first: Triple, second: Triple) -> Option<Triple> {
+    (first.property == words.domain && second.property == first.subject).then_some(Triple::new(
+        second.subject,
+        words.instance,
+        first.object,
+    ))
 }
 
 // Rule 2: a range c, s a o gives o type c.
-fn rdfs3(words: Words, list: &mut [u32], so_far: Answer, first: Triple, second: Triple) -> Answer {
-    if first.property == words.range && second.property == first.subject {
-        return add(
-            list,
-            so_far,
-            triple_of(second.object, words.instance, first.object),
-        );
-    }
-    so_far
+fn rdfs3(words: Words, first: Triple, second: Triple) -> Option<Triple> {
+    (first.property == words.range && second.property == first.subject).then_some(Triple::new(
+        second.object,
+        words.instance,
+        first.object,
+    ))
 }
 
 // Rule 4: a subproperty b, s a o gives s b o.
-fn rdfs7(words: Words, list: &mut [u32], so_far: Answer, first: Triple, second: Triple) -> Answer {
-    if first.property == words.subproperty && second.property == first.subject {
-        return add(
-            list,
-            so_far,
-            triple_of(second.subject, first.object, second.object),
-        );
-    }
-    so_far
+fn rdfs7(words: Words, first: Triple, second: Triple) -> Option<Triple> {
+    (first.property == words.subproperty && second.property == first.subject).then_some(Triple::new(
+        second.subject,
+        first.object,
+        second.object,
+    ))
 }
 
 // Rule 5: c subclass d, s type c gives s type d.
-fn rdfs9(words: Words, list: &mut [u32], so_far: Answer, first: Triple, second: Triple) -> Answer {
-    if first.property == words.subclass
+fn rdfs9(words: Words, first: Triple, second: Triple) -> Option<Triple> {
+    (first.property == words.subclass
         && second.property == words.instance
-        && second.object == first.subject
-    {
-        return add(
-            list,
-            so_far,
-            triple_of(second.subject, words.instance, first.object),
-        );
-    }
-    so_far
-}
-
-// What a first and a second triple give by the rules 1, 2, 4 and 5.
-fn apply_data(
-    words: Words,
-    list: &mut [u32],
-    so_far: Answer,
-    first: Triple,
-    second: Triple,
-) -> Answer {
-    let a = rdfs2(words, list, so_far, first, second);
-    let b = rdfs3(words, list, a, first, second);
-    let c = rdfs7(words, list, b, first, second);
-    rdfs9(words, list, c, first, second)
+        && second.object == first.subject).then_some(Triple::new(
+        second.subject,
+        words.instance,
+        first.object,
+    ))
 }
 
 // The other rules have one form: a p b, b q c gives a r c.
-fn chain(
-    list: &mut [u32],
-    so_far: Answer,
-    first: Triple,
-    second: Triple,
-    p: u32,
-    q: u32,
-    r: u32,
-) -> Answer {
-    if first.property == p && second.property == q && second.subject == first.object {
-        return add(list, so_far, triple_of(first.subject, r, second.object));
-    }
-    so_far
+fn chain(first: Triple, second: Triple, p: u32, q: u32, r: u32) -> Option<Triple> {
+    (first.property == p && second.property == q && second.subject == first.object).then_some(
+        Triple::new(first.subject, r, second.object),
+    )
 }
 
-// Rule 3: a subproperty b, b subproperty c gives a subproperty c. Rule 6: the same with subclass.
-fn apply_orders(
+// What a first and a second triple give by each rule.
+fn conclusions(words: Words, first: Triple, second: Triple) -> [Option<Triple>; 10] {
+    let subclass = words.subclass;
+    let subproperty = words.subproperty;
+    let domain = words.domain;
+    let range = words.range;
+    [
+        rdfs2(words, first, second),
+        rdfs3(words, first, second),
+        rdfs7(words, first, second),
+        rdfs9(words, first, second),
+        // Rule 3: a subproperty b, b subproperty c gives a subproperty c. Rule 6: the same with subclass.
+        chain(first, second, subproperty, subproperty, subproperty),
+        chain(first, second, subclass, subclass, subclass),
+        // Rule 7: a subproperty b, b domain c gives a domain c. Rule 9: a domain c, c subclass d gives a domain d.
+        chain(first, second, subproperty, domain, domain),
+        chain(first, second, domain, subclass, domain),
+        // Rule 8: a subproperty b, b range c gives a range c. Rule 10: a range c, c subclass d gives a range d.
+        chain(first, second, subproperty, range, range),
+        chain(first, second, range, subclass, range),
+    ]
+}
+
+// Adds what two triples give by all rules.
+fn apply(
     words: Words,
     list: &mut [u32],
-    so_far: Answer,
+    count: usize,
     first: Triple,
     second: Triple,
-) -> Answer {
-    let p = words.subproperty;
-    let c = words.subclass;
-    let answer = chain(list, so_far, first, second, p, p, p);
-    chain(list, answer, first, second, c, c, c)
+) -> Result<usize, Refusal> {
+    conclusions(words, first, second)
+        .into_iter()
+        .flatten()
+        .try_fold(count, |so_far, t| add(list, so_far, t))
 }
 
-// Rule 7: a subproperty b, b domain c gives a domain c. Rule 9: a domain c, c subclass d gives a domain d.
-fn apply_domains(
-    words: Words,
-    list: &mut [u32],
-    so_far: Answer,
-    first: Triple,
-    second: Triple,
-) -> Answer {
-    let d = words.domain;
-    let answer = chain(list, so_far, first, second, words.subproperty, d, d);
-    chain(list, answer, first, second, d, words.subclass, d)
-}
-
-// Rule 8: a subproperty b, b range c gives a range c. Rule 10: a range c, c subclass d gives a range d.
-fn apply_ranges(
-    words: Words,
-    list: &mut [u32],
-    so_far: Answer,
-    first: Triple,
-    second: Triple,
-) -> Answer {
-    let r = words.range;
-    let answer = chain(list, so_far, first, second, words.subproperty, r, r);
-    chain(list, answer, first, second, r, words.subclass, r)
-}
-
-// What they give by all rules.
-fn apply(words: Words, list: &mut [u32], so_far: Answer, first: Triple, second: Triple) -> Answer {
-    let a = apply_data(words, list, so_far, first, second);
-    let b = apply_orders(words, list, a, first, second);
-    let c = apply_domains(words, list, b, first, second);
-    apply_ranges(words, list, c, first, second)
-}
-
-// What the triple at place i gives as first, with each of the first `count` triples as second.
-fn apply_first(words: Words, list: &mut [u32], so_far: Answer, i: usize, count: usize) -> Answer {
-    let mut answer = so_far;
-    let mut j = 0;
-    while j < count {
-        answer = apply(words, list, answer, triple_at(list, i), triple_at(list, j));
-        j += 1;
+// One round over all pairs of the first `count` triples; how many there are then.
+fn round(words: Words, list: &mut [u32], count: usize) -> Result<usize, Refusal> {
+    let mut all = count;
+    for i in 0..count {
+        for j in 0..count {
+            let first = triple_at(list, i);
+            let second = triple_at(list, j);
+            all = apply(words, list, all, first, second)?;
+        }
     }
-    answer
-}
-
-// One round over all pairs of the first `count` triples.
-fn round(words: Words, list: &mut [u32], so_far: Answer, count: usize) -> Answer {
-    let mut answer = so_far;
-    let mut i = 0;
-    while i < count {
-        answer = apply_first(words, list, answer, i, count);
-        i += 1;
-    }
-    answer
+    Ok(all)
 }
 
 // Rounds until one adds nothing. Each of the others fills a slot, so there are no more of them than slots.
-fn close(words: Words, list: &mut [u32], so_far: Answer) -> Answer {
-    let slots = list.len() / 3;
-    let mut answer = so_far;
-    let mut rounds = 0;
-    while rounds <= slots {
-        let count = answer.count;
-        answer = round(words, list, answer, count);
-        if answer.refused != 0 || answer.count == count {
-            return answer;
+fn close(words: Words, list: &mut [u32], given: usize) -> Result<usize, Refusal> {
+    let mut count = given;
+    for _ in 0..=list.len() / 3 {
+        let before = count;
+        count = round(words, list, before)?;
+        if count == before {
+            break;
         }
-        rounds += 1;
     }
-    answer
+    Ok(count)
 }
 
-// The triples of the table, each once.
-fn given(table: &[u32], list: &mut [u32]) -> Answer {
-    let n = table.len() / 3;
-    let mut answer = accept(0);
-    let mut i = 0;
-    while i < n {
-        answer = add(list, answer, triple_at(table, i));
-        i += 1;
-    }
-    answer
+// The triples of the table, each once, and what follows from them.
+fn saturation(site: Site, res: &mut [u32]) -> Result<usize, Refusal> {
+    let given = triples_of(site.table).try_fold(0, |count, t| add(res, count, t))?;
+    close(site.words, res, given)
 }
 
-pub fn saturate(words: Words, table: &[u32], roster: &[u8], res: &mut [u32]) -> Answer {
-    let number = table_refusal(words, false, table, roster);
-    if number != 0 {
-        return refuse(number);
+pub fn saturate(site: Site, res: &mut [u32]) -> Result<usize, Refusal> {
+    site.check(false)?;
+    res.fill(0);
+    let answer = saturation(site, res);
+    match answer {
+        Ok(count) => sort(res, count),
+        Err(_) => res.fill(0),
     }
-    fill(res, 0);
-    let distinct = given(table, res);
-    let answer = close(words, res, distinct);
-    if answer.refused != 0 {
-        fill(res, 0);
-        return answer;
-    }
-    sort(res, answer.count);
     answer
 }

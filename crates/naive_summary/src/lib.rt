@@ -1,225 +1,153 @@
 // The weak and the strong summary, through cliques. Both clique lists stand in one list, the source cliques first.
 #![tactic(auto)]
 
-use naive_checks::{mark, table_refusal};
-use naive_cliques::{end_of, is_data, lower, side};
-use naive_lists::{
-    ABSENT, Answer, Triple, Words, accept, add, entry, fill, number_at, refuse, set_entry, sort,
-    triple_at, triple_of,
-};
-
-// The clique of a property at a side.
-fn clique_at(cliques: &[u32], sources: bool, property: u32) -> u32 {
-    if sources {
-        return entry(cliques, property);
-    }
-    number_at(cliques, cliques.len() / 2 + property as usize)
-}
-
-// The clique of a data node: that of the property of any data triple that it stands in at that side, absent if there is none.
-fn clique_of(words: Words, table: &[u32], cliques: &[u32], sources: bool, node: u32) -> u32 {
-    let count = table.len() / 3;
-    let mut i = 0;
-    while i < count {
-        let t = triple_at(table, i);
-        if end_of(t, sources) == node && is_data(words, t) {
-            return clique_at(cliques, sources, t.property);
-        }
-        i += 1;
-    }
-    ABSENT
-}
+use naive_checks::{Site, mark};
+use naive_cliques::{Side, cliques_at, is_data, lower};
+use naive_lists::{ABSENT, Refusal, Triple, add, entry, set_entry, sort, triples_of};
 
 // The source and the target clique of a data node.
+#[derive(Clone, Copy, PartialEq, Eq)]
+struct NodeCliques {
+    source: Option<u32>,
+    target: Option<u32>,
+}
+
+impl NodeCliques {
+    const NONE: Self = Self {
+        source: None,
+        target: None,
+    };
+}
+
+// When two data nodes are equivalent in one step.
+#[derive(Clone, Copy, PartialEq, Eq)]
+pub enum Equivalence {
+    Weak,
+    Strong,
+}
+
+impl Equivalence {
+    // Strong: both cliques are the same, none counting as a value. Weak: the source or the target clique is the same and not empty, or both
+    // nodes have no clique at all.
+    fn relates(self, a: NodeCliques, b: NodeCliques) -> bool {
+        match self {
+            Self::Strong => a == b,
+            Self::Weak => {
+                a.source.is_some() && a.source == b.source
+                    || a.target.is_some() && a.target == b.target
+                    || a == NodeCliques::NONE && b == NodeCliques::NONE
+            }
+        }
+    }
+}
+
+// A site with the cliques of its properties.
 #[derive(Clone, Copy)]
-struct Sides {
-    source: u32,
-    target: u32,
+struct Grouping<'a> {
+    site: Site<'a>,
+    equivalence: Equivalence,
+    sources: &'a [u32],
+    targets: &'a [u32],
 }
 
-// Whether they are the same, none counting as a value.
-fn strongly(a: Sides, b: Sides) -> bool {
-    a.source == b.source && a.target == b.target
-}
-
-fn has_none(a: Sides) -> bool {
-    a.source == ABSENT && a.target == ABSENT
-}
-
-// Whether the source or the target clique is the same and not empty, or both nodes have no clique at all.
-fn weakly(a: Sides, b: Sides) -> bool {
-    if a.source != ABSENT && a.source == b.source {
-        return true;
+impl Grouping<'_> {
+    // The clique of a property at a side.
+    fn clique_at(self, side: Side, property: u32) -> u32 {
+        match side {
+            Side::Source => entry(self.sources, property),
+            Side::Target => entry(self.targets, property),
+        }
     }
-    if a.target != ABSENT && a.target == b.target {
-        return true;
-    }
-    has_none(a) && has_none(b)
-}
 
-fn sides_of(words: Words, table: &[u32], cliques: &[u32], node: u32) -> Sides {
-    Sides {
-        source: clique_of(words, table, cliques, true, node),
-        target: clique_of(words, table, cliques, false, node),
+    // The clique of a data node: that of the property of any data triple that it stands in at that side.
+    fn clique_of(self, side: Side, node: u32) -> Option<u32> {
+        triples_of(self.site.table)
+            .find(|t| side.end(*t) == node && is_data(self.site.words, *t))
+            .map(|t| self.clique_at(side, t.property))
     }
-}
 
-// Whether two data nodes are equivalent in one step.
-fn alike(words: Words, strong: bool, table: &[u32], cliques: &[u32], a: u32, b: u32) -> bool {
-    let sides_a = sides_of(words, table, cliques, a);
-    let sides_b = sides_of(words, table, cliques, b);
-    if strong {
-        return strongly(sides_a, sides_b);
+    fn cliques_of(self, node: u32) -> NodeCliques {
+        NodeCliques {
+            source: self.clique_of(Side::Source, node),
+            target: self.clique_of(Side::Target, node),
+        }
     }
-    weakly(sides_a, sides_b)
+
+    // Lowers a data node a by a data node b if they are alike; whether it was lowered.
+    fn join_pair(self, map: &mut [u32], a: u32, b: u32) -> bool {
+        mark(self.site.roster, a) == 0
+            && mark(self.site.roster, b) == 0
+            && entry(map, b) < entry(map, a)
+            && self
+                .equivalence
+                .relates(self.cliques_of(a), self.cliques_of(b))
+            && lower(map, a, b)
+    }
+
+    // Lowers the node a by each node that is alike.
+    fn join(self, map: &mut [u32], a: u32) -> bool {
+        let mut changed = false;
+        for t in triples_of(self.site.table) {
+            for b in [t.subject, t.object] {
+                changed |= self.join_pair(map, a, b);
+            }
+        }
+        changed
+    }
+
+    fn join_all(self, map: &mut [u32]) -> bool {
+        let mut changed = false;
+        for t in triples_of(self.site.table) {
+            for a in [t.subject, t.object] {
+                changed |= self.join(map, a);
+            }
+        }
+        changed
+    }
+
+    // The smallest code of each class. A chain has no more steps than there are nodes, so as many rounds are enough; strong classes have no
+    // chains.
+    fn represent(self, map: &mut [u32]) {
+        start(self.site.table, map);
+        for _ in 0..self.site.table.len() / 3 * 2 {
+            if !self.join_all(map) {
+                return;
+            }
+        }
+    }
 }
 
 // Each node represents itself at first, and a code that is no node is absent.
 fn start(table: &[u32], map: &mut [u32]) {
-    fill(map, ABSENT);
-    let count = table.len() / 3;
-    let mut i = 0;
-    while i < count {
-        let t = triple_at(table, i);
+    map.fill(ABSENT);
+    for t in triples_of(table) {
         set_entry(map, t.subject, t.subject);
         set_entry(map, t.object, t.object);
-        i += 1;
     }
 }
 
-// The node at place e: the ends of triple 0, then those of triple 1, and so on.
-fn node_at(table: &[u32], e: usize) -> u32 {
-    end_of(triple_at(table, e / 2), e % 2 == 0)
-}
-
-// Lowers a data node a by a data node b if they are alike.
-fn join_pair(
-    words: Words,
-    strong: bool,
-    table: &[u32],
-    roster: &[u8],
-    cliques: &[u32],
-    map: &mut [u32],
-    a: u32,
-    b: u32,
-) -> bool {
-    if mark(roster, a) != 0 {
-        return false;
-    }
-    if mark(roster, b) != 0 {
-        return false;
-    }
-    if entry(map, a) <= entry(map, b) {
-        return false;
-    }
-    if alike(words, strong, table, cliques, a, b) {
-        return lower(map, a, b);
-    }
-    false
-}
-
-// Lowers the node a by each node that is alike.
-fn join(
-    words: Words,
-    strong: bool,
-    table: &[u32],
-    roster: &[u8],
-    cliques: &[u32],
-    map: &mut [u32],
-    a: u32,
-) -> bool {
-    let ends = table.len() / 3 * 2;
-    let mut changed = false;
-    let mut e = 0;
-    while e < ends {
-        if join_pair(
-            words,
-            strong,
-            table,
-            roster,
-            cliques,
-            map,
-            a,
-            node_at(table, e),
-        ) {
-            changed = true;
-        }
-        e += 1;
-    }
-    changed
-}
-
-fn join_all(
-    words: Words,
-    strong: bool,
-    table: &[u32],
-    roster: &[u8],
-    cliques: &[u32],
-    map: &mut [u32],
-) -> bool {
-    let ends = table.len() / 3 * 2;
-    let mut changed = false;
-    let mut e = 0;
-    while e < ends {
-        if join(
-            words,
-            strong,
-            table,
-            roster,
-            cliques,
-            map,
-            node_at(table, e),
-        ) {
-            changed = true;
-        }
-        e += 1;
-    }
-    changed
-}
-
-// The smallest code of each class. A chain has no more steps than there are nodes, so as many rounds are enough; strong classes
-// have no chains.
-fn represent(
-    words: Words,
-    strong: bool,
-    table: &[u32],
-    roster: &[u8],
-    cliques: &[u32],
-    map: &mut [u32],
-) {
-    start(table, map);
-    let ends = table.len() / 3 * 2;
-    let mut rounds = 0;
-    while rounds < ends {
-        if !join_all(words, strong, table, roster, cliques, map) {
-            return;
-        }
-        rounds += 1;
-    }
-}
-
-// Fills a list with the cliques of both sides.
-fn both_sides(words: Words, table: &[u32], roster: &[u8], work: &mut [u32]) {
-    let half = work.len() / 2;
-    side(words, table, roster, true, &mut work[..half]);
-    side(words, table, roster, false, &mut work[half..]);
+// The representative of each node. The work list is left with the cliques of both sides.
+fn represent(site: Site, equivalence: Equivalence, map: &mut [u32], work: &mut [u32]) {
+    let (sources, targets) = work.split_at_mut(work.len() / 2);
+    cliques_at(site, Side::Source, sources);
+    cliques_at(site, Side::Target, targets);
+    let grouping = Grouping {
+        site,
+        equivalence,
+        sources,
+        targets,
+    };
+    grouping.represent(map);
 }
 
 // A triple with subject and object replaced by their representatives.
 pub fn image(map: &[u32], t: Triple) -> Triple {
-    triple_of(entry(map, t.subject), t.property, entry(map, t.object))
+    Triple::new(entry(map, t.subject), t.property, entry(map, t.object))
 }
 
 // The images of the triples, each once.
-fn replaced(table: &[u32], map: &[u32], list: &mut [u32]) -> Answer {
-    let count = table.len() / 3;
-    let mut answer = accept(0);
-    let mut i = 0;
-    while i < count {
-        answer = add(list, answer, image(map, triple_at(table, i)));
-        i += 1;
-    }
-    answer
+fn images(table: &[u32], map: &[u32], res: &mut [u32]) -> Result<usize, Refusal> {
+    triples_of(table).try_fold(0, |count, t| add(res, count, image(map, t)))
 }
 
 // The lengths of map and work list are N and 2 * N.
@@ -227,36 +155,25 @@ fn lengths_wrong(n: usize, map: usize, work: usize) -> bool {
     map != n || work / 2 != n || work % 2 != 0
 }
 
-// A result that does not fit is cleared with its map, one that fits is sorted.
-fn finish(answer: Answer, res: &mut [u32], map: &mut [u32]) {
-    if answer.refused != 0 {
-        fill(res, 0);
-        fill(map, 0);
-        return;
-    }
-    sort(res, answer.count);
-}
-
-// The weak summary or the strong one.
+// The weak summary or the strong one. A result that does not fit is cleared with its map, one that fits is sorted.
 pub fn summarise(
-    words: Words,
-    strong: bool,
-    table: &[u32],
-    roster: &[u8],
+    site: Site,
+    equivalence: Equivalence,
     res: &mut [u32],
     map: &mut [u32],
     work: &mut [u32],
-) -> Answer {
-    let others_wrong = lengths_wrong(roster.len(), map.len(), work.len());
-    let number = table_refusal(words, others_wrong, table, roster);
-    if number != 0 {
-        return refuse(number);
+) -> Result<usize, Refusal> {
+    site.check(lengths_wrong(site.roster.len(), map.len(), work.len()))?;
+    represent(site, equivalence, map, work);
+    work.fill(0);
+    res.fill(0);
+    let answer = images(site.table, map, res);
+    match answer {
+        Ok(count) => sort(res, count),
+        Err(_) => {
+            res.fill(0);
+            map.fill(0);
+        }
     }
-    both_sides(words, table, roster, work);
-    represent(words, strong, table, roster, work, map);
-    fill(work, 0);
-    fill(res, 0);
-    let answer = replaced(table, map, res);
-    finish(answer, res, map);
     answer
 }

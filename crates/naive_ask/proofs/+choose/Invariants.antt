@@ -4,6 +4,3 @@ use Rattle.naive_ask.proofs.+choose.Given as goal
 -- variables that are still to be chosen
 abbrev pub decreases-choose : goal.decreases-choose
 decreases-choose l = 8 - l.variable
-
-abbrev pub decreases-loop-code : goal.decreases-loop-code
-decreases-loop-code l = 65536 - l.code
