@@ -25,10 +25,7 @@ pub fn mix(seed: u64, place: u64) -> u64
 pub fn remainder(x: u32, m: u32) -> u32
     ensures { result ≤ x }
 {
-    if m == 0 {
-        return 0;
-    }
-    x % m
+    if m == 0 { 0 } else { x % m }
 }
 
 // A number below `bound`, or 0.
@@ -43,40 +40,21 @@ pub fn chance(seed: u64, place: u64, bound: u32) -> bool {
     pick(seed, place, bound) == 0
 }
 
-pub fn at_most(x: usize, most: usize) -> usize
-    ensures { result ≤ most }
-{
-    if x < most {
-        return x;
-    }
-    most
-}
-
 // The numbers of `count` triples in a list of that length.
 pub fn triples_end(count: usize, length: usize) -> usize
     ensures { result ≤ length }
 {
-    if count <= length / 3 {
-        return 3 * count;
-    }
-    0
+    if count <= length / 3 { 3 * count } else { 0 }
 }
 
+// The number at a place, 0 behind the list.
 pub fn get(list: &[u32], i: usize) -> u32 {
-    if i < list.len() {
-        return list[i];
-    }
-    0
+    list.get(i).copied().unwrap_or(0)
 }
 
-pub fn set(list: &mut [u32], i: usize, value: u32) {
-    if i < list.len() {
-        list[i] = value;
-    }
-}
-
-pub fn set_mark(roster: &mut [u8], i: usize, value: u8) {
-    if i < roster.len() {
-        roster[i] = value;
+// Puts a value at a place, if the list has it.
+pub fn set<T: Copy>(list: &mut [T], i: usize, value: T) {
+    if let Some(slot) = list.get_mut(i) {
+        *slot = value;
     }
 }
