@@ -24,9 +24,6 @@ returns-then-is_schema c = retired-by _ _
 pub overflow_add-i : goal.overflow_add-i
 overflow_add-i c = omega arith
 
-pub loop-i-smaller : goal.loop-i-smaller
-loop-i-smaller c = omega arith
-
 pub loop-i-preserved : goal.loop-i-preserved
 loop-i-preserved c = none-step _ _ _ _ c.loop-i.invariant c.loop-i-test.true
     (sym c.is_schema.ensures ∙ c.if-is_schema.false)

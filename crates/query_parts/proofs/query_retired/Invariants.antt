@@ -5,6 +5,3 @@ use Rattle.query_parts.proofs.query_retired.Given as goal
 
 abbrev pub invariant-loop-i : goal.invariant-loop-i
 invariant-loop-i l = NoneYet (asks_schema l.words) (pattern_at l.q) l.q.count l.i
-
-abbrev pub decreases-loop-i : goal.decreases-loop-i
-decreases-loop-i l = l.count - l.i

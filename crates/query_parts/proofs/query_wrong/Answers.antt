@@ -30,9 +30,6 @@ returns-then-pattern_wrong c = query-few _ c.args.q c.if-count-eq0.false c.if-co
 pub overflow_add-k : goal.overflow_add-k
 overflow_add-k c = omega arith
 
-pub loop-k-smaller : goal.loop-k-smaller
-loop-k-smaller c = omega arith
-
 pub loop-k-preserved : goal.loop-k-preserved
 loop-k-preserved c = none-step _ _ _ _ c.loop-k.invariant c.loop-k-test.true (sym c.pattern_wrong.ensures ∙ c.if-pattern_wrong.false)
 
