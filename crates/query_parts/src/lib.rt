@@ -8,6 +8,7 @@ use lists::Code;
 use model::Vocabulary;
 use query::{End, Fit, Pattern, Query};
 
+#[tactic(auto, unfolding(query::specs::Ask::wrong_pattern_end))]
 fn end_wrong(e: End, n: usize) -> bool
     ensures { result ≡ wrong_pattern_end n e }
 {
@@ -17,6 +18,7 @@ fn end_wrong(e: End, n: usize) -> bool
     }
 }
 
+#[tactic(auto, unfolding(query::specs::Ask::wrong_pattern))]
 fn pattern_wrong(p: Pattern, n: usize) -> bool
     ensures { result ≡ wrong_pattern n p }
 {

@@ -1,4 +1,3 @@
-use Prim.Native.Nat.{◌-◌}
 use Rattle.query.specs.Ask.{pattern_at, asks_schema}
 use Rattle.theory.proofs.Runs.{NoneYet}
 use Rattle.query_parts.proofs.query_retired.Given as goal

@@ -1,4 +1,3 @@
-use Prim.Native.Nat.{◌-◌}
 use Rattle.query.specs.Ask.{pattern_at, wrong_pattern}
 use Rattle.theory.proofs.Runs.{NoneYet}
 use Rattle.query_parts.proofs.query_wrong.Given as goal
