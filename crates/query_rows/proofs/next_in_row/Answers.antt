@@ -6,20 +6,11 @@ use Rattle.query_rows.proofs.next_in_row.Goals as goal
 pub loop-x-init : goal.loop-x-init
 loop-x-init c = first-start _ _ _ c.requires.2
 
-pub overflow_cast-x : goal.overflow_cast-x
-overflow_cast-x c = record { fits = omega (arith, c.requires.3) }
-
 pub in_row-requires : goal.in_row-requires
 in_row-requires c = (c.requires.0, omega (arith, c.requires.1))
 
 pub returns-then-in_row : goal.returns-then-in_row
 returns-then-in_row c = first_found _ _ _ _ c.loop-x.invariant (sym c.in_row.ensures ∙ c.if-in_row.true)
-
-pub overflow_add-x : goal.overflow_add-x
-overflow_add-x c = omega (arith, c.requires.3)
-
-pub loop-x-smaller : goal.loop-x-smaller
-loop-x-smaller c = omega arith
 
 pub loop-x-preserved : goal.loop-x-preserved
 loop-x-preserved c = first_step _ _ _ _ c.loop-x.invariant c.loop-x-test.true (sym c.in_row.ensures ∙ c.if-in_row.false)
