@@ -13,7 +13,7 @@ use lib.Dec.{eqb}
 use lib.ListN.{length, get_or, replicate, length-set}
 use borrow.Author.Tests.{lt-ltb, le-ltb}
 use Rattle.query.specs.declared.End.{End}
-use Rattle.query.specs.declared.End.TheVariants.{Var, Code}
+use Rattle.query.specs.declared.End.TheVariants.{Var}
 use Rattle.query_rows.specs.Rows.{width, bit, in_row, allows, Sized, PutIn, RowSet, RowCopied}
 use Rattle.query_rows.proofs.Bits.{with_bit, bit-there, bit_kept}
 use Rattle.query_rows.proofs.Places.{word_of, shift_of, bit_below, rows_apart, row_within}
@@ -52,10 +52,6 @@ module _ (d : List ℕ) (e : End) (x : ℕ) where
   pub allows-row : (v : ℕ) → e ≡ Var v → 13 ≤ length d → in_row d v x ≡ allows d e x
   unfolding allows
   allows-row v h n = rw (h, le-ltb _ _ n)
-
-  pub allows-code : (c : ℕ) → e ≡ Code c → true ≡ allows d e x
-  unfolding allows
-  allows-code c h = rw h
 
 -- ── a node put in a row ──
 module _ (d : List ℕ) (v x i : ℕ) (s : Sized d) (below : v < 13) (e : i ≡ v * width d + x % width d) where
