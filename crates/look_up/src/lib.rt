@@ -23,17 +23,14 @@ pub struct Seen {
 fn seen_in(list: &[u32], t: Triple) -> Seen
     ensures { result ≡ seen_in (triples list.now) t }
 {
-    let n = list.len() / 3;
     let mut found = false;
     let mut place = 0;
-    let mut i = 0;
-    while i < n {
+    for i in 0..list.len() / 3 {
         let u = triple_at(list, i);
         let here = same(t, u);
         let early = before(u, t);
-        found = found | here;
+        found |= here;
         place += early as usize;
-        i += 1;
     }
     Seen { found, place }
 }

@@ -1,151 +1,103 @@
 // The variable to fix while a cycle is left. Which variable is a matter of time only; what is promised is in specs/Fixing.
 #![tactic(auto)]
 
-ghost use Rattle.std.specs.Prelude.{◌≤◌};
+ghost use Rattle.std.specs.Prelude.{◌≤◌, ◌<◌, IfSome};
 ghost use Rattle.query_fixing.specs.Fixing.{FreeVariable};
 
 use lists::Code;
 use query::{End, Query};
 
-// The variable at an end if it has no node and is not the one left out, else 8.
-fn free_variable(e: End, bindings: [u32; 8], out: u32) -> u32
-    ensures { result ≤ 8 }
+// The variable at an end, if it has no node and is not the one left out.
+fn free_variable(e: End, bindings: [u32; 8], out: Option<usize>) -> Option<usize>
+    ensures { IfSome result (λ v. v < 8) }
 {
     let End::Var(v) = e else {
-        return 8;
+        return None;
     };
-    let w = v % 8;
-    if w == out {
-        return 8;
+    let w = (v % 8) as usize;
+    if Some(w) != out && Code(bindings[w]).is_absent() {
+        return Some(w);
     }
-    let node = bindings[w as usize];
-    if Code(node).is_absent() {
-        return w;
-    }
-    8
+    None
 }
 
-// The labels with one replaced by another.
-fn relabelled(labels: [u32; 8], from: u32, to: u32) -> [u32; 8] {
-    let mut r = labels;
-    let mut v = 0;
-    while v < 8 {
-        if r[v] == from {
-            r[v] = to;
-        }
-        v += 1;
-    }
-    r
-}
-
-// How many cycles a pattern between the variables x and y closes, where joined variables have one label: 1 or 0.
-fn closes(labels: [u32; 8], x: u32, y: u32) -> u32
-    ensures { result ≤ 1 }
+// Whether a pattern between the variables x and y closes a cycle, where joined variables have one label.
+fn closes(labels: [u32; 8], x: usize, y: usize) -> bool
+    requires { (x < 8) × (y < 8) }
 {
-    if 8 <= x {
-        return 0;
-    }
-    if 8 <= y {
-        return 0;
-    }
-    if x == y {
-        return 0;
-    }
-    if labels[x as usize] == labels[y as usize] {
-        return 1;
-    }
-    0
+    x != y && labels[x] == labels[y]
 }
 
 // The labels with the variables x and y joined.
-fn joined(labels: [u32; 8], x: u32, y: u32) -> [u32; 8] {
-    if 8 <= x {
-        return labels;
+fn joined(labels: [u32; 8], x: usize, y: usize) -> [u32; 8]
+    requires { (x < 8) × (y < 8) }
+{
+    let mut r = labels;
+    for label in &mut r {
+        if *label == labels[x] {
+            *label = labels[y];
+        }
     }
-    if 8 <= y {
-        return labels;
-    }
-    relabelled(labels, labels[x as usize], labels[y as usize])
-}
-
-// How many patterns close a cycle in each part of the variables, by its label, after one between the variables x and y.
-fn counted(closed: [u32; 8], labels: [u32; 8], x: u32, y: u32) -> [u32; 8] {
-    if 8 <= x {
-        return closed;
-    }
-    if 8 <= y {
-        return closed;
-    }
-    let from = (labels[x as usize] % 8) as usize;
-    let to = (labels[y as usize] % 8) as usize;
-    let mut r = closed;
-    if from == to {
-        r[to] = std::num::wrapping_add_u32(closed[to], closes(labels, x, y));
-        return r;
-    }
-    r[to] = std::num::wrapping_add_u32(closed[to], closed[from]);
     r
 }
 
-// The largest of eight numbers.
-fn largest(numbers: [u32; 8]) -> u32 {
-    let mut most = 0;
-    let mut v = 0;
-    while v < 8 {
-        let n = numbers[v];
-        if most < n {
-            most = n;
-        }
-        v += 1;
-    }
-    most
+// How many patterns close a cycle in each part of the variables, by its label, after one between the variables x and y.
+fn counted(closed: [u32; 8], labels: [u32; 8], x: usize, y: usize) -> [u32; 8]
+    requires { (x < 8) × (y < 8) }
+{
+    let from = (labels[x] % 8) as usize;
+    let to = (labels[y] % 8) as usize;
+    let more = if from == to {
+        closes(labels, x, y) as u32
+    } else {
+        closed[from]
+    };
+    let mut r = closed;
+    r[to] = closed[to].wrapping_add(more);
+    r
 }
 
 // The patterns from k on that close a cycle of variables without a node, one variable left out: 16 times how many do in the worst
 // connected part of the variables, and how many do in all.
-fn cycles(q: Query, k: usize, bindings: [u32; 8], out: u32) -> u32
+fn cycles(q: Query, k: usize, bindings: [u32; 8], out: Option<usize>) -> u32
     requires { q.count ≤ 8 }
 {
-    let count = q.count as usize;
     let mut labels = [0, 1, 2, 3, 4, 5, 6, 7];
     let mut closed = [0; 8];
     let mut total = 0;
-    let mut j = k;
-    while j < count {
+    for j in k..q.count as usize {
         let p = q.patterns[j];
-        let subject = p.subject;
-        let object = p.object;
-        let x = free_variable(subject, bindings, out);
-        let y = free_variable(object, bindings, out);
-        total += closes(labels, x, y);
-        let parts = counted(closed, labels, x, y);
-        closed = parts;
-        let after = joined(labels, x, y);
-        labels = after;
-        j += 1;
+        let subject = free_variable(p.subject, bindings, out);
+        let object = free_variable(p.object, bindings, out);
+        if let (Some(x), Some(y)) = (subject, object) {
+            total += closes(labels, x, y) as u32;
+            let parts = counted(closed, labels, x, y);
+            closed = parts;
+            let after = joined(labels, x, y);
+            labels = after;
+        }
     }
-    (largest(closed) << 4) | total
+    let worst = closed.iter().fold(0, |most: u32, n| most.max(*n));
+    (worst << 4) | total
 }
 
-// The variable to fix: the one without which the worst part has fewest cycles, and of those the one without which fewest are left in
-// all. 8 if there is no cycle.
-pub fn variable_to_fix(q: Query, k: usize, bindings: [u32; 8]) -> u32
+// The variable to fix, if there is a cycle: the one without which the worst part has fewest cycles, and of those the one without which
+// fewest are left in all.
+pub fn variable_to_fix(q: Query, k: usize, bindings: [u32; 8]) -> Option<usize>
     requires { q.count ≤ 8 }
-    ensures { FreeVariable bindings result }
+    ensures { IfSome result (λ v. FreeVariable bindings v) }
 {
-    let mut best = 8;
-    let mut fewest = cycles(q, k, bindings, 8);
-    let mut v = 0;
-    while v < 8 {
-        let node = bindings[v as usize];
+    let mut best = None;
+    let mut fewest = cycles(q, k, bindings, None);
+    for v in 0..8 {
+        let node = bindings[v];
         if Code(node).is_absent() {
-            let left = cycles(q, k, bindings, v);
+            let left = cycles(q, k, bindings, Some(v));
             if left < fewest {
                 fewest = left;
-                best = v;
+                best = Some(v);
             }
         }
-        v += 1;
     }
     best
 }

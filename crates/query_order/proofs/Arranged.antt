@@ -1,34 +1,37 @@
 -- The order of a query's patterns changes neither what is refused of it nor its choices.
 -- Assumes nothing.
-use Prim.Native.Nat.{ℕ, ◌+◌, ◌<◌, ◌≤◌}
+use Prim.Native.Nat.{ℕ, ◌<◌, ◌≤◌}
 use native.Mathlib.Omega.{arith}
 use native.Mathlib.Decide.{dec_lt}
-use mathlib.Core.Path.{◌≡◌, sym, ap, ◌∙◌}
+use mathlib.Core.Path.{◌≡◌, refl, ap, ◌∙◌}
 use mathlib.Core.Bool.{false}
 use mathlib.Core.List.Memᴰ
 use mathlib.Core.List.{List}
+use lib.ListN.{length}
 use lib.Dec.{eqb, ltb}
 use borrow.Author.Tests.{ne_eqb, le-ltb}
 use Rattle.model.specs.declared.Triple.{Triple}
 use Rattle.model.specs.Partition.{label}
 use Rattle.theory.proofs.Tests.{or_neither}
 use Rattle.theory.proofs.Runs.{run-fails}
+use Rattle.std.specs.List.{swap}
+use Rattle.query.specs.declared.Pattern.{Pattern}
 use Rattle.query.specs.declared.Query.{Query}
 use Rattle.query.specs.Ask.{pattern_at, wrong_pattern, counted_patterns, wrong_query}
 use Rattle.query.specs.Match.{pattern_triple}
 use Rattle.query.specs.Choices.{Puts}
 use Rattle.query.proofs.Steps.{some_pattern, few_patterns, right-pattern}
-use Rattle.query_order.specs.Order.{Copied, first_patterns, exchanged, StandsIn, Arranged}
-use Rattle.query_order.proofs.Exchange.{exchange_arranged}
+use Rattle.query_order.specs.Order.{first_patterns, StandsIn, Arranged}
+use Rattle.query_order.proofs.Exchange.{swapped-is, exchange_arranged}
 
 -- ── orders ──
-pub copied_arranged : (k : ℕ) (q r : Query) → Copied q r → Arranged k q r
-copied_arranged k q r c = record {
-  room = c.room;
-  count = c.count;
-  before = λ j l m. c.same j m;
-  comes = λ j l m. let n : j < q.count = omega (arith, c.count) in (j, l, n, c.same j n);
-  goes = λ j l m. (j, l, omega (arith, c.count), sym (c.same j m));
+pub arranged_as_is : (k : ℕ) (q : Query) → length q.patterns ≡ 8 → Arranged k q q
+arranged_as_is k q room = record {
+  room = room;
+  count = refl;
+  before = λ j l m. refl;
+  comes = λ j l m. (j, l, m, refl);
+  goes = λ j l m. (j, l, m, refl);
 }
 
 pub arranged_on : (k : ℕ) (q r s : Query) → Arranged k q r → Arranged k r s → Arranged k q s
@@ -41,19 +44,12 @@ arranged_on k q r s a b = record {
 }
 
 -- ── the loop that arranges ──
--- the patterns of q from the k-th on are arranged up to the j-th
-pub record ArrangedTo (k count : ℕ) (q r : Query) (j : ℕ) : Type 0 where
-  pub from : k ≤ j
-  pub counts : count ≡ r.count
-  pub few : count ≤ 8
-  pub order : Arranged k q r
-
-pub arrange_step : (k count : ℕ) (q r : Query) (j best : ℕ) → ArrangedTo k count q r j → j < count → j ≤ best → best < r.count
-    → (s : Query) → s ≡ exchanged r j best → ArrangedTo k count q s (j + 1)
-arrange_step k count q r j best a l h m s e =
-    let f = a.from in
-    let x = exchange_arranged k r j best a.order.room (omega (arith, a.few, a.counts)) f (omega arith) (omega (arith, a.counts)) m in
-    rw e record { from = omega arith; counts = a.counts ∙ sym x.count; few = a.few; order = arranged_on k q r _ a.order x }
+-- two patterns from the k-th on exchanged as the library says it
+pub arrange_step : (k : ℕ) (q r : Query) (i j : ℕ) → Arranged k q r → q.count ≤ 8 → k ≤ i → k ≤ j → i < q.count → j < q.count
+    → (ps : List Pattern) → ps ≡ swap r.patterns i j → Arranged k q (record { patterns = ps; count = r.count })
+arrange_step k q r i j a few ki kj ci cj ps e =
+    let x = exchange_arranged k r i j a.room (omega (arith, a.count)) ki kj (omega (arith, a.count)) (omega (arith, a.count)) in
+    rw (swapped-is r i j (omega (arith, a.room)) (omega (arith, a.room)) ps e) (arranged_on k q r _ a x)
 
 -- ── what is refused ──
 right-query : (n : ℕ) (q : Query) → 0 < q.count → q.count ≤ 8 → ((j : ℕ) → j < q.count → wrong_pattern n (pattern_at q j) ≡ false)

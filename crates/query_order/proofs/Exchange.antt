@@ -1,45 +1,24 @@
--- The patterns of a query copied, and two of them exchanged.
+-- Two patterns of a query exchanged.
 -- Assumes nothing.
-use Prim.Native.Nat.{ℕ, ◌+◌, ◌<◌, ◌≤◌}
+use Prim.Native.Nat.{ℕ, ◌<◌, ◌≤◌}
 use native.Mathlib.Omega.{arith}
 use native.Mathlib.Decide.{ℕ_discrete}
 use mathlib.Core.Path.{◌≡◌, refl, sym, ap, ◌∙◌}
 use mathlib.Core.List.{List}
 use lib.ListN.{length, get_or, set, length-set}
 use lib.Seq.{get_or-set_same, get_or-set_other}
+use Rattle.std.specs.List.{swap}
+use Rattle.std.proofs.lemmas.List.Edits.{swap_is}
 use Rattle.query.specs.declared.Pattern.{Pattern}
 use Rattle.query.specs.declared.Query.{Query}
 use Rattle.query.specs.Ask.{blank, pattern_at}
-use Rattle.query_order.specs.Order.{Copied, exchanged, Arranged}
-
--- ── the loop that copies ──
--- the first j of the counted patterns of q stand in r
-pub record CopiedTo (q r : Query) (j : ℕ) : Type 0 where
-  pub room : length r.patterns ≡ 8
-  pub count : r.count ≡ q.count
-  pub within : j ≤ q.count
-  pub same : (i : ℕ) → i < j → pattern_at r i ≡ pattern_at q i
-
-pub copy_start : (q r : Query) → length r.patterns ≡ 8 → r.count ≡ q.count → CopiedTo q r 0
-copy_start q r l e = record { room = l; count = e; within = omega arith; same = λ i h. let o : ⊥ = omega arith in absurd o }
-
-pub copy_step : (q r : Query) (j : ℕ) → CopiedTo q r j → j < q.count → q.count ≤ 8
-    → CopiedTo q (record { patterns = set r.patterns j (pattern_at q j); count = r.count }) (j + 1)
-copy_step q r j c l few = record {
-  room = length-set r.patterns j (pattern_at q j) ∙ c.room;
-  count = c.count;
-  within = omega arith;
-  same = λ i h. go i h (ℕ_discrete i j);
-}
-  where
-    go : (i : ℕ) → i < j + 1 → Dec (i ≡ j) → get_or (set r.patterns j (pattern_at q j)) i blank ≡ pattern_at q i
-    go i h (yes e) = rw e (get_or-set_same r.patterns j (pattern_at q j) blank (omega (arith, c.room)))
-    go i h (no n) = get_or-set_other r.patterns j i (pattern_at q j) blank n ∙ c.same i (omega arith)
-
-pub copy_end : (q r : Query) (j : ℕ) → CopiedTo q r j → q.count ≤ j → Copied q r
-copy_end q r j c l = record { room = c.room; count = c.count; same = λ i h. c.same i (omega arith) }
+use Rattle.query_order.specs.Order.{Arranged}
 
 -- ── two patterns exchanged ──
+-- the query with its patterns i and j exchanged
+unfoldable pub exchanged : Query → ℕ → ℕ → Query
+exchanged q i j = record { patterns = set (set q.patterns i (pattern_at q j)) j (pattern_at q i); count = q.count }
+
 module _ (q : Query) (i j : ℕ) (li : i < length q.patterns) (lj : j < length q.patterns) where
   once : List Pattern
   once = set q.patterns i (pattern_at q j)
@@ -95,7 +74,8 @@ exchange_arranged k q i j room few ki kj ci cj = record {
     lj : j < length q.patterns
     lj = omega arith
 
-pub exchanged-is : (q : Query) (i j : ℕ)
-    → ◌≡◌ {A = Query} (record { patterns = set (set q.patterns i (pattern_at q j)) j (pattern_at q i); count = q.count }) (exchanged q i j)
+-- as the library says it
+pub swapped-is : (q : Query) (i j : ℕ) → i < length q.patterns → j < length q.patterns → (ps : List Pattern) → ps ≡ swap q.patterns i j
+    → ◌≡◌ {A = Query} (record { patterns = ps; count = q.count }) (exchanged q i j)
 unfolding exchanged
-exchanged-is q i j = refl
+swapped-is q i j li lj ps e = ap (λ (x : List Pattern). record { patterns = x; count = q.count }) (e ∙ sym (swap_is q.patterns i j blank li lj))

@@ -1,6 +1,6 @@
 -- The order of a query's patterns.
 -- Assumes nothing.
-use Rattle.std.specs.Prelude.{ℕ, ◌<◌, ◌≤◌, ◌≡◌, length, set}
+use Rattle.std.specs.Prelude.{ℕ, ◌<◌, ◌≤◌, ◌≡◌, length}
 use Rattle.query.specs.declared.Pattern.{Pattern}
 use Rattle.query.specs.declared.Query.{Query}
 use Rattle.query.specs.Ask.{pattern_at}
@@ -8,16 +8,6 @@ use Rattle.query.specs.Ask.{pattern_at}
 -- the first n patterns of a query
 abbrev pub first_patterns : Query → ℕ → Query
 first_patterns q n = record { patterns = q.patterns; count = n }
-
--- the counted patterns of q in an array of eight
-pub record Copied (q r : Query) : Type 0 where
-  pub room : length r.patterns ≡ 8
-  pub count : r.count ≡ q.count
-  pub same : (j : ℕ) → j < q.count → pattern_at r j ≡ pattern_at q j
-
--- the query with its patterns i and j exchanged
-unfoldable pub exchanged : Query → ℕ → ℕ → Query
-exchanged q i j = record { patterns = set (set q.patterns i (pattern_at q j)) j (pattern_at q i); count = q.count }
 
 -- p is a counted pattern of q and not one before the k-th
 abbrev pub StandsIn : Query → ℕ → Pattern → Type 0

@@ -8,6 +8,7 @@ use lists::Code;
 use model::Vocabulary;
 use query::{End, Fit, Pattern, Query};
 
+#[tactic(auto, unfolding(query::specs::Ask::wrong_pattern_end))]
 fn end_wrong(e: End, n: usize) -> bool
     ensures { result ≡ wrong_pattern_end n e }
 {
@@ -17,18 +18,11 @@ fn end_wrong(e: End, n: usize) -> bool
     }
 }
 
+#[tactic(auto, unfolding(query::specs::Ask::wrong_pattern))]
 fn pattern_wrong(p: Pattern, n: usize) -> bool
     ensures { result ≡ wrong_pattern n p }
 {
-    let subject = p.subject;
-    if end_wrong(subject, n) {
-        return true;
-    }
-    if n <= p.property as usize {
-        return true;
-    }
-    let object = p.object;
-    end_wrong(object, n)
+    end_wrong(p.subject, n) || n <= p.property as usize || end_wrong(p.object, n)
 }
 
 // Refusal 6, for a site of size n.
@@ -36,19 +30,13 @@ pub fn query_wrong(q: Query, n: usize) -> bool
     ensures { result ≡ wrong_query n q }
 {
     let count = q.count as usize;
-    if count == 0 {
+    if count == 0 || 8 < count {
         return true;
     }
-    if 8 < count {
-        return true;
-    }
-    let mut k = 0;
-    while k < count {
-        let p = q.patterns[k];
-        if pattern_wrong(p, n) {
+    for k in 0..count {
+        if pattern_wrong(q.patterns[k], n) {
             return true;
         }
-        k += 1;
     }
     false
 }
@@ -58,14 +46,10 @@ pub fn query_retired(words: Vocabulary, q: Query) -> bool
     requires { q.count ≤ 8 }
     ensures { result ≡ retired words q }
 {
-    let count = q.count as usize;
-    let mut i = 0;
-    while i < count {
-        let p = q.patterns[i];
-        if Code(p.property).is_schema(words) {
+    for i in 0..q.count as usize {
+        if Code(q.patterns[i].property).is_schema(words) {
             return true;
         }
-        i += 1;
     }
     false
 }

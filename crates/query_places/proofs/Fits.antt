@@ -1,6 +1,7 @@
 -- The first place whose triple may fit a pattern.
 -- Assumes nothing.
-use Prim.Native.Nat.{ℕ, ◌+◌, ◌*◌, ◌<◌, ◌≤◌}
+use Rattle.std.specs.Prelude.{Option, Some, None}
+use Prim.Native.Nat.{ℕ, ◌+◌, ◌<◌, ◌≤◌}
 use native.Mathlib.Omega.{arith}
 use mathlib.Core.Path.{◌≡◌, refl, sym, ap, ◌∙◌, subst}
 use mathlib.Core.Bool.{Bool, true, false, cond, true≢false}
@@ -12,40 +13,24 @@ use borrow.Author.Tests.{eqb-true, eqb-false, eq-eqb, ne_eqb}
 use Rattle.model.specs.declared.Triple.{Triple}
 use Rattle.model.specs.Codes.{absent}
 use Rattle.model.specs.Lists.{First}
-use Rattle.model.specs.Partition.{label}
 use Rattle.model.specs.Triples.{triple, same}
 use Rattle.theory.proofs.Tests.{and_left, and_right, and_true, and_both, bool_cases, not_true_false}
 use Rattle.theory.proofs.Order.{triple-eq, same-eq, same_refl}
-use Rattle.lists.specs.Flat.{at, RisingPart, Bound}
+use Rattle.lists.specs.Flat.{RisingPart, Bound}
 use Rattle.lists.proofs.Compare.{Cmp, lt, eq, gt, cmp}
 use Rattle.lists.proofs.Search.{at_bound}
 use Rattle.lists.proofs.Fronts.{front_not_before, front-later}
 use Rattle.query.specs.declared.End.{End}
 use Rattle.query.specs.declared.End.TheVariants.{Var, Code}
 use Rattle.query.specs.declared.Pattern.{Pattern}
-use Rattle.query_places.specs.declared.Wanted.{Wanted}
-use Rattle.query_places.specs.declared.Wanted.TheVariants.{Any, Node}
 use Rattle.query.specs.Ask.{fit, fit_end, fit_triple}
 use Rattle.query_places.specs.Places.{with_property, FirstOf, FirstSame, FirstFit, front, wanted_of}
 
 -- ── the node that an end must have ──
-module _ (map : List ℕ) (e : End) (b : List ℕ) where
-  pub wanted_any : (v : ℕ) → e ≡ Var v → get_or b v 0 ≡ absent → Any ≡ wanted_of map e b
-  unfolding wanted_of
-  wanted_any v h n = rw (h, eq-eqb _ _ n)
-
-  pub wanted_bound : (v : ℕ) → e ≡ Var v → (get_or b v 0 ≡ absent → ⊥) → Node (get_or b v 0) ≡ wanted_of map e b
-  unfolding wanted_of
-  wanted_bound v h n = rw (h, ne_eqb _ _ n)
-
-  pub wanted_code : (c x : ℕ) → e ≡ Code c → x ≡ label map c → Node x ≡ wanted_of map e b
-  unfolding wanted_of
-  wanted_code c x h q = rw (h, q)
-
 -- what an end fits is what it wants
-met : Wanted → ℕ → Bool
-met Any y = true
-met (Node x) y = eqb x y
+met : Option ℕ → ℕ → Bool
+met None y = true
+met (Some x) y = eqb x y
 
 fits-met : (map : List ℕ) (e : End) (b : List ℕ) (y : ℕ) → (fit_end map e y b).fits ≡ met (wanted_of map e b) y
 unfolding wanted_of fit_end met
@@ -53,27 +38,19 @@ fits-met map (Var v) b y = ⊎_elim (λ z. rw z) (λ z. rw z) (bool_cases (eqb (
 fits-met map (Code c) b y = refl
 
 -- an end that must have a node fits no other
-wanted_only : (map : List ℕ) (e : End) (b : List ℕ) (x y : ℕ) → Node x ≡ wanted_of map e b → (y ≡ x → ⊥) → (fit_end map e y b).fits ≡ false
+wanted_only : (map : List ℕ) (e : End) (b : List ℕ) (x y : ℕ) → Some x ≡ wanted_of map e b → (y ≡ x → ⊥) → (fit_end map e y b).fits ≡ false
 unfolding met
-wanted_only map e b x y h n = fits-met map e b y ∙ ap (λ (w : Wanted). met w y) (sym h) ∙ ne_eqb x y (λ q. n (sym q))
+wanted_only map e b x y h n = fits-met map e b y ∙ ap (λ (w : Option ℕ). met w y) (sym h) ∙ ne_eqb x y (λ q. n (sym q))
 
-wanted_node : (map : List ℕ) (e : End) (b : List ℕ) (x y : ℕ) → Node x ≡ wanted_of map e b → (fit_end map e y b).fits ≡ true → y ≡ x
+wanted_node : (map : List ℕ) (e : End) (b : List ℕ) (x y : ℕ) → Some x ≡ wanted_of map e b → (fit_end map e y b).fits ≡ true → y ≡ x
 unfolding met
-wanted_node map e b x y h z = sym (eqb-true x y (sym (fits-met map e b y ∙ ap (λ (w : Wanted). met w y) (sym h)) ∙ z))
+wanted_node map e b x y h z = sym (eqb-true x y (sym (fits-met map e b y ∙ ap (λ (w : Option ℕ). met w y) (sym h)) ∙ z))
 
-not_any : (x : ℕ) → Node x ≡ Any → ⊥
+not_any : (x : ℕ) → Some x ≡ None → ⊥
 unfolding met
-not_any x h = true≢false (sym (sym (ne_eqb x (x + 1) (λ e. omega arith)) ∙ ap (λ (w : Wanted). met w (x + 1)) h))
+not_any x h = true≢false (sym (sym (ne_eqb x (x + 1) (λ e. omega arith)) ∙ ap (λ (w : Option ℕ). met w (x + 1)) h))
 
 -- ── the front ──
-pub front-there : (l : List ℕ) (i s p : ℕ) → get_or l (3 * i) 0 ≡ s → eqb (get_or l (3 * i + 1) 0) p ≡ front s p (at l i)
-unfolding front at
-front-there l i s p e = rw (eq-eqb _ _ e)
-
-pub front-off : (l : List ℕ) (i s p : ℕ) → (get_or l (3 * i) 0 ≡ s → ⊥) → false ≡ front s p (at l i)
-unfolding front at
-front-off l i s p n = rw (ne_eqb _ _ n)
-
 front-has : (t : Triple) (s p : ℕ) → front s p t ≡ true → (t.subject ≡ s) × (t.property ≡ p)
 unfolding front
 front-has t s p h = let z = and_true (eqb t.subject s) _ h in (eqb-true _ _ z.0, eqb-true _ _ z.1)
@@ -146,7 +123,7 @@ module _ (f : ℕ → Triple) (map : List ℕ) (p : Pattern) (bindings : List �
   unfolding fit_triple
   other-property t n = rw (ne_eqb _ _ n)
 
-  other-node : (x : ℕ) → Node x ≡ wanted_of map p.subject bindings → (t : Triple) → (t.subject ≡ x → t.property ≡ p.property → ⊥) → (fit_triple map p t bindings).fits ≡ false
+  other-node : (x : ℕ) → Some x ≡ wanted_of map p.subject bindings → (t : Triple) → (t.subject ≡ x → t.property ≡ p.property → ⊥) → (fit_triple map p t bindings).fits ≡ false
   unfolding fit_triple
   other-node x h t n = go (bool_cases (eqb t.property p.property))
     where
@@ -163,21 +140,21 @@ module _ (f : ℕ → Triple) (map : List ℕ) (p : Pattern) (bindings : List �
     has = λ l. eqb-true _ _ (w.holds l);
   }
 
-  pub fit_of : (x : ℕ) → Node x ≡ wanted_of map p.subject bindings → FirstOf f x p.property a b r → FirstFit f map p bindings a b r
+  pub fit_of : (x : ℕ) → Some x ≡ wanted_of map p.subject bindings → FirstOf f x p.property a b r → FirstFit f map p bindings a b r
   fit_of x h w = record { low = w.low; high = w.high; others = λ i y z. other-node x h (f i) (w.others i y z); has = w.has }
 
   -- an end that must have a node leaves the bindings as they are
-  bindings_kept : (e : End) (x y : ℕ) → Node x ≡ wanted_of map e bindings → (fit_end map e y bindings).bindings ≡ bindings
+  bindings_kept : (e : End) (x y : ℕ) → Some x ≡ wanted_of map e bindings → (fit_end map e y bindings).bindings ≡ bindings
   unfolding fit_end wanted_of
   bindings_kept (Code c) x y h = refl
   bindings_kept (Var v) x y h = go (eqb (get_or bindings v 0) absent) h
     where
-      go : (t : Bool) → Node x ≡ cond t Any (Node (get_or bindings v 0))
+      go : (t : Bool) → Some x ≡ cond t None (Some (get_or bindings v 0))
           → (cond t (fit true (set bindings v y)) (fit (eqb (get_or bindings v 0) y) bindings)).bindings ≡ bindings
       go true h = absurd (not_any x h)
       go false h = refl
 
-  other-object : (x y : ℕ) → Node x ≡ wanted_of map p.subject bindings → Node y ≡ wanted_of map p.object bindings
+  other-object : (x y : ℕ) → Some x ≡ wanted_of map p.subject bindings → Some y ≡ wanted_of map p.object bindings
       → (t : Triple) → (triple x p.property y ≡ t → ⊥) → (fit_triple map p t bindings).fits ≡ false
   unfolding fit_triple
   other-object x y h g t n = not_true_false _ (λ z.
@@ -187,7 +164,7 @@ module _ (f : ℕ → Triple) (map : List ℕ) (p : Pattern) (bindings : List �
       ∙ and_right (fit_end map p.subject t.subject bindings).fits _ (and_right (eqb t.property p.property) _ z)) in
       n (triple-eq (sym s) (sym (eqb-true _ _ (and_left _ _ z))) (sym o)))
 
-  pub fit-both : (x y : ℕ) → Node x ≡ wanted_of map p.subject bindings → Node y ≡ wanted_of map p.object bindings
+  pub fit-both : (x y : ℕ) → Some x ≡ wanted_of map p.subject bindings → Some y ≡ wanted_of map p.object bindings
       → FirstSame f (triple x p.property y) a b r → FirstFit f map p bindings a b r
   fit-both x y h g w = record {
     low = w.low;

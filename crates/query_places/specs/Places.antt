@@ -1,6 +1,6 @@
 -- The first place of a table that may fit a pattern, and a table in rising order.
 -- Assumes nothing.
-use Rattle.std.specs.Prelude.{ℕ, ◌/◌, ◌<◌, ◌≤◌, ◌≡◌, Bool, true, false, cond, ◌&&◌, List, eqb, length, get_or}
+use Rattle.std.specs.Prelude.{ℕ, Option, Some, None, ◌/◌, ◌<◌, ◌≤◌, ◌≡◌, Bool, true, false, cond, ◌&&◌, List, eqb, length, get_or}
 use Rattle.model.specs.declared.Triple.{Triple}
 use Rattle.model.specs.Codes.{absent}
 use Rattle.model.specs.Partition.{label}
@@ -8,8 +8,6 @@ use Rattle.lists.specs.Flat.{at, RisingPart}
 use Rattle.query.specs.declared.End.{End}
 use Rattle.query.specs.declared.End.TheVariants.{Var, Code}
 use Rattle.query.specs.declared.Pattern.{Pattern}
-use Rattle.query_places.specs.declared.Wanted.{Wanted}
-use Rattle.query_places.specs.declared.Wanted.TheVariants.{Any, Node}
 use Rattle.query.specs.Ask.{fit_triple}
 
 -- the triple at place i has the property p
@@ -35,9 +33,9 @@ pub record FirstSame (f : ℕ → Triple) (t : Triple) (a b r : ℕ) : Type 0 wh
   pub has : r < b → t ≡ f r
 
 -- the node that an end must have, if there is one
-unfoldable pub wanted_of : List ℕ → End → List ℕ → Wanted
-wanted_of map (Var v) b = cond (eqb (get_or b v 0) absent) Any (Node (get_or b v 0))
-wanted_of map (Code c) b = Node (label map c)
+unfoldable pub wanted_of : List ℕ → End → List ℕ → Option ℕ
+wanted_of map (Var v) b = cond (eqb (get_or b v 0) absent) None (Some (get_or b v 0))
+wanted_of map (Code c) b = Some (label map c)
 
 -- no triple from a to before r fits the pattern, and at r stands one with its property, or r is b
 pub record FirstFit (f : ℕ → Triple) (map : List ℕ) (p : Pattern) (bindings : List ℕ) (a b r : ℕ) : Type 0 where

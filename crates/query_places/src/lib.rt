@@ -11,13 +11,6 @@ use lists::{Code, lower_bound, same, triple_at};
 use model::Triple;
 use query::{End, Pattern};
 
-// The node that an end must have, or any.
-#[derive(Clone, Copy)]
-pub enum Wanted {
-    Any,
-    Node(u32),
-}
-
 // A place of a table, and the steps that finding it counts for: a scan 4 more than the places it passes over, a bisection 8.
 #[derive(Clone, Copy)]
 pub struct Reached {
@@ -26,49 +19,39 @@ pub struct Reached {
 }
 
 // The first place from..to whose triple has property p, or `to`.
+#[tactic(auto, unfolding(crate::specs::Places::with_property, lists::specs::Flat::at))]
 fn first_with(table: &[u32], p: u32, from: usize, to: usize) -> usize
     requires { (from ≤ to) × (3 * to ≤ length table.now) }
     ensures { First (with_property (at table.now) p) from to result }
 {
-    let mut i = from;
-    while i < to {
+    for i in from..to {
         if table[3 * i + 1] == p {
             return i;
         }
-        i += 1;
     }
     to
 }
 
 // The node that an end must have, if there is one: a code stands for its map entry, and a variable may have a node already.
-fn node_wanted(map: &[u32], e: End, bindings: [u32; 8]) -> Wanted
+#[tactic(auto, unfolding(crate::specs::Places::wanted_of, query::specs::Ask::wrong_pattern_end))]
+fn node_wanted(map: &[u32], e: End, bindings: [u32; 8]) -> Option<u32>
     requires { wrong_pattern_end (length map.now) e ≡ false }
     ensures { result ≡ wanted_of map.now e bindings }
 {
     match e {
-        End::Var(v) => {
-            let node = bindings[v as usize];
-            if Code(node).is_absent() {
-                return Wanted::Any;
-            }
-            Wanted::Node(node)
-        }
-        End::Code(c) => {
-            let entry = map[c as usize];
-            Wanted::Node(entry)
-        }
+        End::Var(v) if Code(bindings[v as usize]).is_absent() => None,
+        End::Var(v) => Some(bindings[v as usize]),
+        End::Code(c) => Some(map[c as usize]),
     }
 }
 
 // Whether the triple at place i has this subject and property.
+#[tactic(auto, unfolding(crate::specs::Places::front, lists::specs::Flat::at))]
 fn has_front(table: &[u32], i: usize, subject: u32, property: u32) -> bool
     requires { 3 * i + 2 < length table.now }
     ensures { result ≡ front subject property (at table.now i) }
 {
-    if table[3 * i] == subject {
-        return table[3 * i + 1] == property;
-    }
-    false
+    table[3 * i] == subject && table[3 * i + 1] == property
 }
 
 // In rising order: the first place from..to with this subject and property, or `to`.
@@ -77,15 +60,13 @@ fn first_of(table: &[u32], subject: u32, property: u32, from: usize, to: usize) 
     ensures { FirstOf (at table.now) subject property from to result }
 {
     let key = Triple {
-        subject: subject,
-        property: property,
+        subject,
+        property,
         object: 0,
     };
     let i = lower_bound(table, from, to, key);
-    if i < to {
-        if has_front(table, i, subject, property) {
-            return i;
-        }
+    if i < to && has_front(table, i, subject, property) {
+        return i;
     }
     to
 }
@@ -95,10 +76,10 @@ fn scanned(table: &[u32], p: u32, from: usize, to: usize) -> Reached
     requires { (from ≤ to) × (3 * to ≤ length table.now) }
     ensures { First (with_property (at table.now) p) from to result.place }
 {
-    let i = first_with(table, p, from, to);
+    let place = first_with(table, p, from, to);
     Reached {
-        place: i,
-        cost: i - from + 4,
+        place,
+        cost: place - from + 4,
     }
 }
 
@@ -108,10 +89,8 @@ fn place_of(table: &[u32], t: Triple, from: usize, to: usize) -> usize
     ensures { FirstSame (at table.now) t from to result }
 {
     let i = lower_bound(table, from, to, t);
-    if i < to {
-        if same(t, triple_at(table, i)) {
-            return i;
-        }
+    if i < to && same(t, triple_at(table, i)) {
+        return i;
     }
     to
 }
@@ -130,22 +109,21 @@ fn first_in_order(
     ensures { FirstFit (at table.now) map.now p bindings from to result.place }
 {
     let property = p.property;
-    let subject = p.subject;
-    let Wanted::Node(x) = node_wanted(map, subject, bindings) else {
+    let Some(subject) = node_wanted(map, p.subject, bindings) else {
         return scanned(table, property, from, to);
     };
-    let object = p.object;
-    let Wanted::Node(y) = node_wanted(map, object, bindings) else {
-        let i = first_of(table, x, property, from, to);
-        return Reached { place: i, cost: 8 };
+    let place = match node_wanted(map, p.object, bindings) {
+        None => first_of(table, subject, property, from, to),
+        Some(object) => {
+            let t = Triple {
+                subject,
+                property,
+                object,
+            };
+            place_of(table, t, from, to)
+        }
     };
-    let t = Triple {
-        subject: x,
-        property: property,
-        object: y,
-    };
-    let i = place_of(table, t, from, to);
-    Reached { place: i, cost: 8 }
+    Reached { place, cost: 8 }
 }
 
 // The first place from..to whose triple has the pattern's property and may fit, or `to`.

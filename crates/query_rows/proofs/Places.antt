@@ -1,7 +1,7 @@
 -- The words of a row: row v of n words a row begins at word v * n.
 -- Assumes nothing.
 use Prim.Native.Nat.{ℕ, ◌+◌, ◌*◌, ◌/◌, ◌%◌, ◌<◌, ◌≤◌}
-use native.Mathlib.Nat.{mul_assoc, mul-le-mul_right, mul-le-mul_left, mod-lt}
+use native.Mathlib.Nat.{mul_assoc, mul-le-mul_right, mod-lt}
 use native.Mathlib.Omega.{arith}
 use native.Mathlib.Decide.{dec_lt}
 use mathlib.Core.Path.{◌≡◌, sym}
@@ -34,15 +34,6 @@ rows_apart u v n a o l h = go (dec_lt u v) (dec_lt v u)
     go (no z) (no w) = let p : u ≡ v = omega arith in absurd (o p)
 
 -- ── 13 rows ──
--- a row below 13 is within the list, and so are its words
+-- a row below 13 is within the list
 pub row_within : (v m : ℕ) → v < 13 → v * (m / 13) + m / 13 ≤ m
 row_within v m l = let h : v * (m / 13) + m / 13 ≤ 13 * (m / 13) = row-after v 13 (m / 13) l in omega arith
-
-pub word-within : (v m j : ℕ) → v < 13 → j < m / 13 → v * (m / 13) + j < m
-word-within v m j l h = omega (arith, row_within v m l)
-
--- where a row of any number begins is a number of the machine
-pub start_fits : (v w : ℕ) → v < 4294967296 → w ≤ 65536 → v * w ≤ 281474976645120
-start_fits v w l h =
-    let a : v * w ≤ v * 65536 = mul-le-mul_left v h in
-    omega arith

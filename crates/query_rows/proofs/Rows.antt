@@ -1,18 +1,19 @@
 -- Nodes put in a row, a row of equal words, a row copied.
 -- Assumes nothing.
 use Prim.Native.Nat.{ℕ, ◌+◌, ◌*◌, ◌/◌, ◌%◌, ◌^◌, ◌<◌, ◌≤◌}
-use native.Mathlib.Nat.{eq-or-lt_of_le}
 use native.Mathlib.Omega.{arith}
+use native.Mathlib.Decide.{dec_lt}
+use borrow.Rule.Slice.PartMut.{put_mid}
+use Rattle.std.specs.List.{CopiedTo, SameBelow, SameFrom}
+use Rattle.std.proofs.lemmas.List.{places}
 use mathlib.Core.Path.{◌≡◌, refl, sym, ap, ◌∙◌}
 use mathlib.Core.Bool.{true}
 use mathlib.Core.List.{List}
-use mathlib.Core.Logic.{⊎_elim}
 use lib.Dec.{eqb}
-use lib.ListN.{length, get_or, set, length-set}
-use lib.Seq.{get_or-set_same, get_or-set_other}
+use lib.ListN.{length, get_or, replicate, length-set}
 use borrow.Author.Tests.{lt-ltb, le-ltb}
 use Rattle.query.specs.declared.End.{End}
-use Rattle.query.specs.declared.End.TheVariants.{Var, Code}
+use Rattle.query.specs.declared.End.TheVariants.{Var}
 use Rattle.query_rows.specs.Rows.{width, bit, in_row, allows, Sized, PutIn, RowSet, RowCopied}
 use Rattle.query_rows.proofs.Bits.{with_bit, bit-there, bit_kept}
 use Rattle.query_rows.proofs.Places.{word_of, shift_of, bit_below, rows_apart, row_within}
@@ -52,10 +53,6 @@ module _ (d : List ℕ) (e : End) (x : ℕ) where
   unfolding allows
   allows-row v h n = rw (h, le-ltb _ _ n)
 
-  pub allows-code : (c : ℕ) → e ≡ Code c → true ≡ allows d e x
-  unfolding allows
-  allows-code c h = rw h
-
 -- ── a node put in a row ──
 module _ (d : List ℕ) (v x i : ℕ) (s : Sized d) (below : v < 13) (e : i ≡ v * width d + x % width d) where
   pub word-there : i / 64 < length d
@@ -82,23 +79,30 @@ pub record Written (d d' : List ℕ) (t : ℕ) (f : ℕ → ℕ) (n : ℕ) : Typ
   pub words : (j : ℕ) → j < n → get_or d' (t + j) 0 ≡ f j
   pub rest : (i : ℕ) → (t ≤ i → t + n ≤ i) → get_or d' i 0 ≡ get_or d i 0
 
-module _ (d : List ℕ) (t : ℕ) (f : ℕ → ℕ) where
-  pub none_written : Written d d t f 0
-  none_written = record { size = refl; words = λ j l. absurd (omega arith); rest = λ i h. refl }
+-- one word written n times from word t on
+pub filled : (d ys : List ℕ) (t k m n w : ℕ) → t + n ≤ length d → k ≡ n → m ≡ n → ys ≡ replicate m w → Written d (put_mid t k d ys) t (λ j. w) n
+filled d ys t k m n w l e o q = rw (e, q, o) record {
+  size = grind (arith, places);
+  words = λ j m. grind (arith, places);
+  rest = λ i g. beside i g (dec_lt i t);
+}
+  where
+    beside : (i : ℕ) → (t ≤ i → t + n ≤ i) → Dec (i < t) → get_or (put_mid t n d (replicate n w)) i 0 ≡ get_or d i 0
+    beside i g (yes z) = grind (arith, places)
+    beside i g (no z) = let o : t + n ≤ i = g (omega arith) in grind (arith, places)
 
-  pub one_written : (d' : List ℕ) (n w : ℕ) → Written d d' t f n → t + n < length d → w ≡ f n → Written d (set d' (t + n) w) t f (n + 1)
-  one_written d' n w h l e =
-      let l' : t + n < length d' = omega (arith, h.size) in
-      record {
-        size = length-set d' (t + n) w ∙ h.size;
-        words = λ j lj. ⊎_elim {C = get_or (set d' (t + n) w) (t + j) 0 ≡ f j}
-            (λ (z : j ≡ n). ap (λ (k : ℕ). get_or (set d' (t + n) w) (t + k) 0) z ∙ get_or-set_same d' (t + n) w 0 l' ∙ e ∙ ap f (sym z))
-            (λ (z : j < n). let o : t + j ≡ t + n → ⊥ = λ q. omega arith in get_or-set_other d' (t + n) (t + j) w 0 o ∙ h.words j z)
-            (eq-or-lt_of_le {n = j} {m = n} (omega arith));
-        rest = λ i g.
-            let o : i ≡ t + n → ⊥ = λ q. let k : t + (n + 1) ≤ i = g (omega arith) in omega arith in
-            get_or-set_other d' (t + n) i w 0 o ∙ h.rest i (λ k. let u : t + (n + 1) ≤ i = g k in omega arith);
-      }
+-- n words from word s on written from word t on
+pub moved : (d d' : List ℕ) (s t k n : ℕ) → k ≡ n → length d' ≡ length d → CopiedTo d d' s t k → SameBelow d d' t → SameFrom d d' (t + k)
+    → Written d d' t (λ j. get_or d (s + j) 0) n
+moved d d' s t k n e size c below from = record {
+  size = size;
+  words = λ j l. c (t + j) 0 (omega arith) (omega arith) ∙ ap (λ (i : ℕ). get_or d i 0) (omega arith);
+  rest = λ i g. beside i g (dec_lt i t);
+}
+  where
+    beside : (i : ℕ) → (t ≤ i → t + n ≤ i) → Dec (i < t) → get_or d' i 0 ≡ get_or d i 0
+    beside i g (yes z) = below i 0 z
+    beside i g (no z) = let o : t + n ≤ i = g (omega arith) in from i 0 (omega arith)
 
 -- a whole row written
 module _ (d d' : List ℕ) (v : ℕ) (f : ℕ → ℕ) (n : ℕ) (s : Sized d) (all : length d / 13 ≤ n) (most : n ≤ length d / 13)
@@ -141,9 +145,3 @@ row_copied d d' u v n s a m h = record {
   row = λ x. row_written d d' u (row_words d v) n s a m h x ∙ sym (in_words d v x);
   others = rows-kept d d' u (row_words d v) n s a m h;
 }
-
--- while row u is written, row v is as it was
-pub word_copied : (d d' : List ℕ) (u v n : ℕ) → (u ≡ v → ⊥) → n < length d / 13 → Written d d' (u * (length d / 13)) (row_words d v) n
-    → get_or d' (v * (length d / 13) + n) 0 ≡ row_words d v n
-word_copied d d' u v n o l h = h.rest _ (λ k.
-    let r : u * (length d / 13) + length d / 13 ≤ v * (length d / 13) + n = rows_apart v u _ _ (λ q. o (sym q)) l k in omega arith)

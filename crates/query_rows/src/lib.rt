@@ -12,12 +12,7 @@ fn has_bit(rows: &[u64], i: usize) -> bool
     ensures { result ≡ bit rows.now i }
 {
     let j = i / 64;
-    if rows.len() <= j {
-        return false;
-    }
-    let word = rows[j];
-    let shift = i % 64;
-    (word >> shift) % 2 == 1
+    j < rows.len() && (rows[j] >> (i % 64)) % 2 == 1
 }
 
 // The bit of node x in row v, of rows with this many bits. Most nodes are below the width and need no division.
@@ -36,23 +31,18 @@ fn in_row(rows: &[u64], v: usize, x: u32) -> bool
     requires { Sized rows.now × (v < 4294967296) }
     ensures { result ≡ in_row rows.now v x }
 {
-    let i = place(rows.len() / 13 * 64, v, x as usize);
-    has_bit(rows, i)
+    has_bit(rows, place(rows.len() / 13 * 64, v, x as usize))
 }
 
 // Whether the domains let an end have the node x.
+#[tactic(auto, unfolding(crate::specs::Rows::allows))]
 pub fn allowed(rows: &[u64], e: End, x: u32) -> bool
     requires { length rows.now ≤ 13312 }
     ensures { result ≡ allows rows.now e x }
 {
     match e {
-        End::Var(v) => {
-            if rows.len() < 13 {
-                return true;
-            }
-            in_row(rows, v as usize, x)
-        }
-        End::Code(c) => true,
+        End::Var(v) => rows.len() < 13 || in_row(rows, v as usize, x),
+        End::Code(_) => true,
     }
 }
 
@@ -62,10 +52,7 @@ pub fn put_in(rows: &mut [u64], v: usize, x: u32)
     ensures { PutIn rows.old rows.new v x }
 {
     let i = place(rows.len() / 13 * 64, v, x as usize);
-    let j = i / 64;
-    let word = rows[j];
-    let shift = i % 64;
-    rows[j] = word | (1 << shift);
+    rows[i / 64] |= 1 << (i % 64);
 }
 
 // Sets every word of row v.
@@ -75,11 +62,7 @@ pub fn set_row(rows: &mut [u64], v: usize, word: u64)
 {
     let n = rows.len() / 13;
     let start = v * n;
-    let mut j = 0;
-    while j < n {
-        rows[start + j] = word;
-        j += 1;
-    }
+    rows[start..start + n].fill(word);
 }
 
 // Copies row v to row u.
@@ -88,30 +71,8 @@ pub fn copy_row(rows: &mut [u64], u: usize, v: usize)
     ensures { RowCopied rows.old rows.new u v }
 {
     let n = rows.len() / 13;
-    let to = u * n;
     let from = v * n;
-    let mut j = 0;
-    while j < n {
-        let word = rows[from + j];
-        rows[to + j] = word;
-        j += 1;
-    }
-}
-
-// How many bits of a word are set.
-fn ones(word: u64) -> usize
-    ensures { result ≤ 64 }
-{
-    let mut rest = word;
-    let mut n = 0;
-    while n < 64 {
-        if rest == 0 {
-            return n;
-        }
-        rest = rest & (rest - 1);
-        n += 1;
-    }
-    64
+    rows.copy_within(from..from + n, u * n);
 }
 
 // How many bits of row v are set.
@@ -119,15 +80,13 @@ pub fn nodes_in(rows: &[u64], v: usize) -> usize
     requires { Sized rows.now × (v < 13) }
     ensures { result ≤ 65536 }
 {
-    let words = rows.len() / 13;
-    let start = v * words;
-    let mut n = 0;
-    let mut j = 0;
-    while j < words {
-        n += ones(rows[start + j]);
-        j += 1;
+    let n = rows.len() / 13;
+    let start = v * n;
+    let mut nodes = 0;
+    for word in &rows[start..start + n] {
+        nodes += word.count_ones() as usize;
     }
-    n
+    nodes
 }
 
 // The first node from..to in row v, or `to`.
@@ -135,12 +94,10 @@ pub fn next_in_row(rows: &[u64], v: usize, from: usize, to: usize) -> usize
     requires { Sized rows.now × (v < 13) × (from ≤ to) × (to ≤ 65536) }
     ensures { First (in_row rows.now v) from to result }
 {
-    let mut x = from;
-    while x < to {
+    for x in from..to {
         if in_row(rows, v, x as u32) {
             return x;
         }
-        x += 1;
     }
     to
 }

@@ -30,10 +30,8 @@ pub fn union(parent: &mut [u32], a: usize, b: usize)
     let y = find(parent, b);
     if x < y {
         parent[y] = narrow(x);
-    } else {
-        if y < x {
-            parent[x] = narrow(y);
-        }
+    } else if y < x {
+        parent[x] = narrow(y);
     }
 }
 
@@ -41,12 +39,10 @@ pub fn union(parent: &mut [u32], a: usize, b: usize)
 pub fn flatten(parent: &mut [u32])
     ensures { Flattened parent.old parent.new }
 {
-    let mut i = 0;
-    while i < parent.len() {
+    for i in 0..parent.len() {
         let p = wide(parent[i]);
         if p < i {
             parent[i] = parent[p];
         }
-        i += 1;
     }
 }

@@ -1,9 +1,6 @@
-use Rattle.std.proofs.Common.{◌-◌}
-use Rattle.query_fixing.proofs.Best.{CutTo}
+use Rattle.std.specs.Prelude.{IfSome}
+use Rattle.query_fixing.specs.Fixing.{FreeVariable}
 use Rattle.query_fixing.proofs.variable_to_fix.Given as goal
 
 abbrev pub invariant-loop-v : goal.invariant-loop-v
-invariant-loop-v l = CutTo l.bindings l.v l.best
-
-abbrev pub decreases-loop-v : goal.decreases-loop-v
-decreases-loop-v l = 8 - l.v
+invariant-loop-v l = IfSome l.best (λ v. FreeVariable l.bindings v)

@@ -1,10 +1,10 @@
-use Rattle.query_order.proofs.Arranged.{copied_arranged, arranged_on, arrange_step}
+use native.Mathlib.Omega.{arith}
+use Rattle.query_order.proofs.Arranged.{arranged_as_is, arrange_step}
 use Rattle.query_order.proofs.arrange.Goals as goal
 
-pub loop-j-preserved : goal.loop-j-preserved
-loop-j-preserved c = let chosen = c.next_pattern-best.ensures in
-    arrange_step _ _ _ _ _ _ c.loop-j.invariant c.loop-j-test.true chosen.0 chosen.1
-    _ c.swapped-r.ensures
+pub loop-j-init : goal.loop-j-init
+loop-j-init c = arranged_as_is _ _ (omega arith)
 
-pub returns : goal.returns
-returns c = arranged_on _ _ _ _ (copied_arranged _ _ _ c.copied-r.ensures) c.loop-j.invariant.order
+pub loop-j-preserved : goal.loop-j-preserved
+loop-j-preserved c = let a = c.loop-j.invariant in
+    arrange_step _ _ _ _ _ a c.requires (omega arith) (omega arith) (omega arith) (omega (arith, a.count)) _ c.swap.ensures.after

@@ -1,10 +1,6 @@
-use Prim.Native.Nat.{◌-◌}
 use Rattle.query.specs.Ask.{pattern_at, wrong_pattern}
 use Rattle.theory.proofs.Runs.{NoneYet}
 use Rattle.query_parts.proofs.query_wrong.Given as goal
 
 abbrev pub invariant-loop-k : goal.invariant-loop-k
 invariant-loop-k l = NoneYet (wrong_pattern l.n) (pattern_at l.q) l.q.count l.k
-
-abbrev pub decreases-loop-k : goal.decreases-loop-k
-decreases-loop-k l = l.count - l.k

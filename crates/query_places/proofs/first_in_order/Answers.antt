@@ -5,11 +5,11 @@ use Rattle.query_places.proofs.first_in_order.Goals as goal
 pub returns-in_default : goal.returns-in_default
 returns-in_default c = fit_with _ c.args.map.now c.args.p c.args.bindings _ _ _ c.scanned.ensures
 
-pub returns-in_default-node_wanted : goal.returns-in_default-node_wanted
-returns-in_default-node_wanted c = fit_of _ c.args.map.now c.args.p c.args.bindings _ _ _ _
-    (sym c.in-Node.is ∙ c.node_wanted.ensures) c.first_of-i.ensures
+pub returns-in-None : goal.returns-in-None
+returns-in-None c = fit_of _ c.args.map.now c.args.p c.args.bindings _ _ _ _
+    (sym c.in-Some.is ∙ c.node_wanted.ensures) c.first_of-place.ensures
 
-pub returns : goal.returns
-returns c = fit-both _ c.args.map.now c.args.p c.args.bindings _ _ _ _ _
-    (sym c.in-Node.is ∙ c.node_wanted.ensures)
-    (sym c.in-Node-node_wanted.is ∙ c.node_wanted-2.ensures) c.place_of-i.ensures
+pub returns-in-Some-node_wanted : goal.returns-in-Some-node_wanted
+returns-in-Some-node_wanted c = fit-both _ c.args.map.now c.args.p c.args.bindings _ _ _ _ _
+    (sym c.in-Some.is ∙ c.node_wanted.ensures)
+    (sym c.in-Some-node_wanted.is ∙ c.node_wanted-2.ensures) c.place_of-place.ensures

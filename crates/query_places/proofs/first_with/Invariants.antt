@@ -1,4 +1,3 @@
-use Prim.Native.Nat.{◌-◌}
 use Rattle.lists.specs.Flat.{at}
 use Rattle.theory.proofs.Runs.{NoneFrom}
 use Rattle.query_places.specs.Places.{with_property}
@@ -6,6 +5,3 @@ use Rattle.query_places.proofs.first_with.Given as goal
 
 abbrev pub invariant-loop-i : goal.invariant-loop-i
 invariant-loop-i l = NoneFrom (with_property (at l.table) l.p) l.from l.to l.i
-
-abbrev pub decreases-loop-i : goal.decreases-loop-i
-decreases-loop-i l = l.to - l.i

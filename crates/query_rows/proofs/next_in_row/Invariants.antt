@@ -1,10 +1,6 @@
-use Prim.Native.Nat.{◌-◌}
 use Rattle.theory.proofs.Runs.{NoneFrom}
 use Rattle.query_rows.specs.Rows.{in_row}
 use Rattle.query_rows.proofs.next_in_row.Given as goal
 
 abbrev pub invariant-loop-x : goal.invariant-loop-x
 invariant-loop-x l = NoneFrom (in_row l.rows l.v) l.from l.to l.x
-
-abbrev pub decreases-loop-x : goal.decreases-loop-x
-decreases-loop-x l = l.to - l.x

@@ -1,9 +1,0 @@
-use Prim.Native.Nat.{◌-◌, ◌≤◌}
-use Rattle.query_rows.proofs.Rows.{Written, row_words}
-use Rattle.query_rows.proofs.copy_row.Given as goal
-
-abbrev pub invariant-loop-j : goal.invariant-loop-j
-invariant-loop-j l = Written l.initial.rows l.rows l.to (row_words l.initial.rows l.v) l.j × (l.j ≤ l.n)
-
-abbrev pub decreases-loop-j : goal.decreases-loop-j
-decreases-loop-j l = l.n - l.j
