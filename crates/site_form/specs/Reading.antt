@@ -1,8 +1,9 @@
 -- The reader of the site form, and what the call `read` returns and leaves.
 -- Assumes nothing.
-use Rattle.std.specs.Prelude.{ℕ, zero, suc, ◌+◌, ◌-◌, ◌*◌, ◌≡◌, ◌↔◌, Bool, true, false, cond, ◌&&◌, List, [], ◌∷◌, ◌++◌, map, eqb, leb, ltb, length, drop, replicate}
+use Rattle.std.specs.Prelude.{ℕ, zero, suc, ◌+◌, ◌-◌, ◌*◌, ◌≡◌, ◌↔◌, Bool, true, false, cond, ◌&&◌, List, [], ◌∷◌, ◌++◌, map, eqb, leb, ltb, length, drop, replicate, Result, Ok, Err}
 use Rattle.std.proofs.Math.Option.{Option, none, some}
 use Rattle.model.specs.declared.Triple.{Triple}
+use Rattle.model.specs.declared.Refusal.{Refusal}
 use Rattle.model.specs.declared.Vocabulary.{Vocabulary}
 use Rattle.model.specs.Codes.{rdfs, vocabulary}
 use Rattle.model.specs.Triples.{triple, slots, listed}
@@ -13,9 +14,6 @@ use Rattle.query.specs.declared.Pattern.{Pattern}
 use Rattle.query.specs.declared.Query.{Query}
 use Rattle.query.specs.Ask.{blank, counted_patterns}
 use Rattle.site_form.specs.declared.Site.{Site}
-use Rattle.site_form.specs.declared.Form.{Form}
-use Rattle.site_form.specs.declared.Form.TheVariants.{Read, Refused}
-use Rattle.site_form.specs.declared.ReadAnswer.{ReadAnswer}
 use Rattle.site_form.specs.Text.{bytes, largest, most_lines, most_asks, most_patterns, SiteForm}
 
 -- what a reader answers: no form, or a form and the place after it
@@ -255,13 +253,10 @@ outcome_of (some f) list = checked (check 5 (ltb (slots list) (length f.triples)
 unfoldable pub read_outcome : List ℕ → List ℕ → Outcome Site
 read_outcome text list = outcome_of (read_forms text) list
 
-abbrev pub formed : Form → Site → Outcome Site
-formed Read site = accepted site
-formed (Refused r) site = refused (refusal_number r)
-
 -- the outcome that an answer of the call stands for
-abbrev pub answered : ReadAnswer → Outcome Site
-answered a = formed a.form a.site
+abbrev pub answered : Result Site Refusal → Outcome Site
+answered (Ok site) = accepted site
+answered (Err r) = refused (refusal_number r)
 
 abbrev pub site_in : Outcome Site → Site
 site_in (refused r) = site_of no_forms

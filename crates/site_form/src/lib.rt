@@ -1,7 +1,7 @@
-// The site form: what the reader answers. What it means is defined in specs/.
+// The site form: what the reader gives of a text. What it means is defined in specs/.
 #![tactic(auto)]
 
-use model::{Refusal, Vocabulary};
+use model::Vocabulary;
 use query::Query;
 
 // The most triples of a text, and the most queries.
@@ -25,18 +25,4 @@ pub struct Site {
     pub count: usize,
     pub asks: usize,
     pub queries: [Query; MOST_ASKS],
-}
-
-// Whether the text was read.
-#[derive(Clone, Copy)]
-pub enum Form {
-    Read,
-    Refused(Refusal),
-}
-
-// The reader's answer. An enum can hold no array, so the site stands beside it.
-#[derive(Clone, Copy)]
-pub struct ReadAnswer {
-    pub form: Form,
-    pub site: Site,
 }

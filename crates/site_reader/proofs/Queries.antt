@@ -13,10 +13,9 @@ use Rattle.query.specs.Ask.{blank}
 use Rattle.site_form.specs.Text.{bytes, most_patterns}
 use Rattle.site_form.specs.Reading.{Step, bad, got, ◌>>=◌, give, many, word, line_end, next_reader, ask_reader, query_of, queries_of}
 use Rattle.site_form.proofs.Readers.{fails}
-use Rattle.site_reader.specs.declared.PatternsRead.{PatternsRead}
-use Rattle.site_reader.specs.declared.AskRead.{AskRead}
+use Rattle.site_tokens.specs.declared.Read.{Read}
 use Rattle.site_tokens.specs.Steps.{mapped, items, after}
-use Rattle.site_reader.specs.Queries.{with_pattern, more_patterns, PatternsFrom, ask_step, ask_lines, AsksFrom}
+use Rattle.site_reader.specs.Queries.{with_pattern, more_patterns, PatternsFrom, ask_lines, AsksFrom}
 use Rattle.site_tokens.proofs.Steps.{then_got}
 use Rattle.site_reader.proofs.Many.{many-got, items-none, after_none, items_stop, after_stop, items-on, after_on, items-few, mapped-bad, mapped-got, sets_front}
 
@@ -95,13 +94,13 @@ module _ (text : List ℕ) (at : ℕ) (q₀ : Query) where
           ∙ ap (λ (x : Query). with_all x (items (more_patterns text at))) begun
           ∙ query_of_lem (first ∷ items (more_patterns text at)) few
 
-      pub patterns_stop : next_reader text i ≡ bad → PatternsFrom text at first (record { query = query; next = i })
+      pub patterns_stop : next_reader text i ≡ bad → PatternsFrom text at first (record { value = query; next = i })
       patterns_stop e = record {
         query = whole (items_stop next_reader text i e (8 - query.count));
         next = sym (after_stop next_reader text i e (8 - query.count)) ∙ h.ends;
       }
 
-      pub patterns_full : 8 ≤ query.count → PatternsFrom text at first (record { query = query; next = i })
+      pub patterns_full : 8 ≤ query.count → PatternsFrom text at first (record { value = query; next = i })
       patterns_full e =
           let z : 8 - query.count ≡ 0 = omega arith in
           record {
@@ -120,7 +119,7 @@ module _ (text : List ℕ) (at : ℕ) where
     unfolding ask_reader
     ask-bad-first f = ap (mapped query_of) (then_got _ _ text at u i e ∙ fails _ _ text i f)
 
-    module _ (p : Pattern) (j : ℕ) (f : next_reader text i ≡ got p j) (r : PatternsRead) (h : PatternsFrom text j p r) where
+    module _ (p : Pattern) (j : ℕ) (f : next_reader text i ≡ got p j) (r : Read Query) (h : PatternsFrom text j p r) where
       behind : ask_reader text at ≡ (line_end >>= λ v. give (p ∷ items (more_patterns text j))) text (after (more_patterns text j))
       unfolding ask_reader
       behind = then_got _ _ text at u i e ∙ then_got _ _ text i p j f ∙ then_got _ _ text j _ _ (many-got next_reader text 7 j)
@@ -130,7 +129,7 @@ module _ (text : List ℕ) (at : ℕ) where
       closed bad g = ap (mapped query_of) (behind ∙ fails _ _ text _ g)
       closed (got v k) g = ap (mapped query_of) (behind ∙ then_got _ _ text _ v k g)
 
-      pub ask-is : (s : Step (Unit {0})) → s ≡ line_end text r.next → mapped (λ v. r.query) s ≡ mapped query_of (ask_reader text at)
+      pub ask-is : (s : Step (Unit {0})) → s ≡ line_end text r.next → mapped (λ v. r.value) s ≡ mapped query_of (ask_reader text at)
       ask-is s g = sym (closed s (ap (line_end text) (sym h.next) ∙ sym g) ∙ ap (λ (q : Query). mapped (λ v. q) s) (sym h.query))
 
 -- ── the lines ──
@@ -151,7 +150,7 @@ module _ (text : List ℕ) (at : ℕ) where
   }
 
   module _ (queries : List Query) (count i : ℕ) (h : Asking text at queries count i) where
-    done : items (many (16 - count) ask_reader text i) ≡ [] → after (many (16 - count) ask_reader text i) ≡ i → AsksFrom text at (record { count = count; next = i; queries = queries })
+    done : items (many (16 - count) ask_reader text i) ≡ [] → after (many (16 - count) ask_reader text i) ≡ i → AsksFrom text at (record { value = record { count = count; queries = queries }; next = i })
     unfolding queries_of
     done e f =
         let qs = items (ask_lines text at) in
@@ -167,22 +166,24 @@ module _ (text : List ℕ) (at : ℕ) where
               ∙ ap (λ (n : ℕ). map query_of qs ++ replicate (16 - n) (query_of [])) l;
         }
 
-    pub asks-full : 16 ≤ count → AsksFrom text at (record { count = count; next = i; queries = queries })
+    pub asks-full : 16 ≤ count → AsksFrom text at (record { value = record { count = 16; queries = queries }; next = i })
     asks-full e =
         let z : 16 - count ≡ 0 = omega arith in
-        done
+        let k : count ≡ 16 = omega (arith, h.few) in
+        subst (λ (n : ℕ). AsksFrom text at (record { value = record { count = n; queries = queries }; next = i })) k
+        (done
         (ap (λ (k : ℕ). items (many k ask_reader text i)) z ∙ items-none ask_reader text i)
-        (ap (λ (k : ℕ). after (many k ask_reader text i)) z ∙ after_none ask_reader text i)
+        (ap (λ (k : ℕ). after (many k ask_reader text i)) z ∙ after_none ask_reader text i))
 
-    pub asks_stop : (a : AskRead) → ask_step a ≡ mapped query_of (ask_reader text i) → bad ≡ ask_step a → AsksFrom text at (record { count = count; next = i; queries = queries })
-    asks_stop a e f =
-        let b = mapped-bad query_of (ask_reader text i) (f ∙ e) in
+    pub asks_stop : bad ≡ mapped query_of (ask_reader text i) → AsksFrom text at (record { value = record { count = count; queries = queries }; next = i })
+    asks_stop e =
+        let b = mapped-bad query_of (ask_reader text i) e in
         done (items_stop ask_reader text i b (16 - count)) (after_stop ask_reader text i b (16 - count))
 
-    pub asks-step : count < 16 → (a : AskRead) → ask_step a ≡ mapped query_of (ask_reader text i) → (next : ℕ) → got a.query next ≡ ask_step a
-        → Asking text at (set queries count a.query) (count + 1) next
-    asks-step l a e next f =
-        let g = mapped-got query_of (ask_reader text i) a.query next (f ∙ e) in
+    pub asks-step : count < 16 → (q : Query) (next : ℕ) → got q next ≡ mapped query_of (ask_reader text i)
+        → Asking text at (set queries count q) (count + 1) next
+    asks-step l q next e =
+        let g = mapped-got query_of (ask_reader text i) q next e in
         let z : 16 - count ≡ suc (16 - (count + 1)) = omega arith in
         let k = 16 - (count + 1) in
         let j = 16 - count in

@@ -80,7 +80,7 @@ module _ (text : List ℕ) (at : ℕ) (l₀ : List ℕ) where
   lines_start = record { few = omega arith; counts = omega arith; gives = refl; ends = refl; size = refl }
 
   module _ (l : List ℕ) (count i : ℕ) (h : Storing text at l₀ l count i) where
-    done : items (many (most_lines - count) triple_reader text i) ≡ [] → after (many (most_lines - count) triple_reader text i) ≡ i → LinesFrom text at l₀ (record { count = count; next = i }) l
+    done : items (many (most_lines - count) triple_reader text i) ≡ [] → after (many (most_lines - count) triple_reader text i) ≡ i → LinesFrom text at l₀ (record { value = count; next = i }) l
     unfolding stored_all
     done e f =
         let z : length (items (many (most_lines - count) triple_reader text i)) ≡ 0 = ap length e in
@@ -90,14 +90,16 @@ module _ (text : List ℕ) (at : ℕ) (l₀ : List ℕ) where
           list = ap (stored_all l count) (sym e) ∙ h.gives;
         }
 
-    pub lines-full : most_lines ≤ count → LinesFrom text at l₀ (record { count = count; next = i }) l
+    pub lines-full : most_lines ≤ count → LinesFrom text at l₀ (record { value = most_lines; next = i }) l
     lines-full e =
         let z : most_lines - count ≡ 0 = omega arith in
-        done
+        let k : count ≡ most_lines = omega (arith, h.few) in
+        subst (λ (n : ℕ). LinesFrom text at l₀ (record { value = n; next = i }) l) k
+        (done
         (ap (λ (k : ℕ). items (many k triple_reader text i)) z ∙ items-none triple_reader text i)
-        (ap (λ (k : ℕ). after (many k triple_reader text i)) z ∙ after_none triple_reader text i)
+        (ap (λ (k : ℕ). after (many k triple_reader text i)) z ∙ after_none triple_reader text i))
 
-    pub lines_stop : triple_reader text i ≡ bad → LinesFrom text at l₀ (record { count = count; next = i }) l
+    pub lines_stop : triple_reader text i ≡ bad → LinesFrom text at l₀ (record { value = count; next = i }) l
     lines_stop e = done (items_stop triple_reader text i e (most_lines - count)) (after_stop triple_reader text i e (most_lines - count))
 
     pub lines_step : count < most_lines → (t : Triple) (next : ℕ) → triple_reader text i ≡ got t next → (m : List ℕ) → m ≡ stored l count t → Storing text at l₀ m (count + 1) next

@@ -1,8 +1,10 @@
 -- The call `read`, answer by answer.
 -- Assumes nothing.
 use Prim.Native.Nat.{ℕ, ◌*◌, ◌/◌, ◌<◌, ◌≤◌}
-use mathlib.Core.Path.{◌≡◌, refl, sym, ◌∙◌, ap}
-use mathlib.Core.List.{List, []}
+use mathlib.Core.Path.{◌≡◌, refl, sym, ◌∙◌, ap, subst}
+use mathlib.Core.List.{List}
+use mathlib.Core.Bool.{Bool, true, false, cond}
+use lib.Dec.{ltb}
 use mathlib.Core.Option.{Option, none, some}
 use native.Mathlib.Omega.{arith}
 use lib.ListN.{length, replicate}
@@ -13,24 +15,23 @@ use Rattle.model.specs.declared.Vocabulary.{Vocabulary}
 use Rattle.model.specs.Codes.{rdfs}
 use Rattle.model.specs.Lists.{any, zeros}
 use Rattle.model.specs.Triples.{slots, listed}
-use Rattle.model.specs.Outcomes.{refusal_number, decided, left, zeroed}
+use Rattle.model.specs.Outcomes.{refused, accepted, refusal_number, decided, left, zeroed}
 use Rattle.query.specs.declared.Query.{Query}
 use Rattle.lists.specs.Flat.{Cleared}
-use Rattle.lists.proofs.Search.{cleared-all}
 use Rattle.site_form.specs.declared.Site.{Site}
-use Rattle.site_form.specs.declared.ReadAnswer.{ReadAnswer}
-use Rattle.site_form.specs.declared.Form.TheVariants.{Read, Refused}
+use Rattle.std.specs.Prelude.{Result, Ok, Err, Option as Answer, Some, None, []}
+use Rattle.std.specs.Option.{unwrap_or, ok_or}
+use Rattle.std.specs.Result.{is_err}
 use Rattle.site_form.specs.Text.{most_lines, most_asks}
 use Rattle.site_form.specs.Reading.{Step, bad, got, Reader, ◌>>=◌, give, optional, many, text_end, site_reader, words_reader, triple_reader, ask_reader}
-use Rattle.site_form.specs.Reading.{Forms, forms, forms_reader, value, read_forms, query_of, queries_of, site_of, outcome_of, read_outcome, answered}
-use Rattle.site_form.specs.Reading.{read_site, read_list}
+use Rattle.site_form.specs.Reading.{Forms, forms, forms_reader, value, read_forms, query_of, queries_of, site_of, outcome_of, read_outcome}
+use Rattle.site_form.specs.Reading.{no_forms, site_in, read_site, read_list}
 use Rattle.site_form.proofs.Readers.{fails}
-use Rattle.site_reader.specs.declared.LinesRead.{LinesRead}
-use Rattle.site_reader.specs.declared.WordsRead.{WordsRead}
-use Rattle.site_reader.specs.declared.AsksRead.{AsksRead}
-use Rattle.site_tokens.specs.Steps.{items, standing, behind}
+use Rattle.site_reader.specs.declared.Asks.{Asks}
+use Rattle.site_tokens.specs.declared.Read.{Read}
+use Rattle.site_tokens.specs.Steps.{step, items, standing, behind}
 use Rattle.site_reader.specs.Queries.{ask_lines, AsksFrom}
-use Rattle.site_reader.specs.Calls.{some_words, WordsFrom, triple_lines, LinesFrom, RefusedRead, ReadCall}
+use Rattle.site_reader.specs.Calls.{some_words, WordsFrom, triple_lines, LinesFrom, FormsRead, ReadCall}
 use Rattle.site_tokens.proofs.Steps.{then_got}
 use Rattle.site_reader.proofs.Many.{many-got, items-few}
 use Rattle.site_reader.proofs.Triples.{all-length, all_listed}
@@ -46,24 +47,31 @@ optional-got {A} r text at = go (r text at) refl
     go (got x i) e = rw e
 
 module _ (text : List ℕ) (at : ℕ) where
-  pub words-none : words_reader text at ≡ bad → (v : Vocabulary) → v ≡ rdfs → WordsFrom text at (record { words = v; next = at })
+  pub words-none : words_reader text at ≡ bad → (v : Vocabulary) → v ≡ rdfs → WordsFrom text at (record { value = v; next = at })
   unfolding optional
   words-none e v h = record { words = h ∙ rw e; next = rw e }
 
-  pub words_stand : (v : Vocabulary) (i : ℕ) → words_reader text at ≡ got v i → WordsFrom text at (record { words = v; next = i })
+  pub words_stand : (v : Vocabulary) (i : ℕ) → words_reader text at ≡ got v i → WordsFrom text at (record { value = v; next = i })
   unfolding optional
   words_stand v i e = record { words = rw e; next = rw e }
 
-pub refused-is : (l m : List ℕ) (x : Refusal) (q : Query) (v : Vocabulary) → v ≡ rdfs → q ≡ query_of [] → Cleared l m 0 (length l)
-    → RefusedRead l x (record { form = Refused x; site = record { size = 0; words = v; count = 0; asks = 0; queries = replicate 16 q } }) m
-unfolding site_of queries_of
-refused-is l m x q v ev e c = record {
-  answer = λ i. record { form = Refused x; site = record { size = 0; words = ev i; count = 0; asks = 0; queries = replicate 16 (e i) } };
-  list = cleared-all l m (length l) c (omega arith);
-}
+-- the line of words, or 0 to 4 where none stands
+module _ (text : List ℕ) (at : ℕ) (d : Read Vocabulary) (ev : d.value ≡ rdfs) (en : d.next ≡ at) where
+  pub words_or : (o : Answer (Read Vocabulary)) → step o ≡ words_reader text at → WordsFrom text at (unwrap_or o d)
+  words_or (Some r) e = words_stand text at r.value r.next (sym e)
+  words_or None e = subst (λ (i : ℕ). WordsFrom text at (record { value = d.value; next = i })) (sym en) (words-none text at (sym e) d.value ev)
 
-pub lines_fit : (text : List ℕ) (from : ℕ) (l : List ℕ) (r : LinesRead) (l' : List ℕ) → LinesFrom text from l r l' → 3 * r.count < 18446744073709551616
+-- nothing was read
+pub nothing : (q : Query) (v : Vocabulary) → v ≡ rdfs → q ≡ query_of [] → record { size = 0; words = v; count = 0; asks = 0; queries = replicate 16 q } ≡ site_of no_forms
+unfolding site_of queries_of
+nothing q v ev e = λ i. record { size = 0; words = ev i; count = 0; asks = 0; queries = replicate 16 (e i) }
+
+pub lines_fit : (text : List ℕ) (from : ℕ) (l : List ℕ) (r : Read ℕ) (l' : List ℕ) → LinesFrom text from l r l' → 3 * r.value < 18446744073709551616
 lines_fit text from l r l' h = omega (arith, h.count, items-few triple_reader text most_lines from)
+
+-- which refusal a missing form makes
+pub refused_as : {T : Type 0} {r : Refusal} (o : Answer T) → o ≡ None → (x : Refusal) → ◌≡◌ {A = Result T Refusal} (Err x) (ok_or o r) → x ≡ r
+refused_as {T} {r} o d x e = let f : ◌≡◌ {A = Result T Refusal} (Err x) (Err r) = e ∙ ap (λ (a : Answer T). ok_or a r) d in cc
 
 -- ── what the text says ──
 module _ (text : List ℕ) where
@@ -71,8 +79,8 @@ module _ (text : List ℕ) where
   unfolding read_forms forms_reader
   no_site e = ap value (fails _ _ text 0 e)
 
-  module _ (n i : ℕ) (e : site_reader text 0 ≡ got n i) (r : WordsRead) (hw : WordsFrom text i r) (l l' : List ℕ) (lines : LinesRead)
-      (hl : LinesFrom text r.next l lines l') (asks : AsksRead) (ha : AsksFrom text lines.next asks) where
+  module _ (n i : ℕ) (e : site_reader text 0 ≡ got n i) (r : Read Vocabulary) (hw : WordsFrom text i r) (l l' : List ℕ) (lines : Read ℕ)
+      (hl : LinesFrom text r.next l lines l') (asks : Read Asks) (ha : AsksFrom text lines.next asks) where
     abbrev said : Forms
     said = forms n (standing (some_words text i)) (items (triple_lines text r.next)) (items (ask_lines text lines.next))
 
@@ -99,56 +107,75 @@ module _ (text : List ℕ) where
 
 -- ── the answers ──
 module _ (text l : List ℕ) where
-  pub by_form : read_forms text ≡ none → (l' : List ℕ) → length l' ≡ length l → (r : ReadAnswer) (m : List ℕ) → RefusedRead l' form-refusal r m → ReadCall text l r m
-  unfolding read_outcome read_site read_list left zeroed any refusal_number
-  by_form e l' k r m h = record {
-    outcome = ap answered h.answer ∙ sym (ap (λ (o : Option Forms). outcome_of o l) e);
-    site = ap (λ (x : ReadAnswer). x.site) h.answer ∙ rw e;
-    list = h.list ∙ ap zeros k ∙ rw e;
-  }
+  by_form : read_forms text ≡ none → (l' : List ℕ) → length l' ≡ length l → FormsRead text l (Err form-refusal) l'
+  unfolding read_outcome refusal_number
+  by_form e l' k = record { outcome = sym (ap (λ (o : Option Forms). outcome_of o l) e); list = tt; size = k }
 
   module _ (f : Forms) (e : read_forms text ≡ some f) where
-    pub by_slots : slots l < length f.triples → (l' : List ℕ) → length l' ≡ length l → (r : ReadAnswer) (m : List ℕ) → RefusedRead l' slots-refusal r m → ReadCall text l r m
-    unfolding read_outcome read_site read_list left zeroed any refusal_number decided
-    by_slots s l' k r m h = record {
-      outcome = ap answered h.answer ∙ rw (e, lt-ltb _ _ s);
-      site = ap (λ (x : ReadAnswer). x.site) h.answer ∙ rw (e, lt-ltb _ _ s);
-      list = h.list ∙ ap zeros k ∙ rw (e, lt-ltb _ _ s);
-    }
+    by_slots : slots l < length f.triples → (l' : List ℕ) → length l' ≡ length l → FormsRead text l (Err slots-refusal) l'
+    unfolding read_outcome refusal_number decided
+    by_slots s l' k = record { outcome = rw (e, lt-ltb _ _ s); list = tt; size = k }
 
-    pub by_read : length f.triples ≤ slots l → (s : Site) → s ≡ site_of f → (m : List ℕ) → m ≡ listed (length l) f.triples → ReadCall text l (record { form = Read; site = s }) m
-    unfolding read_outcome read_site read_list left decided
-    by_read h s es m em = record {
+    by_read : length f.triples ≤ slots l → (s : Site) → s ≡ site_of f → (m : List ℕ) → m ≡ listed (length l) f.triples → length m ≡ length l → FormsRead text l (Ok s) m
+    unfolding read_outcome read_list left decided
+    by_read h s es m em k = record {
       outcome = rw (e, le-ltb _ _ h, es);
-      site = rw (e, le-ltb _ _ h) es;
       list = rw (e, le-ltb _ _ h) em;
+      size = k;
     }
 
--- ── the call ──
+-- ── the forms ──
 module _ (text l : List ℕ) where
-  pub read-no-site : site_reader text 0 ≡ bad → (r : ReadAnswer) (m : List ℕ) → RefusedRead l form-refusal r m → ReadCall text l r m
-  read-no-site e r m h = by_form text l (no_site text e) l refl r m h
+  pub read-no-site : site_reader text 0 ≡ bad → FormsRead text l (Err form-refusal) l
+  read-no-site e = by_form text l (no_site text e) l refl
 
-  module _ (n i : ℕ) (e : site_reader text 0 ≡ got n i) (w : WordsRead) (hw : WordsFrom text i w) (l' : List ℕ) (lines : LinesRead)
-      (hl : LinesFrom text w.next l lines l') (asks : AsksRead) (ha : AsksFrom text lines.next asks) where
+  module _ (n i : ℕ) (e : site_reader text 0 ≡ got n i) (w : Read Vocabulary) (hw : WordsFrom text i w) (l' : List ℕ) (lines : Read ℕ)
+      (hl : LinesFrom text w.next l lines l') (asks : Read Asks) (ha : AsksFrom text lines.next asks) where
     same_size : length l' ≡ length l
     same_size = ap length hl.list ∙ all-length l 0 (items (triple_lines text w.next))
 
-    pub read_not_ended : text_end text asks.next ≡ bad → (r : ReadAnswer) (m : List ℕ) → RefusedRead l' form-refusal r m → ReadCall text l r m
-    read_not_ended h r m k = by_form text l (not_ended text n i e w hw l l' lines hl asks ha h) l' same_size r m k
+    pub read_not_ended : text_end text asks.next ≡ bad → FormsRead text l (Err form-refusal) l'
+    read_not_ended h = by_form text l (not_ended text n i e w hw l l' lines hl asks ha h) l' same_size
 
     module _ (u : Unit {0}) (j : ℕ) (h : text_end text asks.next ≡ got u j) where
-      pub read-no-slots : length l' / 3 < lines.count → (r : ReadAnswer) (m : List ℕ) → RefusedRead l' slots-refusal r m → ReadCall text l r m
+      pub read-no-slots : length l' / 3 < lines.value → FormsRead text l (Err slots-refusal) l'
       unfolding slots
-      read-no-slots s r m k =
+      read-no-slots s =
           let z = same_size in
-          by_slots text l _ (ended text n i e w hw l l' lines hl asks ha u j h) (omega (arith, hl.count)) l' same_size r m k
+          by_slots text l _ (ended text n i e w hw l l' lines hl asks ha u j h) (omega (arith, hl.count)) l' same_size
 
-      pub read_all : lines.count ≤ length l' / 3 → (m : List ℕ) → Cleared l' m (3 * lines.count) (length l')
-          → ReadCall text l (record { form = Read; site = record { size = n; words = w.words; count = lines.count; asks = asks.count; queries = asks.queries } }) m
+      pub read_all : lines.value ≤ length l' / 3 → (m : List ℕ) → Cleared l' m (3 * lines.value) (length l')
+          → FormsRead text l (Ok (record { size = n; words = w.value; count = lines.value; asks = asks.value.count; queries = asks.value.queries })) m
       unfolding slots site_of
       read_all s m c =
           let z = same_size in
           by_read text l _ (ended text n i e w hw l l' lines hl asks ha u j h) (omega (arith, hl.count)) _
           (λ k. record { size = n; words = hw.words k; count = hl.count k; asks = ha.count k; queries = ha.queries k }) m
-          (all_listed l l' m (items (triple_lines text w.next)) lines.count hl.count (omega arith) hl.list c)
+          (all_listed l l' m (items (triple_lines text w.next)) lines.value hl.count (omega arith) hl.list c)
+          (c.size ∙ same_size)
+
+-- ── the call ──
+module _ (text l : List ℕ) where
+  pub read_passed : (r : Result Site Refusal) → is_err r ≡ false → (l' : List ℕ) → FormsRead text l r l' → ReadCall text l r l'
+  unfolding read_site
+  read_passed (Err r) e l' h = absurd (let z : ◌≡◌ {A = ℕ} 0 1 = cc in omega arith)
+  read_passed (Ok s) e l' h = record { outcome = h.outcome; site = ap site_in h.outcome; list = h.list }
+
+  -- the two refusals, 8 and 5, leave zeros
+  emptied : (o : Option Forms) (r : ℕ) (m : List ℕ) → outcome_of o l ≡ refused r → left (outcome_of o l) l m ≡ zeros (length l)
+  unfolding left zeroed any decided
+  emptied none r m e = refl
+  emptied (some f) r m e = go (ltb (slots l) (length f.triples)) e
+    where
+      go : (b : Bool) → cond b (refused 5) (accepted (site_of f)) ≡ refused r → left (cond b (refused 5) (accepted (site_of f))) l m ≡ zeros (length l)
+      go true e = refl
+      go false e = let z : ◌≡◌ {A = ℕ} 0 1 = cc in absurd (omega arith)
+
+  pub read_refused : (r : Result Site Refusal) → is_err r ≡ true → (l' : List ℕ) → FormsRead text l r l' → (m : List ℕ) → m ≡ replicate (length l') 0 → ReadCall text l r m
+  unfolding read_site read_outcome read_list zeros
+  read_refused (Ok s) t l' h m e = absurd (let z : ◌≡◌ {A = ℕ} 0 1 = cc in omega arith)
+  read_refused (Err r) t l' h m e = record {
+    outcome = h.outcome;
+    site = ap site_in h.outcome;
+    list = e ∙ ap zeros h.size ∙ sym (emptied (read_forms text) (refusal_number r) _ (sym h.outcome));
+  }

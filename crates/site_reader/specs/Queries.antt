@@ -5,10 +5,9 @@ use Rattle.query.specs.declared.Pattern.{Pattern}
 use Rattle.query.specs.declared.Query.{Query}
 use Rattle.site_form.specs.Text.{most_asks}
 use Rattle.site_form.specs.Reading.{Step, many, next_reader, ask_reader, query_of, queries_of}
-use Rattle.site_reader.specs.declared.PatternsRead.{PatternsRead}
-use Rattle.site_reader.specs.declared.AskRead.{AskRead}
-use Rattle.site_reader.specs.declared.AsksRead.{AsksRead}
-use Rattle.site_tokens.specs.Steps.{word_step, mapped, items, after}
+use Rattle.site_reader.specs.declared.Asks.{Asks}
+use Rattle.site_tokens.specs.declared.Read.{Read}
+use Rattle.site_tokens.specs.Steps.{items, after}
 
 -- the query with one pattern more
 abbrev pub with_pattern : Query → Pattern → Query
@@ -18,18 +17,14 @@ with_pattern q p = record { patterns = set q.patterns q.count p; count = q.count
 abbrev pub more_patterns : List ℕ → ℕ → Step (List Pattern)
 more_patterns text at = many 7 next_reader text at
 
-pub record PatternsFrom (text : List ℕ) (at : ℕ) (first : Pattern) (r : PatternsRead) : Type 0 where
-  pub query : r.query ≡ query_of (first ∷ items (more_patterns text at))
+pub record PatternsFrom (text : List ℕ) (at : ℕ) (first : Pattern) (r : Read Query) : Type 0 where
+  pub query : r.value ≡ query_of (first ∷ items (more_patterns text at))
   pub next : r.next ≡ after (more_patterns text at)
-
--- the step that the answer to a line stands for
-abbrev pub ask_step : AskRead → Step Query
-ask_step a = mapped (λ u. a.query) (word_step a.form)
 
 abbrev pub ask_lines : List ℕ → ℕ → Step (List (List Pattern))
 ask_lines text at = many most_asks ask_reader text at
 
-pub record AsksFrom (text : List ℕ) (at : ℕ) (r : AsksRead) : Type 0 where
-  pub count : r.count ≡ length (items (ask_lines text at))
+pub record AsksFrom (text : List ℕ) (at : ℕ) (r : Read Asks) : Type 0 where
+  pub count : r.value.count ≡ length (items (ask_lines text at))
   pub next : r.next ≡ after (ask_lines text at)
-  pub queries : r.queries ≡ queries_of (items (ask_lines text at))
+  pub queries : r.value.queries ≡ queries_of (items (ask_lines text at))

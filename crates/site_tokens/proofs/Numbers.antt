@@ -2,14 +2,28 @@
 -- Assumes nothing.
 use Prim.Native.Nat.{ℕ, ◌+◌, ◌-◌, ◌*◌, ◌<◌, ◌≤◌}
 use mathlib.Core.Path.{◌≡◌, sym, ◌∙◌, ap}
-use mathlib.Core.Bool.{true, false}
+use mathlib.Core.Bool.{Bool, true, false}
 use mathlib.Core.List.{List, ◌∷◌}
 use native.Mathlib.Numerals.{add-one}
+use native.Mathlib.Omega.{arith}
 use lib.ListN.{length, drop, get_or, drop_of_length-le}
 use lib.Seq.{drop-cons}
+use Rattle.std.proofs.lemmas.Bool.Decides.{nat_tests}
+use Rattle.std.specs.Char.{is_ascii_digit}
 use Rattle.site_form.specs.Text.{largest}
 use Rattle.site_form.specs.Reading.{bad, got, digit, digit_first, more_of, number_of, number}
 use Rattle.site_form.proofs.Decimal.{more_stop, more-over, more-on, number_not, number_more, number-end, zero-leads, zero-alone}
+
+digit-is : (b : ℕ) → is_ascii_digit b ≡ digit b
+unfolding digit
+digit-is b = grind (arith, nat_tests)
+
+-- what the library's test of a byte says
+pub tested : (b : ℕ) {r t : Bool} → r ≡ is_ascii_digit b → r ≡ t → digit b ≡ t
+tested b e f = sym (digit-is b) ∙ sym e ∙ f
+
+pub tested_at : (text : List ℕ) (i : ℕ) {b : ℕ} → b ≡ get_or text i 0 → {r t : Bool} → r ≡ is_ascii_digit b → r ≡ t → digit (get_or text i 0) ≡ t
+tested_at text i {b} is e f = sym (ap digit is) ∙ tested b e f
 
 module _ (text : List ℕ) (at : ℕ) (h : at < length text) where
   -- what follows the byte at a place
@@ -31,11 +45,11 @@ module _ (v : ℕ) (text : List ℕ) (i : ℕ) where
     pub digits-over : digit (get_or text i 0) ≡ true → largest < longer → more_of v i (drop i text) ≡ bad
     digits-over e o = ap (more_of v i) (drop_at text i h) ∙ more-over v i (get_or text i 0) (drop (i + 1) text) e o
 
-    pub digits-on : digit (get_or text i 0) ≡ true → longer ≤ largest → more_of v i (drop i text) ≡ more_of longer (i + 1) (drop (i + 1) text)
-    digits-on e o =
+    pub digits-on : digit (get_or text i 0) ≡ true → longer ≤ largest → (w : ℕ) → w ≡ longer → more_of v i (drop i text) ≡ more_of w (i + 1) (drop (i + 1) text)
+    digits-on e o w is =
         ap (more_of v i) (drop_at text i h)
         ∙ more-on v i (get_or text i 0) (drop (i + 1) text) e o
-        ∙ ap (λ (k : ℕ). more_of longer k (drop (i + 1) text)) (sym (add-one i))
+        ∙ (λ k. more_of (sym is k) (sym (add-one i) k) (drop (i + 1) text))
 
 digit-first : (text : List ℕ) (i : ℕ) → i < length text → digit_first (drop i text) ≡ digit (get_or text i 0)
 unfolding digit_first
@@ -58,11 +72,11 @@ module _ (text : List ℕ) (at : ℕ) where
     pub number-no-digit : digit (get_or text at 0) ≡ false → number text at ≡ bad
     number-no-digit e = opened ∙ number_not at (get_or text at 0) (drop (at + 1) text) e
 
-    pub number_digits : digit (get_or text at 0) ≡ true → (get_or text at 0 ≡ 48 → ⊥) → number text at ≡ more_of (get_or text at 0 - 48) (at + 1) (drop (at + 1) text)
-    number_digits e n =
+    pub number_digits : digit (get_or text at 0) ≡ true → (get_or text at 0 ≡ 48 → ⊥) → (v : ℕ) → v ≡ get_or text at 0 - 48 → number text at ≡ more_of v (at + 1) (drop (at + 1) text)
+    number_digits e n v is =
         opened
         ∙ number_more at (get_or text at 0) (drop (at + 1) text) e n
-        ∙ ap (λ (k : ℕ). more_of (get_or text at 0 - 48) k (drop (at + 1) text)) (sym (add-one at))
+        ∙ (λ k. more_of (sym is k) (sym (add-one at) k) (drop (at + 1) text))
 
     module _ (z : get_or text at 0 ≡ 48) where
       opened-zero : number text at ≡ number_of at (48 ∷ drop (at + 1) text)

@@ -1,52 +1,45 @@
 -- The reader of given bytes, at a place of the text.
 -- Assumes nothing.
-use Prim.Native.Nat.{ℕ, ◌+◌, ◌<◌, ◌≤◌}
-use mathlib.Core.Path.{◌≡◌, refl, ◌∙◌, ap}
-use mathlib.Core.Bool.{true, false}
-use mathlib.Core.List.{List}
-use native.Mathlib.Numerals.{add-one}
+use Prim.Native.Nat.{ℕ, ◌+◌, ◌-◌, min}
+use mathlib.Core.Path.{◌≡◌, refl, sym, ◌∙◌, ap}
+use mathlib.Core.Bool.{Bool, true, false, ◌&&◌}
+use mathlib.Core.List.{List, [], ◌∷◌}
 use native.Mathlib.Omega.{arith}
-use lib.ListN.{length, drop, get_or, drop_of_length-le}
-use lib.Seq.{drop-cons}
-use borrow.Author.Tests.{eq-eqb, ne_eqb}
+use lib.Dec.{eqb, leb}
+use lib.ListN.{length, take, drop, drop_of_length-le, length-drop}
+use lib.Seq.{take-length}
+use borrow.Author.Tests.{leb-true, leb-false}
+use Rattle.std.specs.List.{starts_with}
 use Rattle.site_form.specs.Reading.{bad, got, begins, word}
 
--- the first i bytes of w stand in the text from `at` to before `next`
-pub record Matched (text w : List ℕ) (at i next : ℕ) : Type 0 where
-  pub within : i ≤ length w
-  pub place : next ≡ at + i
-  pub same : begins w (drop at text) ≡ begins (drop i w) (drop next text)
+-- the bytes that the library's `starts_with` looks for
+begins-is : (w s : List ℕ) → starts_with eqb s w ≡ begins w s
+unfolding begins
+begins-is [] s = refl
+begins-is (x ∷ w) [] = refl
+begins-is (x ∷ w) (y ∷ s) = ap (λ (b : Bool). eqb x y && b) (begins-is w s)
 
-module _ (text w : List ℕ) (at : ℕ) where
-  pub word-start : Matched text w at 0 at
-  word-start = record { within = omega arith; place = omega arith; same = refl }
+module _ (text w : List ℕ) (at from : ℕ) (f : from ≡ min at (length text)) where
+  -- the rest of the text from the place on, or nothing
+  rest-is : take (length text - from) (drop from text) ≡ drop at text
+  rest-is =
+      let n : length (drop from text) ≡ length text - from = length-drop from text in
+      sym (ap (λ (k : ℕ). take k (drop from text)) n) ∙ take-length (drop from text) ∙ go (leb at (length text)) refl
+    where
+      go : (b : Bool) → leb at (length text) ≡ b → drop from text ≡ drop at text
+      go true e = let h = leb-true _ _ e in let k : from ≡ at = omega arith in ap (λ (i : ℕ). drop i text) k
+      go false e =
+          let h = leb-false _ _ e in
+          drop_of_length-le text (omega arith) ∙ sym (drop_of_length-le text (omega arith))
 
-  failed : begins w (drop at text) ≡ false → word w text at ≡ bad
-  unfolding word
-  failed e = rw e
+  module _ (r : Bool) (e : r ≡ starts_with eqb (take (length text - from) (drop from text)) w) where
+    stands : {t : Bool} → r ≡ t → begins w (drop at text) ≡ t
+    stands g = sym (begins-is w (drop at text)) ∙ sym (ap (λ (s : List ℕ). starts_with eqb s w) rest-is) ∙ sym e ∙ g
 
-  module _ (i next : ℕ) (m : Matched text w at i next) where
-    pub word_end : length w ≤ i → word w text at ≡ got tt next
-    unfolding word begins
-    word_end h =
-        let e : begins w (drop at text) ≡ true = m.same ∙ ap (λ (v : List ℕ). begins v (drop next text)) (drop_of_length-le w h) in
-        let l : at + length w ≡ next = omega (arith, m.within, m.place) in
-        rw (e, l)
+    pub word-is : r ≡ true → word w text at ≡ got tt (at + length w)
+    unfolding word
+    word-is g = rw (stands g)
 
-    module _ (h : i < length w) where
-      pub word-short : length text ≤ next → word w text at ≡ bad
-      unfolding begins
-      word-short k = failed (m.same ∙ rw (drop-cons w i 0 h, drop_of_length-le text k))
-
-      module _ (k : next < length text) where
-        pub word-other : (get_or w i 0 ≡ get_or text next 0 → ⊥) → word w text at ≡ bad
-        unfolding begins
-        word-other n = failed (m.same ∙ rw (drop-cons w i 0 h, drop-cons text next 0 k, ne_eqb _ _ n))
-
-        pub word-step : get_or w i 0 ≡ get_or text next 0 → Matched text w at (i + 1) (next + 1)
-        unfolding begins
-        word-step e = record {
-          within = omega arith;
-          place = omega (arith, m.place);
-          same = m.same ∙ rw (drop-cons w i 0 h, drop-cons text next 0 k, eq-eqb _ _ e, add-one i, add-one next);
-        }
+    pub word-not : r ≡ false → word w text at ≡ bad
+    unfolding word
+    word-not g = rw (stands g)

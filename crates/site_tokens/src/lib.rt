@@ -1,152 +1,80 @@
-// The tokens of a text in the site form: fixed words, numbers, the ends of a line and of the text; and the enums that the readers of all
-// parts answer.
+// The tokens of a text in the site form: fixed words, numbers, the ends of a line and of the text; and what the readers of all parts
+// answer: the value of a form and the place after it, or None where no such form stands.
 #![tactic(auto)]
 
 ghost use Rattle.std.specs.Prelude.{◌≡◌, drop};
-ghost use Rattle.site_form.specs.Reading.{digit, more_of, number, word, text_end, line_end};
-ghost use Rattle.site_tokens.specs.Steps.{number_step, word_step, number_after};
+ghost use Rattle.site_form.specs.Reading.{more_of, number, word, text_end, line_end};
+ghost use Rattle.site_tokens.specs.Steps.{step, place_step, number_after};
 
-use model::{Triple, Vocabulary};
-use query::{End, Pattern};
-
+// A value that was read, and the place after it.
 #[derive(Clone, Copy)]
-pub enum NumberForm {
-    Got { value: u32, next: usize },
-    Bad,
-}
-
-#[derive(Clone, Copy)]
-pub enum WordForm {
-    Got { next: usize },
-    Bad,
-}
-
-#[derive(Clone, Copy)]
-pub enum WordsForm {
-    Got { words: Vocabulary, next: usize },
-    Bad,
-}
-
-#[derive(Clone, Copy)]
-pub enum TripleForm {
-    Got { triple: Triple, next: usize },
-    Bad,
-}
-
-#[derive(Clone, Copy)]
-pub enum EndForm {
-    Got { end: End, next: usize },
-    Bad,
-}
-
-#[derive(Clone, Copy)]
-pub enum PatternForm {
-    Got { pattern: Pattern, next: usize },
-    Bad,
-}
-
-fn is_digit(b: u8) -> bool
-    ensures { result ≡ digit b }
-{
-    if b < 48 {
-        return false;
-    }
-    b < 58
+pub struct Read<T> {
+    pub value: T,
+    pub next: usize,
 }
 
 // The digits that follow a value, from a place on.
-fn digits(text: &[u8], from: usize, first: u32) -> NumberForm
-    ensures { number_step result ≡ more_of first from (drop from text.now) }
+fn digits(text: &[u8], from: usize, first: u32) -> Option<Read<u32>>
+    ensures { step result ≡ more_of first from (drop from text.now) }
 {
-    let mut v: u64 = first as u64;
-    let mut i = from;
-    while i < text.len() {
-        let b = text[i];
-        if !is_digit(b) {
-            return NumberForm::Got {
-                value: v as u32,
-                next: i,
-            };
-        }
-        let w = v * 10 + (b - 48) as u64;
-        if 4294967295 < w {
-            return NumberForm::Bad;
-        }
-        v = w;
-        i += 1;
+    let mut value = first;
+    let mut next = from;
+    while next < text.len() && text[next].is_ascii_digit() {
+        value = value
+            .checked_mul(10)?
+            .checked_add(u32::from(text[next] - b'0'))?;
+        next += 1;
     }
-    NumberForm::Got {
-        value: v as u32,
-        next: i,
-    }
+    Some(Read { value, next })
 }
 
 // A number of u32 without leading zeros.
-fn number(text: &[u8], at: usize) -> NumberForm
-    ensures { number_step result ≡ number text.now at }
+fn number(text: &[u8], at: usize) -> Option<Read<u32>>
+    ensures { step result ≡ number text.now at }
 {
-    if text.len() <= at {
-        return NumberForm::Bad;
-    }
-    let b = text[at];
-    if !is_digit(b) {
-        return NumberForm::Bad;
+    let b = *text.get(at)?;
+    if !b.is_ascii_digit() {
+        return None;
     }
     let next = at + 1;
-    if b != 48 {
-        return digits(text, next, (b - 48) as u32);
+    if b != b'0' {
+        return digits(text, next, u32::from(b - b'0'));
     }
-    if text.len() <= next {
-        return NumberForm::Got { value: 0, next };
+    if next < text.len() && text[next].is_ascii_digit() {
+        return None;
     }
-    if is_digit(text[next]) {
-        return NumberForm::Bad;
-    }
-    NumberForm::Got { value: 0, next }
+    Some(Read { value: 0, next })
 }
 
-// The bytes w.
-pub fn word(text: &[u8], at: usize, w: &[u8]) -> WordForm
-    ensures { word_step result ≡ word w.now text.now at }
+// The place after the bytes w.
+pub fn word(text: &[u8], at: usize, w: &[u8]) -> Option<usize>
+    ensures { place_step result ≡ word w.now text.now at }
 {
-    let mut i = 0;
-    let mut next = at;
-    while i < w.len() {
-        if text.len() <= next {
-            return WordForm::Bad;
-        }
-        if w[i] != text[next] {
-            return WordForm::Bad;
-        }
-        i += 1;
-        next += 1;
+    let rest = &text[at.min(text.len())..];
+    if rest.starts_with(w) {
+        Some(at + w.len())
+    } else {
+        None
     }
-    WordForm::Got { next }
 }
 
 // A number behind the bytes w.
-pub fn number_after(text: &[u8], at: usize, w: &[u8]) -> NumberForm
-    ensures { number_step result ≡ number_after w.now text.now at }
+pub fn number_after(text: &[u8], at: usize, w: &[u8]) -> Option<Read<u32>>
+    ensures { step result ≡ number_after w.now text.now at }
 {
-    let WordForm::Got { next } = word(text, at, w) else {
-        return NumberForm::Bad;
-    };
-    number(text, next)
+    number(text, word(text, at, w)?)
 }
 
 // The end of a line.
-pub fn line_end(text: &[u8], at: usize) -> WordForm
-    ensures { word_step result ≡ line_end text.now at }
+pub fn line_end(text: &[u8], at: usize) -> Option<usize>
+    ensures { place_step result ≡ line_end text.now at }
 {
     word(text, at, b")\n")
 }
 
 // The end of the text.
-pub fn text_end(text: &[u8], at: usize) -> WordForm
-    ensures { word_step result ≡ text_end text.now at }
+pub fn text_end(text: &[u8], at: usize) -> Option<usize>
+    ensures { place_step result ≡ text_end text.now at }
 {
-    if at < text.len() {
-        return WordForm::Bad;
-    }
-    WordForm::Got { next: at }
+    if at < text.len() { None } else { Some(at) }
 }

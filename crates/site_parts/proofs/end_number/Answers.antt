@@ -1,15 +1,12 @@
-use mathlib.Core.Path.{sym, ◌∙◌, ap}
-use Rattle.site_tokens.specs.Steps.{number_step, word_step}
+use Rattle.std.proofs.Common.{sym}
 use Rattle.site_parts.proofs.Forms.{end-bad, end_open, end-got}
 use Rattle.site_parts.proofs.end_number.Goals as goal
 
-pub returns-in_default : goal.returns-in_default
-returns-in_default c = λ make. sym (end-bad _ _ _ make (sym c.number_after.ensures ∙ ap number_step c.in_default.is))
+pub returns-in_err-number : goal.returns-in_err-number
+returns-in_err-number c = λ make. rw c.from_residual.ensures (sym (end-bad _ _ _ make (sym c.in_err-number.ensures)))
 
-pub returns-in_default-word : goal.returns-in_default-word
-returns-in_default-word c = λ make. sym (end_open _ _ _ make _ _ (sym c.number_after.ensures ∙ ap number_step c.in-Got.is)
-    (sym c.word.ensures ∙ ap word_step c.in_default-word.is))
+pub returns-in_err-next : goal.returns-in_err-next
+returns-in_err-next c = λ make. rw c.from_residual-in_err-next.ensures (sym (end_open _ _ _ make _ _ (sym c.in_ok-number.ensures) (sym c.in_err-next.ensures)))
 
 pub returns : goal.returns
-returns c = λ make. sym (end-got _ _ _ make _ _ (sym c.number_after.ensures ∙ ap number_step c.in-Got.is) _ _
-    (sym c.word.ensures ∙ ap word_step c.in-Got-word.is))
+returns c = λ make. sym (end-got _ _ _ make _ _ (sym c.in_ok-number.ensures) _ _ (sym c.in_ok-next.ensures))

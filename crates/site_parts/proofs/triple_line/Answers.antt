@@ -1,4 +1,4 @@
-use mathlib.Core.Path.{◌∙◌}
+use Rattle.std.proofs.Common.{◌∙◌}
 use Rattle.site_parts.proofs.Forms.{triple-is}
 use Rattle.site_parts.proofs.triple_line.Goals as goal
 

@@ -1,21 +1,16 @@
-use mathlib.Core.Path.{sym, ◌∙◌, ap}
-use Rattle.site_tokens.specs.Steps.{number_step, triple_step}
+use Rattle.std.proofs.Common.{sym}
 use Rattle.site_parts.proofs.Forms.{words-bad-instance, words-bad-subclass, words-bad-rest, words-got}
 use Rattle.site_parts.proofs.words_line.Goals as goal
 
-pub returns-in_default : goal.returns-in_default
-returns-in_default c = sym (words-bad-instance _ _ (sym c.number_after.ensures ∙ ap number_step c.in_default.is))
+pub returns-in_err-instance : goal.returns-in_err-instance
+returns-in_err-instance c = rw c.from_residual.ensures (sym (words-bad-instance _ _ (sym c.in_err-instance.ensures)))
 
-pub returns-in_default-number_after : goal.returns-in_default-number_after
-returns-in_default-number_after c = sym (words-bad-subclass _ _ _ _ (sym c.number_after.ensures ∙ ap number_step c.in-Got.is)
-    (sym c.number_after-2.ensures ∙ ap number_step c.in_default-number_after.is))
+pub returns-in_err-subclass : goal.returns-in_err-subclass
+returns-in_err-subclass c = rw c.from_residual-in_err-subclass.ensures (sym (words-bad-subclass _ _ _ _ (sym c.in_ok-instance.ensures) (sym c.in_err-subclass.ensures)))
 
-pub returns-in_default-three_numbers : goal.returns-in_default-three_numbers
-returns-in_default-three_numbers c = sym (words-bad-rest _ _ _ _ (sym c.number_after.ensures ∙ ap number_step c.in-Got.is) _ _
-    (sym c.number_after-2.ensures ∙ ap number_step c.in-Got-number_after.is)
-    (sym c.three_numbers.ensures ∙ ap triple_step c.in_default-three_numbers.is))
+pub returns-in_err-rest : goal.returns-in_err-rest
+returns-in_err-rest c = rw c.from_residual-in_err-rest.ensures (sym (words-bad-rest _ _ _ _ (sym c.in_ok-instance.ensures) _ _ (sym c.in_ok-subclass.ensures)
+    (sym c.in_err-rest.ensures)))
 
 pub returns : goal.returns
-returns c = sym (words-got _ _ _ _ (sym c.number_after.ensures ∙ ap number_step c.in-Got.is) _ _
-    (sym c.number_after-2.ensures ∙ ap number_step c.in-Got-number_after.is) _ _
-    (sym c.three_numbers.ensures ∙ ap triple_step c.in-Got-three_numbers.is))
+returns c = sym (words-got _ _ _ _ (sym c.in_ok-instance.ensures) _ _ (sym c.in_ok-subclass.ensures) _ _ (sym c.in_ok-rest.ensures))

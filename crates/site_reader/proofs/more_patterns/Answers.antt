@@ -1,30 +1,25 @@
-use native.Mathlib.Omega.{arith}
+use Rattle.std.proofs.Common.{arith, sym, ap}
 use Rattle.query.specs.declared.Query.{Query}
 use Rattle.site_reader.proofs.Queries.{empty-short, patterns_start, patterns_step, patterns_stop, patterns_full}
-use mathlib.Core.Path.{sym, ◌∙◌, ap}
-use Rattle.site_tokens.specs.Steps.{pattern_step}
 use Rattle.site_reader.proofs.more_patterns.Goals as goal
 
-pub with_pattern-query-requires : goal.with_pattern-query-requires
-with_pattern-query-requires c = empty-short _ c.blank_query.ensures
+pub with_pattern-value-requires : goal.with_pattern-value-requires
+with_pattern-value-requires c = empty-short _ c.blank_query.ensures
 
-pub loop-query-init : goal.loop-query-init
-loop-query-init c = patterns_start _ _ _ _ c.args.first c.blank_query.ensures c.with_pattern-query.ensures
+pub loop-value-init : goal.loop-value-init
+loop-value-init c = patterns_start _ _ _ _ c.args.first c.blank_query.ensures c.with_pattern-value.ensures
 
 pub returns-in_default : goal.returns-in_default
-returns-in_default c = patterns_stop _ _ _ _ c.args.first c.blank_query.ensures c.with_pattern-query.ensures _ _ c.loop-query.invariant
-    (sym c.next_pattern.ensures ∙ ap pattern_step c.in_default.is)
+returns-in_default c = patterns_stop _ _ _ _ c.args.first c.blank_query.ensures c.with_pattern-value.ensures _ _ c.loop-value.invariant
+    (sym c.in_default.ensures)
 
-pub with_pattern-query-requires-in-loop-query : goal.with_pattern-query-requires-in-loop-query
-with_pattern-query-requires-in-loop-query c = c.loop-query-test.true
+pub loop-value-smaller : goal.loop-value-smaller
+loop-value-smaller c = let e = ap (λ (q : Query). q.count) c.with_pattern-value-in-loop-value.ensures in omega arith
 
-pub loop-query-smaller : goal.loop-query-smaller
-loop-query-smaller c = let e = ap (λ (q : Query). q.count) c.with_pattern-query-in-loop-query.ensures in omega arith
-
-pub loop-query-preserved : goal.loop-query-preserved
-loop-query-preserved c = patterns_step _ _ _ _ _ c.loop-query.invariant c.loop-query-test.true _ _
-    (sym c.next_pattern.ensures ∙ ap pattern_step c.in-Got.is) _ c.with_pattern-query-in-loop-query.ensures
+pub loop-value-preserved : goal.loop-value-preserved
+loop-value-preserved c = patterns_step _ _ _ _ _ c.loop-value.invariant c.loop-value-test.true _ _
+    (sym c.in-Some.ensures) _ c.with_pattern-value-in-loop-value.ensures
 
 pub returns : goal.returns
-returns c = patterns_full _ _ _ _ c.args.first c.blank_query.ensures c.with_pattern-query.ensures _ _ c.loop-query.invariant
-    c.loop-query-test.false
+returns c = patterns_full _ _ _ _ c.args.first c.blank_query.ensures c.with_pattern-value.ensures _ _ c.loop-value.invariant
+    c.loop-value-test.false

@@ -1,9 +1,9 @@
+use Rattle.std.proofs.Common.{◌-◌}
 use Rattle.site_reader.proofs.Queries.{Reading}
-use Prim.Native.Nat.{◌-◌}
 use Rattle.site_reader.proofs.more_patterns.Given as goal
 
-abbrev pub invariant-loop-query : goal.invariant-loop-query
-invariant-loop-query l = Reading l.text l.initial.i l.initial.query l.query l.i
+abbrev pub invariant-loop-value : goal.invariant-loop-value
+invariant-loop-value l = Reading l.text l.initial.next l.initial.value l.value l.next
 
-abbrev pub decreases-loop-query : goal.decreases-loop-query
-decreases-loop-query l = 8 - l.query.count
+abbrev pub decreases-loop-value : goal.decreases-loop-value
+decreases-loop-value l = 8 - l.value.count

@@ -1,9 +1,5 @@
-use Prim.Native.Nat.{◌-◌}
 use Rattle.site_reader.proofs.Triples.{Storing}
 use Rattle.site_reader.proofs.triple_lines.Given as goal
 
 abbrev pub invariant-loop-count : goal.invariant-loop-count
-invariant-loop-count l = Storing l.text l.initial.i l.initial.list l.list l.count l.i
-
-abbrev pub decreases-loop-count : goal.decreases-loop-count
-decreases-loop-count l = 1000 - l.count
+invariant-loop-count l = Storing l.text l.initial.next l.initial.list l.list l.count l.next

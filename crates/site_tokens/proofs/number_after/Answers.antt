@@ -1,11 +1,10 @@
-use mathlib.Core.Path.{sym, ◌∙◌, ap}
+use Rattle.std.proofs.Common.{sym, ◌∙◌}
 use Rattle.site_form.proofs.Readers.{fails}
-use Rattle.site_tokens.specs.Steps.{word_step}
 use Rattle.site_tokens.proofs.Steps.{then_got}
 use Rattle.site_tokens.proofs.number_after.Goals as goal
 
-pub returns-in_default : goal.returns-in_default
-returns-in_default c = sym (fails _ _ _ _ (sym c.word.ensures ∙ ap word_step c.in_default.is))
+pub returns-in_err-word : goal.returns-in_err-word
+returns-in_err-word c = rw c.from_residual.ensures (sym (fails _ _ _ _ (sym c.in_err-word.ensures)))
 
 pub returns : goal.returns
-returns c = c.number.ensures ∙ sym (then_got _ _ _ _ _ _ (sym c.word.ensures ∙ ap word_step c.in-Got.is))
+returns c = c.number.ensures ∙ sym (then_got _ _ _ _ _ _ (sym c.in_ok-word.ensures))
