@@ -9,7 +9,7 @@ ghost use Rattle.intake_insertion.specs.Insertion.{Inserted};
 ghost use Rattle.intake_insertion.specs.Places.{StandsAt, ImageFound, bad};
 
 use checks::triple_wrong;
-use lists::{Code, lower_bound, put, same, triple_at, wide};
+use lists::{Code, lower_bound, put, triple_at, wide};
 use model::{Triple, Vocabulary};
 use roster_checks::covers_triple;
 
@@ -32,10 +32,7 @@ pub fn stands_at(list: &[u32], count: usize, i: usize, t: Triple) -> bool
     requires { 3 * count ≤ length list.now }
     ensures { StandsAt list.now count i t result }
 {
-    if i < count {
-        return same(t, triple_at(list, i));
-    }
-    false
+    i < count && t == triple_at(list, i)
 }
 
 // Where the image of a triple stands in the summary; unknown where an end is no node or the image is not there.

@@ -10,6 +10,7 @@ use lib.ListN.{length}
 use mir.Val.{bool_byte}
 use Rattle.std.specs.declared.result.Result.TheVariants.{Ok, Err}
 use Rattle.model.specs.declared.Triple.{Triple}
+use Rattle.model.specs.declared.Found.{Found}
 use Rattle.model.specs.declared.Found.TheVariants.{Yes, No}
 use Rattle.model.specs.declared.Refusal.TheVariants.{Length}
 use Rattle.model.specs.Lists.{any, how_many, tabulate}
@@ -21,8 +22,6 @@ use Rattle.theory.proofs.Lists.{many-le, length-tabulate}
 use Rattle.theory.proofs.Runs.{run-one, run-parts, many-one, many-parts}
 use Rattle.lists.specs.Flat.{at}
 use Rattle.lists.proofs.Places.{triples-table}
-use Rattle.look_up.specs.declared.Seen.{Seen}
-use Rattle.look_up.specs.Seen.{seen_in}
 
 -- ── the pass ──
 pub byte_few : (b : Bool) → bool_byte b ≤ 1
@@ -58,11 +57,12 @@ module _ (t : Triple) (l : List ℕ) where
             ∙ sym (many-parts first (at l) 0 i 1);
       }
 
-  pub seen_end : (i : ℕ) (f : Bool) (k : ℕ) → SeenTo t l i f k → i ≡ length l / 3 → record { found = f; place = k } ≡ seen_in (triples l) t
-  unfolding seen_in
-  seen_end i f k S e =
-      let all : tabulate (at l) 0 i ≡ triples l = ap (tabulate (at l) 0) e ∙ sym (triples-table l) in
-      λ j. record { found = (S.found_is ∙ ap (holds t) all) j; place = (S.place_is ∙ ap (place t) all) j }
+  module _ (i : ℕ) (f : Bool) (k : ℕ) (S : SeenTo t l i f k) (e : length l / 3 ≤ i) (u : i ≤ length l / 3) where
+    all : tabulate (at l) 0 i ≡ triples l
+    all = let n : i ≡ length l / 3 = omega arith in ap (tabulate (at l) 0) n ∙ sym (triples-table l)
+
+    pub seen_end : (b : Bool) → f ≡ b → answer b k ≡ answer (holds t (triples l)) (place t (triples l))
+    seen_end b h = λ j. answer ((sym h ∙ S.found_is ∙ ap (holds t) all) j) ((S.place_is ∙ ap (place t) all) j)
 
 -- ── the answers ──
 module _ (l : List ℕ) (t : Triple) where
@@ -71,18 +71,9 @@ module _ (l : List ℕ) (t : Triple) where
   outcome-is p = λ i. cond (p i) (refused 1) (accepted (answer (holds t (triples l)) (place t (triples l))))
 
   pub by_length : wrong_length (length l) ≡ true → found (Err Length) ≡ look_up_outcome l t
-  unfolding outcome_by seen refusal_number
+  unfolding outcome_by refusal_number
   by_length p = sym (outcome-is p)
 
-  module _ (s : Seen) (e : s ≡ seen_in (triples l) t) (p : wrong_length (length l) ≡ false) where
-    answered : (b : Bool) → s.found ≡ b → ◌≡◌ {A = Outcome (Answer Bool)} (accepted (answer b s.place)) (look_up_outcome l t)
-    unfolding seen_in
-    answered b h = (λ i. accepted (answer ((sym h ∙ ap (λ (x : Seen). x.found) e) i) (e i).place)) ∙ sym (outcome-is p)
-
-    pub by-yes : s.found ≡ true → found (Ok (Yes s.place)) ≡ look_up_outcome l t
-    unfolding outcome_by seen
-    by-yes h = answered true h
-
-    pub by-no : s.found ≡ false → found (Ok (No s.place)) ≡ look_up_outcome l t
-    unfolding outcome_by seen
-    by-no h = answered false h
+  pub by_place : wrong_length (length l) ≡ false → (f : Found) → seen f ≡ answer (holds t (triples l)) (place t (triples l)) → found (Ok f) ≡ look_up_outcome l t
+  unfolding outcome_by
+  by_place p f e = ap (λ (x : Answer Bool). accepted x) e ∙ sym (outcome-is p)

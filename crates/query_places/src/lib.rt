@@ -7,7 +7,7 @@ ghost use Rattle.lists.specs.Flat.{at, RisingPart};
 ghost use Rattle.query.specs.Ask.{wrong_pattern_end};
 ghost use Rattle.query_places.specs.Places.{with_property, FirstOf, FirstSame, FirstFit, front, wanted_of, InOrder};
 
-use lists::{Code, lower_bound, same, triple_at};
+use lists::{Code, lower_bound, triple_at};
 use model::Triple;
 use query::{End, Pattern};
 
@@ -89,7 +89,7 @@ fn place_of(table: &[u32], t: Triple, from: usize, to: usize) -> usize
     ensures { FirstSame (at table.now) t from to result }
 {
     let i = lower_bound(table, from, to, t);
-    if i < to && same(t, triple_at(table, i)) {
+    if i < to && t == triple_at(table, i) {
         return i;
     }
     to
