@@ -59,12 +59,8 @@ pub fn cliques(
     ensures { CliquesCall words table.now roster.now sources.old targets.old result sources.new targets.new }
 {
     let lengths = lengths_wrong(roster.len(), sources.len(), targets.len());
-    match table_refusal(words, lengths, table, roster) {
-        Err(r) => Err(r),
-        Ok(()) => {
-            clique_side(words, table, roster, true, sources);
-            clique_side(words, table, roster, false, targets);
-            Ok(())
-        },
-    }
+    table_refusal(words, lengths, table, roster)?;
+    clique_side(words, table, roster, true, sources);
+    clique_side(words, table, roster, false, targets);
+    Ok(())
 }

@@ -2,6 +2,8 @@
 -- 01: "Properties p and q share a source if some data node is subject of both in data triples; a source clique is a class of the
 -- transitive closure. Targets likewise, by objects. Marked nodes link nothing."
 -- Assumes nothing.
+pub use Rattle.model.specs.declared.Side.{Side}
+pub use Rattle.model.specs.declared.Side.TheVariants.{Source as source, Target as target}
 use Rattle.std.specs.Prelude.{ℕ, ◌≡◌, Bool, true, false, cond, ◌&&◌, List, eqb, length}
 use Rattle.model.specs.declared.Triple.{Triple}
 use Rattle.model.specs.declared.Vocabulary.{Vocabulary}
@@ -15,18 +17,10 @@ use Rattle.model.specs.Partition.{pairs, merged}
 abbrev pub Graph : Type 1
 Graph = Triple → Type 0
 
--- the two sides: a triple's end is its subject at the source side and its object at the target side
-pub data Side : Type 0 where
-  source target : Side
-
+-- a triple's end: its subject at the source side and its object at the target side
 abbrev pub end : Side → Triple → ℕ
 end source t = t.subject
 end target t = t.object
-
--- the side that a flag stands for
-abbrev pub side_of : Bool → Side
-side_of true = source
-side_of false = target
 
 -- 01: "A node is a code that is subject or object of a triple."
 pub record Node (G : Graph) (n : ℕ) : Type 0 where

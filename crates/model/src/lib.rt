@@ -25,6 +25,13 @@ pub struct Triple {
     pub object: u32,
 }
 
+// The two ends of a triple: its subject is at the source side and its object at the target side.
+#[derive(Clone, Copy, PartialEq, Eq)]
+pub enum Side {
+    Source,
+    Target,
+}
+
 // What a reserved code means.
 #[derive(Clone, Copy, PartialEq, Eq)]
 pub enum Word {
