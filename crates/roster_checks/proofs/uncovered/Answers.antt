@@ -1,12 +1,7 @@
 use mathlib.Core.Path.{sym, ◌∙◌, ap}
-use native.Mathlib.Omega.{arith}
-use borrow.Author.Count.{below_more}
 use Rattle.model.specs.Roster.{covers_triple}
 use Rattle.roster_checks.proofs.Tables.{below_at, uncovered_at, covered-all}
 use Rattle.roster_checks.proofs.uncovered.Goals as goal
-
-pub loop-i-init : goal.loop-i-init
-loop-i-init c = λ k h. absurd (omega arith)
 
 pub covers_triple-requires : goal.covers_triple-requires
 covers_triple-requires c = below_at _ c.args.table.now _ _ c.requires c.loop-i-test.true c.triple_at.ensures
@@ -15,11 +10,6 @@ pub returns-then-not-covers_triple : goal.returns-then-not-covers_triple
 returns-then-not-covers_triple c = uncovered_at _ c.args.roster.now c.args.table.now _ c.loop-i-test.true
     (ap (covers_triple _ c.args.roster.now) (sym c.triple_at.ensures) ∙ sym c.covers_triple.ensures ∙
     c.if-not-covers_triple.true)
-
-pub loop-i-preserved : goal.loop-i-preserved
-loop-i-preserved c = below_more _ _ c.loop-i.invariant
-    (ap (covers_triple _ c.args.roster.now) (sym c.triple_at.ensures) ∙ sym c.covers_triple.ensures ∙
-    c.if-not-covers_triple.false)
 
 pub returns : goal.returns
 returns c = covered-all _ c.args.roster.now c.args.table.now _ c.loop-i-test.false c.loop-i.invariant
