@@ -1,4 +1,2 @@
 pub mod Sides
-pub mod Covering
 pub mod Tables
-pub mod Wrong

@@ -3,16 +3,12 @@
 use Prim.Native.Nat.{ℕ, ◌+◌, ◌<◌}
 use mathlib.Core.Path.{◌≡◌, sym, ◌∙◌, ap, subst}
 use mathlib.Core.Logic.{◌⊎◌, inl, inr, ⊎_elim}
-use mathlib.Core.Bool.{Bool, true, false, ◌&&◌}
+use mathlib.Core.Bool.{true}
 use mathlib.Core.List.{List}
 use native.Mathlib.Omega.{arith}
 use native.Mathlib.Decide.{ℕ_discrete}
-use lib.Dec.{eqb}
-use lib.ListN.{get_or}
-use borrow.Author.Tests.{ltb-true, ltb-false, le-leb, lt-leb}
 use Rattle.model.specs.declared.Triple.{Triple}
 use Rattle.model.specs.declared.Vocabulary.{Vocabulary}
-use Rattle.model.specs.Codes.{kind, reserved}
 use Rattle.model.specs.Triples.{is_data}
 use Rattle.model.specs.Roster.{unmarked}
 use Rattle.model.specs.Cliques.{Side, source, target, end, Has, links}
@@ -41,17 +37,6 @@ module _ (table : List ℕ) (i : ℕ) where
       go j h q (no n) = inl (subst (Before table i) (sym q) (mem-tabulate (at table) 0 i j (omega arith) (omega arith)))
 
 module _ (v : Vocabulary) where
-  module _ (roster : List ℕ) (e : Side) (t : Triple) where
-    pub links-reserved : reserved v t.property ≡ true → false ≡ links v roster e t
-    unfolding links is_data reserved
-    links-reserved h = ap (λ (x : Bool). x && unmarked roster (end e t)) (sym (lt-leb 5 (kind v t.property) (ltb-true _ _ h)))
-
-    pub links_data : reserved v t.property ≡ false → (c i : ℕ) → i ≡ c → c ≡ end e t → eqb (get_or roster i 0) 0 ≡ links v roster e t
-    unfolding links is_data reserved unmarked
-    links_data h c i p q =
-        ap (λ (j : ℕ). eqb (get_or roster j 0) 0) (p ∙ q)
-        ∙ ap (λ (x : Bool). x && unmarked roster (end e t)) (sym (le-leb 5 (kind v t.property) (ltb-false _ _ h)))
-
   module _ (table : List ℕ) (i : ℕ) where
     module _ (roster : List ℕ) (e : Side) (t : Triple) (is : t ≡ at table i) where
       pub has-back : (m p : ℕ) → Has v roster (Before table (i + 1)) e m p

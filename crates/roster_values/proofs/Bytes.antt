@@ -1,21 +1,25 @@
 -- The bytes of a word that is made of bytes, and the test of a word.
 -- Assumes nothing.
-use Prim.Native.Nat.{ℕ, zero, suc, ◌+◌, ◌*◌, ◌/◌, ◌%◌, ◌^◌, ◌<◌, ◌≤◌}
-use mathlib.Core.Path.{◌≡◌, sym, ◌∙◌, ap}
-use mathlib.Core.Logic.{⊎_elim}
-use mathlib.Core.Bool.{not}
+use Prim.Native.Nat.{ℕ, zero, suc, ◌+◌, ◌-◌, ◌*◌, ◌/◌, ◌%◌, ◌^◌, ◌<◌, ◌≤◌}
+use mathlib.Core.Path.{◌≡◌, sym, ◌∙◌, ap, subst}
+use mathlib.Core.Logic.{◌⊎◌, inl, inr, ⊎_elim}
+use mathlib.Core.Bool.{true, false, not}
 use mathlib.Core.List.{List, [], ◌∷◌}
 use native.Mathlib.Omega.{arith}
 use native.Mathlib.Nat.{mod-lt, mod-eq_of_lt, div-one, div-div-eq-div-mul, mul_comm, pow-suc}
 use lib.Dec.{eqb, ltb, lit<}
-use lib.ListN.{length, get_or}
+use lib.ListN.{length, get_or, take, drop, length-drop, get_or-eq_default}
+use lib.Seq.{ext_get_or, length-take-le}
 use lib.Pow.{pow_pos, split}
 use lib.Bits.{bit_and, and_block, and_high, and_zero_r}
 use borrow.Author.Tests.{eq-eqb, ne_eqb, ltb-true, ltb-false}
 use Rattle.model.specs.Lists.{tabulate}
 use Rattle.model.specs.Roster.{mark}
 use Rattle.theory.proofs.Tests.{bool_cases}
-use Rattle.theory.proofs.Lists.{tabulate-list}
+use Rattle.theory.proofs.Lists.{tabulate-at, length-tabulate}
+use Rattle.std.specs.Int.{w64, to_le_bytes, from_le_bytes}
+use Rattle.std.proofs.lemmas.Nat.{le_bytes_8}
+use Rattle.std.proofs.lemmas.List.{get_or-take, get_or-drop}
 use Rattle.theory.proofs.Runs.{run-found, run-each}
 use Rattle.roster_values.specs.Bytes.{over_three, values, byte_of, bytes_of, upper_bits, WordTest}
 
@@ -30,54 +34,32 @@ byte_up w k =
     let p : 256 ^ suc k ≡ 256 * 256 ^ k = pow-suc 256 k ∙ mul_comm (256 ^ k) 256 in
     ap (λ (x : ℕ). w / x % 256) p ∙ ap (λ (x : ℕ). x % 256) (sym (div-div-eq-div-mul w 256 (256 ^ k)))
 
--- ── a word made of bytes, the first the lowest ──
-unfoldable word : List ℕ → ℕ
-word [] = 0
-word (b ∷ bs) = b + 256 * word bs
+-- ── a word read from eight bytes ──
+bytes_low : (w : ℕ) → bytes_of w ≡ to_le_bytes w64 w
+unfolding tabulate byte_of
+bytes_low w = λ j. byte_low w j ∷ byte_of w 1 ∷ byte_of w 2 ∷ byte_of w 3 ∷ byte_of w 4 ∷ byte_of w 5 ∷ byte_of w 6 ∷ byte_of w 7 ∷ []
 
-unfoldable Bytes : List ℕ → Type 0
-Bytes [] = Unit {0}
-Bytes (b ∷ bs) = (b < 256) × Bytes bs
+-- eight values of a roster are a part of it
+values-part : (l : List ℕ) (i n : ℕ) → i + n ≤ length l → values l i n ≡ take n (drop i l)
+values-part l i n h =
+    let t : length (take n (drop i l)) ≡ n = length-take-le n (drop i l) (omega (arith, h, length-drop i l)) in
+    ext_get_or 0 (values l i n) (take n (drop i l)) (length-tabulate (mark l) i n ∙ sym t)
+    (λ k x.
+    let y : k < n = omega (arith, x, length-tabulate (mark l) i n) in
+    tabulate-at (mark l) 0 i n k y ∙ sym (get_or-take n (drop i l) k 0 y ∙ get_or-drop i l k 0))
 
-word_bytes : (bs : List ℕ) → Bytes bs → (k : ℕ) → k < length bs → byte_of (word bs) k ≡ get_or bs k 0
-unfolding word Bytes
-word_bytes [] h k x = absurd (omega arith)
-word_bytes (b ∷ bs) h zero x = byte_low (b + 256 * word bs) ∙ omega (arith, h.0)
-word_bytes (b ∷ bs) h (suc k) x =
-    let q : (b + 256 * word bs) / 256 ≡ word bs = omega (arith, h.0) in
-    byte_up (b + 256 * word bs) k ∙ ap (λ (v : ℕ). byte_of v k) q ∙ word_bytes bs h.1 k (omega arith)
+pub word-is : (l bs : List ℕ) (i w : ℕ) → i + 8 ≤ length l → ((k : ℕ) → get_or l k 0 < 256) → bs ≡ take (i + 8 - i) (drop i l) → w ≡ from_le_bytes w64 bs → bytes_of w ≡ values l i 8
+word-is l bs i w h small e is = bytes_low w ∙ le_bytes_8 bs w (ap length p ∙ length-tabulate (mark l) i 8) each is ∙ p
+  where
+    p : bs ≡ values l i 8
+    p = let q : i + 8 - i ≡ 8 = omega arith in e ∙ ap (λ (n : ℕ). take n (drop i l)) q ∙ sym (values-part l i 8 h)
 
--- a byte of a roster at a place
-abbrev pub ByteAt : List ℕ → ℕ → ℕ → Type 0
-ByteAt l i x = (x ≡ mark l i) × (x < 256)
+    value : (k : ℕ) → (ltb k 8 ≡ true) ⊎ (ltb k 8 ≡ false) → get_or (values l i 8) k 0 < 256
+    value k (inl x) = omega (arith, tabulate-at (mark l) 0 i 8 k (ltb-true k 8 x), small (i + k))
+    value k (inr x) = omega (arith, get_or-eq_default (values l i 8) 0 {n = k} (omega (arith, ltb-false k 8 x, length-tabulate (mark l) i 8)))
 
-module _ (l : List ℕ) (i a b c d e f g h : ℕ) where
-  abbrev eight : List ℕ
-  eight = a ∷ b ∷ c ∷ d ∷ e ∷ f ∷ g ∷ h ∷ []
-
-  -- the sum as the code has it
-  abbrev sum : ℕ
-  sum = a + 256 * (b + 256 * (c + 256 * (d + 256 * (e + 256 * (f + 256 * (g + 256 * h))))))
-
-  sum_is : sum ≡ word eight
-  unfolding word
-  sum_is = omega arith
-
-  pub word-is : ByteAt l i a → ByteAt l (i + 1) b → ByteAt l (i + 2) c → ByteAt l (i + 3) d
-      → ByteAt l (i + 4) e → ByteAt l (i + 5) f → ByteAt l (i + 6) g → ByteAt l (i + 7) h
-      → bytes_of sum ≡ values l i 8
-  unfolding Bytes tabulate
-  word-is xa xb xc xd xe xf xg xh =
-      let all : Bytes eight = (xa.1, (xb.1, (xc.1, (xd.1, (xe.1, (xf.1, (xg.1, (xh.1, tt)))))))) in
-      let p : bytes_of sum ≡ eight = tabulate-list 0 (byte_of sum) eight (λ k x. ap (λ (v : ℕ). byte_of v k) sum_is ∙ word_bytes eight all k x) in
-      let yb : b ≡ mark l (suc i) = xb.0 ∙ ap (mark l) (omega arith) in
-      let yc : c ≡ mark l (suc (suc i)) = xc.0 ∙ ap (mark l) (omega arith) in
-      let yd : d ≡ mark l (suc (suc (suc i))) = xd.0 ∙ ap (mark l) (omega arith) in
-      let ye : e ≡ mark l (suc (suc (suc (suc i)))) = xe.0 ∙ ap (mark l) (omega arith) in
-      let yf : f ≡ mark l (suc (suc (suc (suc (suc i))))) = xf.0 ∙ ap (mark l) (omega arith) in
-      let yg : g ≡ mark l (suc (suc (suc (suc (suc (suc i)))))) = xg.0 ∙ ap (mark l) (omega arith) in
-      let yh : h ≡ mark l (suc (suc (suc (suc (suc (suc (suc i))))))) = xh.0 ∙ ap (mark l) (omega arith) in
-      p ∙ (λ j. xa.0 j ∷ yb j ∷ yc j ∷ yd j ∷ ye j ∷ yf j ∷ yg j ∷ yh j ∷ [])
+    each : (k : ℕ) → get_or bs k 0 < 256
+    each k = subst (λ (x : List ℕ). get_or x k 0 < 256) (sym p) (value k (bool_cases (ltb k 8)))
 
 -- ── the test ──
 -- the six upper bits of each of n bytes

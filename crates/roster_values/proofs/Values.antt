@@ -48,5 +48,7 @@ module _ (l : List ℕ) where
       pub right-step : (n j : ℕ) → j ≡ i + n → over_three (values l i n) ≡ false → over_three (values l 0 j) ≡ false
       right-step n j e q = behind n j e ∙ q
 
-      pub over-rest : i ≤ length l → over_three (values l i (length l - i)) ≡ over_three l
-      over-rest h = sym (behind (length l - i) (length l) (omega arith)) ∙ ap over_three values-all
+      pub over-rest : (j : ℕ) → i ≡ j → i ≤ length l → over_three (values l j (length l - j)) ≡ over_three l
+      over-rest j e h =
+          ap (λ (x : ℕ). over_three (values l x (length l - x))) (sym e)
+          ∙ sym (behind (length l - i) (length l) (omega arith)) ∙ ap over_three values-all

@@ -9,19 +9,19 @@ use mathlib.Core.List.Memᴰ.{append_left}
 use mathlib.Core.List.Memᴰ.{append_right}
 use mathlib.Core.List.{List, ◌++◌, Memᴰ as Mem}
 use native.Mathlib.Omega.{arith}
+use lib.Dec.{eqb, ltb}
 use lib.ListN.{length}
 use borrow.Author.Count.{below_more}
-use borrow.Author.Tests.{lt-ltb}
+use borrow.Author.Tests.{lt-ltb, ne_eqb}
 use Rattle.model.specs.declared.Triple.{Triple}
 use Rattle.model.specs.declared.Vocabulary.{Vocabulary}
-use Rattle.model.specs.Codes.{kind, schema_property}
+use Rattle.model.specs.Codes.{kind, reserved, schema_property}
 use Rattle.model.specs.Lists.{tabulate, when}
 use Rattle.model.specs.Triples.{triples, sorted}
-use Rattle.theory.proofs.Tests.{bool_cases}
+use Rattle.theory.proofs.Tests.{bool_cases, and_both}
 use Rattle.theory.proofs.Lists.{tabulate-mem, mem-tabulate, when-mem, mem-when, collect-mem, mem-collect}
 use Rattle.theory.proofs.Order.{sorted-rising, sorted-mem, mem-sorted, rising-length}
 use Rattle.lists.specs.Flat.{at, RisingPart}
-use Rattle.lists.proofs.Codes.{schema-other}
 use Rattle.lists.proofs.Places.{triples-table}
 use Rattle.builder.specs.declared.Builder.{Builder}
 use Rattle.builder.specs.Builder.{first, Offered, GrownBy}
@@ -40,7 +40,8 @@ module _ (v : Vocabulary) where
   -- ── the test ──
   -- the kinds 1 to 4 are schema triples
   pub kind-schema : (t : Triple) → 1 ≤ kind v t.property → kind v t.property ≤ 4 → schema_property v t.property ≡ true
-  kind-schema t l u = sym (schema-other v t.property (kind v t.property) refl (λ z. omega arith)) ∙ lt-ltb (kind v t.property) 5 (omega arith)
+  unfolding schema_property reserved
+  kind-schema t l u = and_both (not (eqb (kind v t.property) 0)) (ltb (kind v t.property) 5) (ap not (ne_eqb (kind v t.property) 0 (λ z. omega arith))) (lt-ltb (kind v t.property) 5 (omega arith))
 
   pub chosen-schema : (t : Triple) (w r : Bool) → r ≡ schema_property v t.property → r ≡ true → w ≡ chosen v w t
   unfolding chosen

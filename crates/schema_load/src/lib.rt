@@ -12,13 +12,11 @@ use lists::{Code, triple_at};
 use model::{Triple, Vocabulary};
 
 // Whether a triple is a schema triple where these are wanted, or another where those are.
+#[tactic(auto, unfolding(crate::specs::Loading::chosen))]
 fn is_chosen(words: Vocabulary, t: Triple, schemas: bool) -> bool
     ensures { result ≡ chosen words schemas t }
 {
-    if Code(t.property).is_schema(words) {
-        return schemas;
-    }
-    !schemas
+    Code(t.property).is_schema(words) == schemas
 }
 
 // Offers a triple, where it is chosen.
