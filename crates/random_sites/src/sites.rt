@@ -231,7 +231,7 @@ pub fn make(seed: u64, table: &mut [u32], roster: &mut [u8]) {
     let right = words::right(seed, n);
     fill_table(table, seed, n);
     words::rename(right, table);
-    naive_checks::own_roster(plain_words(right), table, roster);
+    let _ = naive_checks::own_roster(plain_words(right), table, roster);
     mark_more(right, roster, seed);
     damage_table(right, table, seed, n);
     damage_roster(right, roster, seed);
@@ -246,9 +246,13 @@ pub fn base(seed: u64, table: &mut [u32], roster: &mut [u8], list: &mut [u32]) -
         copy(table, list);
         return at_most(table.len(), list.len());
     }
-    let right = plain_words(words::right(seed, roster.len()));
-    let answer = naive_saturation::saturate(right, table, roster, list);
-    triples_end(answer.count, list.len())
+    let site = naive_checks::Site {
+        words: plain_words(words::right(seed, roster.len())),
+        table,
+        roster,
+    };
+    let count = naive_saturation::saturate(site, list).unwrap_or(0);
+    triples_end(count, list.len())
 }
 
 fn copy(from: &[u32], to: &mut [u32]) {
