@@ -6,6 +6,8 @@ use comparison::calls;
 use comparison_report::report::TALLY;
 use lists::{Code, word_of};
 use model::Vocabulary;
+use naive_checks::Site;
+use naive_summary::{Equivalence, summarise};
 use random_sites::random::{at_most, get, mix, pick, set, triples_end};
 use random_sites::{sites, words};
 use std::io;
@@ -123,16 +125,13 @@ fn summary_end(
 {
     let mut work = [0u32; 50];
     let w = at_most(2 * at_most(roster.len(), 24), 50);
-    let answer = naive_summary::summarise(
-        words::plain_words(right),
-        false,
-        list,
+    let site = Site {
+        words: words::plain_words(right),
+        table: list,
         roster,
-        summary,
-        map,
-        &mut work[0..w],
-    );
-    triples_end(answer.count, summary.len())
+    };
+    let answer = summarise(site, Equivalence::Weak, summary, map, &mut work[0..w]);
+    triples_end(answer.unwrap_or(0), summary.len())
 }
 
 // A query on a list and on its summary, with its map of that length.

@@ -98,7 +98,7 @@ fn expect(
     let n = at_most(map.len(), 24);
     let roster: &mut [u8] = &mut roster_space[0..n];
     let closed: &mut [u32] = &mut closed_space;
-    naive_checks::own_roster(plain_words(rdfs_words()), table, roster);
+    let _ = naive_checks::own_roster(plain_words(rdfs_words()), table, roster);
     let wanted = of_lengths(60, 0, 0);
     table_call(rt, tally, SATURATE, 0, rdfs_words(), table, roster, wanted)?;
     let end = closure(rdfs_words(), table, roster, closed);

@@ -1,10 +1,70 @@
-// The engine's answers as the naive one gives them: the number of a refusal, 0 for none, a count, and a place.
-use model::{Found, Refusal, Reply};
-use naive_lists::Answer;
+// The answers of both engines in one form.
+use model::{Counted, Done, Found, Refusal, Reply};
 use query::Asked;
 
-fn refused(r: Refusal) -> u32 {
-    match r {
+// The number of a refusal, 0 for none, a count, and a place.
+#[derive(Clone, Copy, PartialEq, Eq)]
+pub struct Answer {
+    pub refused: u32,
+    pub count: usize,
+    pub place: usize,
+}
+
+impl Answer {
+    fn refused(refused: u32) -> Self {
+        Self {
+            refused,
+            count: 0,
+            place: 0,
+        }
+    }
+
+    // Yes or no is a count of 1 or 0; a count of 2 stands for removed.
+    fn accepted(count: usize, place: usize) -> Self {
+        Self {
+            refused: 0,
+            count,
+            place,
+        }
+    }
+}
+
+// What the naive engine answers: nothing, a count, yes or no, or that with a place.
+impl From<()> for Answer {
+    fn from(_nothing: ()) -> Answer {
+        Answer::accepted(0, 0)
+    }
+}
+
+impl From<usize> for Answer {
+    fn from(count: usize) -> Answer {
+        Answer::accepted(count, 0)
+    }
+}
+
+impl From<bool> for Answer {
+    fn from(yes: bool) -> Answer {
+        Answer::accepted(usize::from(yes), 0)
+    }
+}
+
+impl From<naive_ask::Found> for Answer {
+    fn from(found: naive_ask::Found) -> Answer {
+        Answer::accepted(usize::from(found.held), found.place)
+    }
+}
+
+impl<T: Into<Answer>> From<Result<T, naive_lists::Refusal>> for Answer {
+    fn from(answered: Result<T, naive_lists::Refusal>) -> Answer {
+        match answered {
+            Ok(accepted) => accepted.into(),
+            Err(refusal) => Answer::refused(refusal.into()),
+        }
+    }
+}
+
+fn refused(r: Refusal) -> Answer {
+    Answer::refused(match r {
         Refusal::Length => 1,
         Refusal::Roster => 2,
         Refusal::Code => 3,
@@ -16,61 +76,44 @@ fn refused(r: Refusal) -> u32 {
         Refusal::Missing => 9,
         Refusal::Words => 10,
         Refusal::Retired => 12,
-    }
+    })
 }
 
-pub fn answer(number: u32, count: usize) -> Answer {
-    Answer {
-        refused: number,
-        count: count,
-        place: 0,
-    }
-}
-
-// Yes or no, as a count of 1 or 0, with a place; a count of 2 stands for removed.
-fn answer_at(count: usize, place: usize) -> Answer {
-    Answer {
-        refused: 0,
-        count: count,
-        place: place,
-    }
-}
-
-pub fn of_done(d: Result<(), Refusal>) -> Answer {
+pub fn of_done(d: Done) -> Answer {
     match d {
-        Ok(()) => answer(0, 0),
-        Err(r) => answer(refused(r), 0),
+        Done::Accepted => Answer::accepted(0, 0),
+        Done::Refused(r) => refused(r),
     }
 }
 
-pub fn of_counted(c: Result<usize, Refusal>) -> Answer {
+pub fn of_counted(c: Counted) -> Answer {
     match c {
-        Ok(k) => answer(0, k),
-        Err(r) => answer(refused(r), 0),
+        Counted::Count(k) => Answer::accepted(k, 0),
+        Counted::Refused(r) => refused(r),
     }
 }
 
-pub fn of_found(f: Result<Found, Refusal>) -> Answer {
+pub fn of_found(f: Found) -> Answer {
     match f {
-        Ok(Found::Yes(place)) => answer_at(1, place),
-        Ok(Found::No(place)) => answer_at(0, place),
-        Err(r) => answer(refused(r), 0),
+        Found::Yes(place) => Answer::accepted(1, place),
+        Found::No(place) => Answer::accepted(0, place),
+        Found::Refused(r) => refused(r),
     }
 }
 
-pub fn of_reply(reply: Result<Reply, Refusal>) -> Answer {
+pub fn of_reply(reply: Reply) -> Answer {
     match reply {
-        Ok(Reply::New(place)) => answer_at(1, place),
-        Ok(Reply::NotNew(place)) => answer_at(0, place),
-        Ok(Reply::Removed(place)) => answer_at(2, place),
-        Err(r) => answer(refused(r), 0),
+        Reply::New(place) => Answer::accepted(1, place),
+        Reply::NotNew(place) => Answer::accepted(0, place),
+        Reply::Removed(place) => Answer::accepted(2, place),
+        Reply::Refused(r) => refused(r),
     }
 }
 
-pub fn of_asked(a: Result<Asked, Refusal>) -> Answer {
+pub fn of_asked(a: Asked) -> Answer {
     match a {
-        Ok(Asked::Maybe) => answer(0, 1),
-        Ok(Asked::None) => answer(0, 0),
-        Err(r) => answer(refused(r), 0),
+        Asked::Maybe => Answer::accepted(1, 0),
+        Asked::None => Answer::accepted(0, 0),
+        Asked::Refused(r) => refused(r),
     }
 }

@@ -1,10 +1,9 @@
 // Each call, made on both engines with the same input: what they leave is compared and counted.
-use super::answers::{of_asked, of_found};
+use super::answers::{Answer, of_asked, of_found};
 use super::engines::{Lengths, after};
 use comparison_report::digest::{Run, Seen, answered, fold_place, same};
 use comparison_report::report::{ASK, LOOK_UP, TALLY, YES, differs, record};
 use model::{Triple, Vocabulary};
-use naive_lists::Answer;
 use query::{End, Pattern, Query};
 use random_sites::random::{at_most, get};
 use random_sites::words::plain_words;
@@ -108,7 +107,7 @@ pub fn look_up(
         object: o,
     };
     let got = of_found(look_up::look_up(list, t));
-    let want = naive_ask::look_up(list, s, p, o);
+    let want = naive_ask::look_up(list, naive_lists::Triple::new(s, p, o)).into();
     settle_answers(rt, tally, LOOK_UP, seed, got, want)?;
     Ok(got)
 }
@@ -157,7 +156,7 @@ pub fn ask(
     query: &[u32],
 ) -> io::Result<u32> {
     let got = of_asked(ask::ask(words, table, map, query_of(query)));
-    let want = naive_ask::ask(plain_words(words), table, map, query);
+    let want = naive_ask::ask(plain_words(words), table, map, query).into();
     settle_answers(rt, tally, ASK, seed, got, want)?;
     Ok(column(got))
 }

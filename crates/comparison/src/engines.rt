@@ -1,9 +1,9 @@
 // One engine runs a call on a table with a roster, over lists of its own, which hold junk before it; all that it leaves is folded.
-use super::answers::{answer, of_counted, of_done};
+use super::answers::{Answer, of_counted, of_done};
 use comparison_report::digest::{Run, Seen, answered, fold_list, fold_roster};
 use comparison_report::report::{CLIQUES, OWN_ROSTER, SATURATE, STRONG};
 use model::Vocabulary;
-use naive_lists::Answer;
+use naive_summary::Equivalence;
 use random_sites::random::at_most;
 use random_sites::words::plain_words;
 use std::io;
@@ -92,20 +92,26 @@ fn by_one(
     if !plain {
         return by_engine(call, words, table, roster, marks, res, first, second);
     }
-    let codes = plain_words(words);
+    let site = naive_checks::Site {
+        words: plain_words(words),
+        table,
+        roster,
+    };
     if call == OWN_ROSTER {
-        return answer(naive_checks::own_roster(codes, table, marks), 0);
+        return naive_checks::own_roster(site.words, table, marks).into();
     }
     if call == SATURATE {
-        return naive_saturation::saturate(codes, table, roster, res);
+        return naive_saturation::saturate(site, res).into();
     }
     if call == CLIQUES {
-        return answer(
-            naive_cliques::cliques(codes, table, roster, first, second),
-            0,
-        );
+        return naive_cliques::cliques(site, first, second).into();
     }
-    naive_summary::summarise(codes, call == STRONG, table, roster, res, first, second)
+    let equivalence = if call == STRONG {
+        Equivalence::Strong
+    } else {
+        Equivalence::Weak
+    };
+    naive_summary::summarise(site, equivalence, res, first, second).into()
 }
 
 // An answer and the lists that it left.

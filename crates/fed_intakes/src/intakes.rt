@@ -9,7 +9,8 @@ use comparison_report::report::{show_answer, show_list, wide};
 use intake_calls::CalledCounts;
 use intake_opening::{Counts, OpenedCounts};
 use model::Vocabulary;
-use naive_intake::{Called, ends_kept};
+use naive_intake::{Lists, Reply, ends_kept};
+use naive_lists::Refusal;
 use random_sites::random::at_most;
 use random_sites::words::plain_words;
 use std::io;
@@ -75,22 +76,23 @@ fn engine_opened(left: OpenedCounts) -> Step {
 }
 
 // An accepted opening makes both counts zero, a refused one leaves them.
-fn plain_opened(refused: u32) -> Step {
-    if refused == 0 {
-        return Step {
-            refused: 0,
-            count: 0,
-            place: 0,
-            held: 0,
-            summarised: 0,
-        };
-    }
+fn plain_opened(answer: Result<naive_intake::Counts, Refusal>) -> Step {
+    let (refused, counts) = match answer {
+        Ok(counts) => (0, counts),
+        Err(refusal) => {
+            let counts = naive_intake::Counts {
+                held: 70,
+                summarised: 71,
+            };
+            (u32::from(refusal), counts)
+        }
+    };
     Step {
-        refused: refused,
+        refused,
         count: 0,
         place: 0,
-        held: 70,
-        summarised: 71,
+        held: counts.held,
+        summarised: counts.summarised,
     }
 }
 
@@ -104,14 +106,13 @@ fn open(
     map: &mut [u32],
 ) -> Step {
     if run.plain {
-        return plain_opened(naive_intake::open(
-            plain_words(words),
-            roster,
+        let lists = Lists {
             triples,
             summary,
             weights,
             map,
-        ));
+        };
+        return plain_opened(lists.open(plain_words(words), roster));
     }
     let counts = Counts {
         held: 70,
@@ -134,24 +135,31 @@ fn engine_called(left: CalledCounts) -> Step {
     }
 }
 
-fn count_of(new: bool, removed: bool) -> usize {
-    if new {
-        return 1;
+fn plain_called(answer: Result<Reply, Refusal>, counts: naive_intake::Counts) -> Step {
+    let (refused, count, place) = match answer {
+        Ok(Reply::New(place)) => (0, 1, place),
+        Ok(Reply::NotNew(place)) => (0, 0, place),
+        Ok(Reply::Removed(place)) => (0, 2, place),
+        Err(refusal) => (u32::from(refusal), 0, 0),
+    };
+    Step {
+        refused,
+        count,
+        place,
+        held: counts.held,
+        summarised: counts.summarised,
     }
-    if removed {
-        return 2;
-    }
-    0
 }
 
-fn plain_called(left: Called) -> Step {
-    Step {
-        refused: left.refused,
-        count: count_of(left.new, left.removed),
-        place: left.place,
-        held: left.held,
-        summarised: left.summarised,
+fn plain_counts(counts: Counts) -> naive_intake::Counts {
+    naive_intake::Counts {
+        held: counts.held,
+        summarised: counts.summarised,
     }
+}
+
+fn plain_triple(call: Call) -> naive_lists::Triple {
+    naive_lists::Triple::new(call.subject, call.property, call.object)
 }
 
 fn feed_plain(
@@ -164,20 +172,21 @@ fn feed_plain(
     map: &mut [u32],
     work: &mut [u32],
 ) -> Step {
-    plain_called(naive_intake::feed(
-        counts.held,
-        counts.summarised,
-        plain_words(call.words),
-        roster,
+    let mut after = plain_counts(counts);
+    let lists = Lists {
         triples,
         summary,
         weights,
         map,
+    };
+    let answer = lists.feed(
+        &mut after,
+        plain_words(call.words),
+        roster,
         work,
-        call.subject,
-        call.property,
-        call.object,
-    ))
+        plain_triple(call),
+    );
+    plain_called(answer, after)
 }
 
 fn remove_plain(
@@ -190,20 +199,21 @@ fn remove_plain(
     map: &mut [u32],
     work: &mut [u32],
 ) -> Step {
-    plain_called(naive_intake::remove(
-        counts.held,
-        counts.summarised,
-        plain_words(call.words),
-        roster,
+    let mut after = plain_counts(counts);
+    let lists = Lists {
         triples,
         summary,
         weights,
         map,
+    };
+    let answer = lists.remove(
+        &mut after,
+        plain_words(call.words),
+        roster,
         work,
-        call.subject,
-        call.property,
-        call.object,
-    ))
+        plain_triple(call),
+    );
+    plain_called(answer, after)
 }
 
 fn feed_engine(
@@ -554,9 +564,7 @@ fn kept(call: Call, roster: &[u8], triples: &[u32], held: usize) -> bool {
         roster,
         triples,
         held,
-        call.subject,
-        call.property,
-        call.object,
+        plain_triple(call),
     )
 }
 

@@ -216,7 +216,7 @@ pub fn make(seed: u64, table: &mut [u32], roster: &mut [u8]) {
     let right = words::right(seed, n);
     fill_table(table, seed, n);
     words::rename(right, table);
-    naive_checks::own_roster(plain_words(right), table, roster);
+    let _ = naive_checks::own_roster(plain_words(right), table, roster);
     mark_more(right, roster, seed);
     damage_table(right, table, seed, n);
     damage_roster(right, roster, seed);
@@ -232,7 +232,11 @@ pub fn base(seed: u64, table: &mut [u32], roster: &mut [u8], list: &mut [u32]) -
         list[..end].copy_from_slice(&table[..end]);
         return end;
     }
-    let right = plain_words(words::right(seed, roster.len()));
-    let answer = naive_saturation::saturate(right, table, roster, list);
-    triples_end(answer.count, list.len())
+    let site = naive_checks::Site {
+        words: plain_words(words::right(seed, roster.len())),
+        table,
+        roster,
+    };
+    let count = naive_saturation::saturate(site, list).unwrap_or(0);
+    triples_end(count, list.len())
 }
