@@ -19,12 +19,10 @@ fn clear_nodes(roster: &[u8], list: &mut [u32])
     requires { length list.old ≡ length roster.now }
     ensures { NodesCleared roster.now list.old list.new (length list.old) }
 {
-    let mut i = 0;
-    while i < roster.len() {
+    for i in 0..roster.len() {
         if roster[i] == 0 {
             list[i] = Code::ABSENT;
         }
-        i += 1;
     }
 }
 
@@ -42,10 +40,7 @@ fn clique_side(words: Vocabulary, table: &[u32], roster: &[u8], sources: bool, l
 fn lengths_wrong(n: usize, sources: usize, targets: usize) -> bool
     ensures { result ≡ (not (eqb sources n) || not (eqb targets n)) }
 {
-    if sources != n {
-        return true;
-    }
-    targets != n
+    sources != n || targets != n
 }
 
 // The smallest property of each property's clique, or absent: by common subjects into `sources`, by common objects into `targets`.

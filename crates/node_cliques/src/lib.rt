@@ -37,22 +37,18 @@ fn label_nodes(none: u32, roster: &[u8], list: &mut [u32])
     requires { SomeProperties roster.now list.old }
     ensures { (A : ℕ → Bool) → FirstProperties A roster.now list.old → NodesLabelled A roster.now none list.old list.new (length roster.now) }
 {
-    let mut i = 0;
-    while i < roster.len() {
+    for i in 0..roster.len() {
         label_node(none, roster, list, i);
-        i += 1;
     }
 }
 
 // Whether a code can be a label: a marked code, or the code of type.
+#[tactic(auto, unfolding(crate::specs::Labels::is_label, model::specs::Roster::unmarked))]
 pub fn is_label(words: Vocabulary, roster: &[u8], i: usize) -> bool
     requires { i < length roster.now }
     ensures { result ≡ is_label words roster.now i }
 {
-    if roster[i] != 0 {
-        return true;
-    }
-    i == wide(words.instance)
+    roster[i] != 0 || i == wide(words.instance)
 }
 
 // Makes the entries of the labels absent.
@@ -60,12 +56,10 @@ fn empty_labels(words: Vocabulary, roster: &[u8], list: &mut [u32])
     requires { length list.old ≡ length roster.now }
     ensures { EntriesFilled (is_label words roster.now) absent list.old list.new (length list.old) }
 {
-    let mut i = 0;
-    while i < roster.len() {
+    for i in 0..roster.len() {
         if is_label(words, roster, i) {
             list[i] = Code::ABSENT;
         }
-        i += 1;
     }
 }
 

@@ -1,6 +1,6 @@
 -- Every node becomes a class of its own, and two classes become one.
 -- Assumes nothing.
-use Prim.Native.Nat.{ℕ, ◌+◌, ◌*◌, ◌<◌, ◌≤◌}
+use Prim.Native.Nat.{ℕ, ◌+◌, ◌<◌}
 use mathlib.Core.Path.{◌≡◌, refl, sym, ◌∙◌, ap, subst}
 use mathlib.Core.Logic.{inl, inr, ⊎_elim}
 use mathlib.Core.Bool.{true}
@@ -33,13 +33,7 @@ module _ (table : List ℕ) (count : ℕ) (map₀ : List ℕ) (o : Openable tabl
   unfolding tabulate
   opened-start = record { size = refl; own = λ c x. absurd (no-mem x.held); none = λ c h k. o.empty c h }
 
-  pub opened-end : (i : ℕ) (l : List ℕ) → i ≤ count → count ≤ i → Opened table i (length map₀) l → Opened table count (length map₀) l
-  opened-end i l a b d = let e : i ≡ count = omega arith in subst (λ (j : ℕ). Opened table j (length map₀) l) e d
-
   module _ (i : ℕ) (h : i < count) where
-    pub opened-place : 3 * i + 2 < length table
-    opened-place = omega (arith, o.places)
-
     module _ (t : Triple) (is : t ≡ at table i) where
       ends-below : Below (length map₀) t
       ends-below = subst (Below (length map₀)) (sym is) (o.below (at table i) (mem-tabulate (at table) 0 count i (omega arith) (omega arith)))

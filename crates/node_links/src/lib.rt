@@ -27,12 +27,10 @@ pub fn open_nodes(table: &[u32], count: usize, map: &mut [u32])
     requires { Openable table.now count map.old }
     ensures { Opened table.now count (length map.old) map.new }
 {
-    let mut i = 0;
-    while i < count {
+    for i in 0..count {
         let t = triple_at(table, i);
         own_entry(map, t.subject);
         own_entry(map, t.object);
-        i += 1;
     }
 }
 
@@ -42,9 +40,10 @@ fn slot(n: usize, sources: bool, property: u32) -> usize
     ensures { result ≡ slot_of n (side_of sources) property }
 {
     if sources {
-        return wide(property);
+        wide(property)
+    } else {
+        n + wide(property)
     }
-    n + wide(property)
 }
 
 // The first node of a slot is held there, and each later one joins its class.

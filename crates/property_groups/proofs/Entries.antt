@@ -13,8 +13,7 @@ use Rattle.model.specs.Roster.{unmarked}
 use Rattle.theory.proofs.Tests.{not_both}
 use Rattle.union_find.specs.Roots.{Forest, root}
 use Rattle.union_find.proofs.Laws.{by_parents, root_top, root-up, set_at}
-use Rattle.union_find.specs.Calls.{ActivePair, United}
-use Rattle.property_groups.specs.Grouping.{group_opened, Linkable, NodeLinked, NodesCleared}
+use Rattle.property_groups.specs.Grouping.{NodesCleared}
 
 -- ── a list with the same entries on a forest ──
 module _ (A : ℕ → Bool) (l l' : List ℕ) (f : Forest A l) (same : (y : ℕ) → A y ≡ true → get_or l' y 0 ≡ get_or l y 0) where
@@ -32,30 +31,13 @@ module _ (A : ℕ → Bool) (l l' : List ℕ) (f : Forest A l) (same : (y : ℕ)
       (λ y h k a. root-up l' y (omega (arith, same y a)) ∙ ap (root l') (same y a) ∙ k (f.links y a) ∙ sym (root-up l y h))
 
 -- ── a property seen for the first time ──
-pub opened-new : (l : List ℕ) (p i v : ℕ) → i ≡ p → v ≡ p → get_or l i 0 ≡ absent → set l i v ≡ group_opened l p
-unfolding group_opened
-opened-new l p i v e q h = rw (eq-eqb (get_or l p 0) absent (ap (λ (j : ℕ). get_or l j 0) (sym e) ∙ h)) (λ k. set l (e k) (q k))
-
-pub opened-old : (l : List ℕ) (p i : ℕ) → i ≡ p → (get_or l i 0 ≡ absent → ⊥) → l ≡ group_opened l p
-unfolding group_opened
-opened-old l p i e h = rw (ne_eqb (get_or l p 0) absent (λ q. h (ap (λ (j : ℕ). get_or l j 0) e ∙ q)))
-
 -- ── a property linked at a node ──
-pub node-first : (l : List ℕ) (n p i : ℕ) → i ≡ n → get_or l i 0 ≡ absent → NodeLinked l (set l i p) n p
-node-first l n p i e h = record { first = λ z. λ k. set l (e k) p; later = λ z. absurd (z (ap (λ (j : ℕ). get_or l j 0) (sym e) ∙ h)) }
-
 module _ (l : List ℕ) (n p i a q : ℕ) (e : i ≡ n) (h : get_or l i 0 ≡ absent → ⊥) (r : a ≡ get_or l i 0) (s : q ≡ p) where
   there : a ≡ get_or l n 0
   there = r ∙ ap (λ (j : ℕ). get_or l j 0) e
 
   named : get_or l n 0 ≡ absent → ⊥
   named z = h (ap (λ (j : ℕ). get_or l j 0) e ∙ z)
-
-  pub node-pair : Linkable l n p → ActivePair l a q
-  node-pair k = rw (there, s) (k.pair named)
-
-  pub node-later : (l' : List ℕ) → United l l' a q → NodeLinked l l' n p
-  node-later l' u = record { first = λ z. absurd (named z); later = λ z. rw (← there, ← s) u }
 
 -- ── the entries of unmarked codes absent ──
 module _ (roster : List ℕ) where

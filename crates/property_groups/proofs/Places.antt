@@ -1,22 +1,20 @@
 -- The triples of a table, place by place, in a clique list.
 -- Assumes nothing.
 use Prim.Native.Nat.{ℕ, ◌+◌, ◌/◌, ◌<◌}
-use mathlib.Core.Path.{◌≡◌, refl, sym, ◌∙◌, ap, subst}
-use mathlib.Core.Logic.{◌⊎◌, inl, inr, ⊎_elim}
+use mathlib.Core.Path.{◌≡◌, refl, sym, ◌∙◌, subst}
+use mathlib.Core.Logic.{inl, inr, ⊎_elim}
 use mathlib.Core.Bool.{Bool, true, false}
 use mathlib.Core.List.Memᴰ.{not-nil as no-mem}
 use mathlib.Core.List.{List, Memᴰ as Mem}
 use native.Mathlib.Omega.{arith}
-use native.Mathlib.Decide.{ℕ_discrete}
 use lib.ListN.{length}
 use Rattle.model.specs.declared.Triple.{Triple}
 use Rattle.model.specs.declared.Vocabulary.{Vocabulary}
 use Rattle.model.specs.Lists.{tabulate}
 use Rattle.model.specs.Triples.{triples, is_data}
 use Rattle.model.specs.Roster.{unmarked}
-use Rattle.model.specs.Cliques.{Side, end, Has, links}
-use Rattle.theory.proofs.Tests.{and_true, and_both, not_both}
-use Rattle.theory.proofs.Lists.{tabulate-mem, mem-tabulate}
+use Rattle.model.specs.Cliques.{Side, end, links}
+use Rattle.theory.proofs.Tests.{and_true, not_both}
 use Rattle.theory.specs.Tables.{Below, Right}
 use Rattle.theory.proofs.Weak.{clique-self}
 use Rattle.theory.proofs.Accepted.{room, below, has-marked}
@@ -101,7 +99,4 @@ module _ (v : Vocabulary) where
       held = λ m h u. inl (d.absents m (omega (arith, d.size)));
     };
   }
-
   -- ── after the last triple ──
-  pub grouped-all : (table roster : List ℕ) (e : Side) (n i : ℕ) (l : List ℕ) → n ≡ length table / 3 → n ≡ i → Grouped v table roster e i l → Grouped v table roster e (length table / 3) l
-  grouped-all table roster e n i l h k g = subst (λ (j : ℕ). Grouped v table roster e j l) (sym k ∙ h) g

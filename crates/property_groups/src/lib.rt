@@ -15,15 +15,15 @@ use roster_checks::{links_at, side_end};
 use union_find::union;
 
 // A property that is seen for the first time becomes a group of its own.
+#[tactic(auto, unfolding(crate::specs::Grouping::group_opened))]
 fn open_property(list: &mut [u32], property: u32)
     requires { property < length list.old }
     ensures { list.new ≡ group_opened list.old property }
 {
     let p = wide(property);
-    if !Code(list[p]).is_absent() {
-        return;
+    if Code(list[p]).is_absent() {
+        list[p] = property;
     }
-    list[p] = property;
 }
 
 // The first property of a node is held in the node's entry; each later one joins that property's group.
@@ -65,11 +65,8 @@ fn link_table(words: Vocabulary, table: &[u32], roster: &[u8], sources: bool, li
     requires { Right words roster.now (triples table.now) × Grouped words table.now roster.now (side_of sources) 0 list.old }
     ensures { Grouped words table.now roster.now (side_of sources) (length table.now / 3) list.new }
 {
-    let n = table.len() / 3;
-    let mut i = 0;
-    while i < n {
+    for i in 0..table.len() / 3 {
         link_at(words, table, roster, sources, list, i);
-        i += 1;
     }
 }
 

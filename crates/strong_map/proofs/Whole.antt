@@ -1,11 +1,10 @@
 -- The whole function: the two halves of the work list, and what each step leaves for the next.
 -- Assumes nothing.
-use Prim.Native.Nat.{ℕ, ◌-◌, ◌*◌, ◌/◌, ◌<◌}
+use Prim.Native.Nat.{ℕ, ◌*◌, ◌/◌, ◌<◌}
 use mathlib.Core.Path.{◌≡◌, sym, subst, ◌∙◌, ap}
-use mathlib.Core.List.{List, [], ◌++◌, append-nil}
+use mathlib.Core.List.{List, ◌++◌}
 use native.Mathlib.Omega.{arith}
-use lib.ListN.{length, get_or, take, drop, length-drop, drop_of_length-le}
-use lib.Seq.{take_at, drop_at}
+use lib.ListN.{length, get_or}
 use Rattle.model.specs.declared.Triple.{Triple}
 use Rattle.model.specs.declared.Vocabulary.{Vocabulary}
 use Rattle.model.specs.Codes.{absent}
@@ -22,26 +21,7 @@ use Rattle.weak_map.proofs.Call.{openable}
 use Rattle.node_cliques.specs.Labels.{node_cliques}
 use Rattle.thread_settling.specs.Threads.{Groups, Threaded}
 use Rattle.thread_settling.specs.Calls.{Labelled, SomeLabelled, Settling, SomeSettling}
-use Rattle.strong_map.proofs.Ends.{groups, size_of, labelled, threaded-settling, map-end}
-
--- two parts of a list, stored one after the other
-two-parts : (n : ℕ) (w a b x y : List ℕ) → length w ≡ 2 * n → length a ≡ n → length b ≡ n → x ≡ take 0 w ++ (a ++ drop (n - 0) (drop 0 w))
-    → y ≡ take n x ++ (b ++ drop (2 * n - n) (drop n x)) → y ≡ a ++ b
-two-parts n w a b x y lw la lb p q =
-    let less : n - 0 ≡ n = omega arith in
-    let x-is : x ≡ a ++ drop n w = p ∙ ap (λ (k : ℕ). a ++ drop k w) less in
-    let front : take n x ≡ a = ap (take n) x-is ∙ take_at a (drop n w) n la in
-    let rest : drop n x ≡ drop n w = ap (drop n) x-is ∙ drop_at a (drop n w) n la in
-    let none_left : drop (2 * n - n) (drop n x) ≡ [] = ap (drop (2 * n - n)) rest ∙ drop_of_length-le (drop n w) {i = 2 * n - n} (omega (arith, length-drop n w)) in
-    q ∙ (λ j. front j ++ (b ++ none_left j)) ∙ ap (λ (z : List ℕ). a ++ z) (append-nil b)
-
-pub both-parts : (v : Vocabulary) (roster : List ℕ) (ts : List Triple) (w a b x y : List ℕ) → length w ≡ 2 * length roster
-    → a ≡ node_cliques v roster source ts → b ≡ node_cliques v roster target ts
-    → x ≡ take 0 w ++ (a ++ drop (length roster - 0) (drop 0 w)) → y ≡ take (length roster) x ++ (b ++ drop (2 * length roster - length roster) (drop (length roster) x))
-    → y ≡ node_cliques v roster source ts ++ node_cliques v roster target ts
-both-parts v roster ts w a b x y l p q ex ey =
-    two-parts (length roster) w a b x y l (ap {B = ℕ} (λ (z : List ℕ). length z) p ∙ size_of v roster source ts) (ap {B = ℕ} (λ (z : List ℕ). length z) q ∙ size_of v roster target ts) ex ey
-    ∙ (λ j. p j ++ q j)
+use Rattle.strong_map.proofs.Ends.{groups, labelled, threaded-settling, map-end}
 
 module _ (v : Vocabulary) (table roster map work : List ℕ) (R : Right v roster (triples table)) (lm : length map ≡ length roster) (lw : length work ≡ 2 * length roster) where
   abbrev count : ℕ

@@ -21,14 +21,12 @@ use node_links::open_nodes;
 use thread_settling::settle_labels;
 
 // Whether a code is a data node, where the map's entry of each node is the node itself.
+#[tactic(auto, unfolding(thread_settling::specs::Calls::data_node, model::specs::Roster::unmarked))]
 fn is_data_node(roster: &[u8], map: &[u32], i: usize) -> bool
     requires { (i < length roster.now) × (i < length map.now) }
     ensures { result ≡ data_node roster.now map.now i }
 {
-    if Code(map[i]).is_absent() {
-        return false;
-    }
-    roster[i] == 0
+    !Code(map[i]).is_absent() && roster[i] == 0
 }
 
 // A data node becomes the first of its thread.
@@ -49,9 +47,7 @@ fn thread_nodes(roster: &[u8], map: &mut [u32], work: &mut [u32])
     requires { SomeLabelled roster.now map.old work.old }
     ensures { (g : Groups) → Labelled g roster.now map.old work.old → Threaded g 0 map.old map.new work.old work.new }
 {
-    let mut i = map.len();
-    while 0 < i {
-        i -= 1;
+    for i in (0..map.len()).rev() {
         thread_node(roster, map, work, i);
     }
 }

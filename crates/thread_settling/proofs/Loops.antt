@@ -93,9 +93,6 @@ module _ (g : Groups) (before map₀ work₀ : List ℕ) (n a : ℕ) (K : Walkab
   work-length : length work₀ ≡ n + n
   work-length = K.state.work_size ∙ ap (λ (z : ℕ). z + z) K.size
 
-  pub head-inside : (w : ℕ) → w ≡ a → w < length work₀
-  head-inside w e = let b = K.sites.label_below a K.label in omega (arith, K.size, work-length)
-
   pub walking_start : (w c : ℕ) → w ≡ a → c ≡ get_or work₀ w 0 → Walking g n a c map₀ map₀ work₀ work₀
   walking_start w c e q =
       record {

@@ -11,14 +11,12 @@ use model::Vocabulary;
 use node_cliques::is_label;
 
 // Whether a stamp was left in the thread of a: its node has this label.
+#[tactic(auto, unfolding(crate::specs::Calls::stamped))]
 fn is_stamped(work: &[u32], stamp: u32, a: u32) -> bool
     requires { (stamp ≡ absent → ⊥) → stamp < length work.now }
     ensures { result ≡ stamped work.now stamp a }
 {
-    if Code(stamp).is_absent() {
-        return false;
-    }
-    work[wide(stamp)] == a
+    !Code(stamp).is_absent() && work[wide(stamp)] == a
 }
 
 // The node i of the thread of a gets its representative. The result is the next node of the thread.
@@ -54,10 +52,9 @@ fn settle_label(words: Vocabulary, roster: &[u8], map: &mut [u32], work: &mut [u
     requires { SomeSettling words roster.now map.old work.old a × (a < length roster.now) }
     ensures { (g : Groups) (before : List ℕ) → Settling words g before roster.now map.old work.old a → Settling words g before roster.now map.new work.new (a + 1) }
 {
-    if !is_label(words, roster, a) {
-        return;
+    if is_label(words, roster, a) {
+        walk(map, work, roster.len(), narrow(a));
     }
-    walk(map, work, roster.len(), narrow(a));
 }
 
 // Settles all threads.
@@ -65,9 +62,7 @@ pub fn settle_labels(words: Vocabulary, roster: &[u8], map: &mut [u32], work: &m
     requires { SomeSettling words roster.now map.old work.old 0 }
     ensures { (g : Groups) (before : List ℕ) → Settling words g before roster.now map.old work.old 0 → Settling words g before roster.now map.new work.new (length roster.now) }
 {
-    let mut a = 0;
-    while a < roster.len() {
+    for a in 0..roster.len() {
         settle_label(words, roster, map, work, a);
-        a += 1;
     }
 }

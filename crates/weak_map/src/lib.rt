@@ -28,27 +28,20 @@ fn link_table(
     requires { Started words table.now count roster.now map.old work.old }
     ensures { AllSeen words roster.now (tabulate (at table.now) 0 count) map.new work.new }
 {
-    let mut i = 0;
-    while i < count {
+    for i in 0..count {
         let t = triple_at(table, i);
         link_end(words, roster, true, t, map, work);
         link_end(words, roster, false, t, map, work);
-        i += 1;
     }
 }
 
 // Whether a code is a data node without a data triple.
+#[tactic(auto, unfolding(node_links::specs::Calls::bare, model::specs::Roster::unmarked))]
 fn is_bare(roster: &[u8], map: &[u32], work: &[u32], i: usize) -> bool
     requires { (i < length roster.now) × (i < length map.now) × (i < length work.now) }
     ensures { result ≡ bare roster.now map.now work.now i }
 {
-    if Code(map[i]).is_absent() {
-        return false;
-    }
-    if roster[i] != 0 {
-        return false;
-    }
-    Code(work[i]).is_absent()
+    !Code(map[i]).is_absent() && roster[i] == 0 && Code(work[i]).is_absent()
 }
 
 // A data node without a data triple joins the class of the first such node. The result is the first one so far, or absent.
@@ -72,10 +65,8 @@ fn join_bare(roster: &[u8], map: &mut [u32], work: &[u32])
     ensures { (v : Vocabulary) (ts : List Triple) → AllSeen v roster.now ts map.old work.now → Complete v roster.now ts map.new }
 {
     let mut first = Code::ABSENT;
-    let mut i = 0;
-    while i < map.len() {
+    for i in 0..map.len() {
         first = join_bare_at(roster, map, work, first, i);
-        i += 1;
     }
 }
 

@@ -1,10 +1,7 @@
 use native.Mathlib.Omega.{arith}
-use Rattle.property_groups.proofs.Entries.{cleared-start, cleared-node, cleared-marked, cleared-end}
+use Rattle.property_groups.proofs.Entries.{cleared-node, cleared-marked}
 use Rattle.cliques.proofs.clear_nodes.Goals as goal
 use Rattle.cliques.proofs.clear_nodes.Goals.{else-roster-i-eq0, then-roster-i-eq0}
-
-pub loop-i-init : goal.loop-i-init
-loop-i-init c = cleared-start _ _
 
 pub loop-i-preserved : goal.loop-i-preserved
 loop-i-preserved c = let d = c.loop-i.invariant in
@@ -12,9 +9,3 @@ loop-i-preserved c = let d = c.loop-i.invariant in
       | then-roster-i-eq0 w ↦ cleared-node _ _ _ _ d (omega (arith, d.size)) w.if-roster-i-eq0.true _ w.list-is
       | else-roster-i-eq0 w ↦ cleared-marked _ _ _ _ d w.if-roster-i-eq0.false _ w.list-is
     ]
-
-pub shape_of-list : goal.shape_of-list
-shape_of-list c = c.loop-i.invariant.size
-
-pub returns : goal.returns
-returns c = cleared-end _ _ _ _ c.loop-i.invariant (omega arith)

@@ -1,5 +1,3 @@
-use Prim.Native.Nat.{◌-◌}
-use lib.ListN.{length}
 use Rattle.model.specs.Codes.{absent}
 use Rattle.node_cliques.specs.Labels.{is_label}
 use Rattle.node_cliques.specs.Labelling.{EntriesFilled}
@@ -7,6 +5,3 @@ use Rattle.node_cliques.proofs.empty_labels.Given as goal
 
 abbrev pub invariant-loop-i : goal.invariant-loop-i
 invariant-loop-i l = EntriesFilled (is_label l.words l.roster) absent l.initial.list l.list l.i
-
-abbrev pub decreases-loop-i : goal.decreases-loop-i
-decreases-loop-i l = length l.roster - l.i

@@ -2,27 +2,11 @@ use mathlib.Core.Path.{sym, ◌∙◌}
 use native.Mathlib.Omega.{arith}
 use borrow.Author.Tests.{eqb-true, eqb-false}
 use Rattle.node_cliques.proofs.Fills.{is_plain, is-marked}
-use Rattle.node_cliques.proofs.Labelling.{node-inside, label-marked, label-none, find_ready, root-small, label-root}
+use Rattle.node_cliques.proofs.Labelling.{label-marked, label-none, find_ready, root-small, label-root}
 use Rattle.node_cliques.proofs.label_node.Goals as goal
 
 pub returns-then-roster-i-ne0 : goal.returns-then-roster-i-ne0
 returns-then-roster-i-ne0 c = λ A b L. label-marked A _ _ b _ _ L c.requires.1 (is-marked c.args.roster.now c.args.i (λ z. omega arith))
-
-pub offset_bounds-list-i : goal.offset_bounds-list-i
-offset_bounds-list-i c = let K = c.requires.0 in
-    omega (arith, node-inside K.A _ _ K.before _ _ K.labelling c.requires.1)
-
-pub bounds-list-i : goal.bounds-list-i
-bounds-list-i c = let K = c.requires.0 in
-    node-inside K.A _ _ K.before _ _ K.labelling c.requires.1
-
-pub offset_bounds-list-i-then-is_absent : goal.offset_bounds-list-i-then-is_absent
-offset_bounds-list-i-then-is_absent c = let K = c.requires.0 in
-    omega (arith, node-inside K.A _ _ K.before _ _ K.labelling c.requires.1)
-
-pub bounds-list-i-then-is_absent : goal.bounds-list-i-then-is_absent
-bounds-list-i-then-is_absent c = let K = c.requires.0 in
-    node-inside K.A _ _ K.before _ _ K.labelling c.requires.1
 
 pub returns-then-is_absent : goal.returns-then-is_absent
 returns-then-is_absent c = λ A b L. label-none A _ _ b _ _ L c.requires.1 (is_plain c.args.roster.now c.args.i (omega arith))

@@ -1,14 +1,7 @@
 use mathlib.Core.Path.{refl, sym, ◌∙◌}
-use native.Mathlib.Omega.{arith}
 use borrow.Author.Tests.{eqb-true, eqb-false}
-use Rattle.thread_settling.proofs.Loops.{head-inside, walking_start, walking_end, settle_ready, walking_step, walking_less}
+use Rattle.thread_settling.proofs.Loops.{walking_start, walking_end, settle_ready, walking_step, walking_less}
 use Rattle.thread_settling.proofs.walk.Goals as goal
-
-pub offset_bounds-work-wide : goal.offset_bounds-work-wide
-offset_bounds-work-wide c = omega (arith, head-inside c.requires.groups c.requires.before _ _ _ _ c.requires.state _ c.wide.ensures)
-
-pub bounds-work-wide : goal.bounds-work-wide
-bounds-work-wide c = head-inside c.requires.groups c.requires.before _ _ _ _ c.requires.state _ c.wide.ensures
 
 pub loop-map-init : goal.loop-map-init
 loop-map-init c = λ g b k. walking_start g b _ _ _ _ k _ _ c.wide.ensures refl
@@ -25,12 +18,6 @@ loop-map-smaller c = walking_less c.requires.groups c.requires.before _ _ _ _ c.
 pub loop-map-preserved : goal.loop-map-preserved
 loop-map-preserved c = λ g b k. walking_step g b _ _ _ _ k _ _ _ (c.loop-map.invariant g b k)
     (eqb-false _ _ (sym c.is_absent.ensures ∙ c.loop-map-test.true)) _ c.wide-in-loop-map.ensures _ _ _ c.settle-c.ensures
-
-pub shape_of-map : goal.shape_of-map
-shape_of-map c = (c.loop-map.invariant c.requires.groups c.requires.before c.requires.state).state.map_size
-
-pub shape_of-work : goal.shape_of-work
-shape_of-work c = (c.loop-map.invariant c.requires.groups c.requires.before c.requires.state).state.work_size
 
 pub returns : goal.returns
 returns c = λ g b k. walking_end g b _ _ _ _ k _ _ _ (c.loop-map.invariant g b k)

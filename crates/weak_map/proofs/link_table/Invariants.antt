@@ -1,11 +1,7 @@
-use Prim.Native.Nat.{◌-◌, ◌≤◌}
 use Rattle.model.specs.Lists.{tabulate}
 use Rattle.lists.specs.Flat.{at}
 use Rattle.node_links.specs.Linking.{Linked, Seen}
 use Rattle.weak_map.proofs.link_table.Given as goal
 
 abbrev pub invariant-loop-i : goal.invariant-loop-i
-invariant-loop-i l = (l.i ≤ l.count) × Linked l.words l.roster (tabulate (at l.table) 0 l.count) (Seen l.words l.table l.roster l.i l.i) l.map l.work
-
-abbrev pub decreases-loop-i : goal.decreases-loop-i
-decreases-loop-i l = l.count - l.i
+invariant-loop-i l = Linked l.words l.roster (tabulate (at l.table) 0 l.count) (Seen l.words l.table l.roster l.i l.i) l.map l.work

@@ -11,9 +11,6 @@ link_table-requires c = started _ c.args.table.now c.args.count c.args.roster.no
     c.empty.ensures _
     c.empty-2.ensures _ c.open_nodes.ensures
 
-pub join_bare-requires : goal.join_bare-requires
-join_bare-requires c = record { words = _; ts = _; state = c.link_table.ensures }
-
 pub returns : goal.returns
 returns c = called _ c.args.table.now c.args.count c.args.roster.now c.args.map.now c.args.work.now c.requires _ _ _ _ _ _
     c.link_table.ensures
