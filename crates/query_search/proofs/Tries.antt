@@ -23,8 +23,7 @@ use Rattle.query.specs.declared.End.{End}
 use Rattle.query.specs.declared.End.TheVariants.{Var, Code}
 use Rattle.query.specs.declared.Pattern.{Pattern}
 use Rattle.query.specs.declared.Query.{Query}
-use Rattle.query.specs.declared.Fit.{Fit}
-use Rattle.query.specs.Ask.{pattern_at, fit_end, fit_triple, wrong_query}
+use Rattle.query.specs.Ask.{Fit, pattern_at, fit_end, fit_triple, wrong_query}
 use Rattle.query.specs.Match.{stands_for, pattern_triple}
 use Rattle.query.specs.Choices.{Agrees, Puts, CanPut, Present}
 use Rattle.query.proofs.Steps.{Good, GoodQuery, good-query, Fitting, triple-complete, Tried, triple-sound}
