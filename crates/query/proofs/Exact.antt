@@ -21,9 +21,8 @@ use Rattle.model.specs.Cliques.{Side, source, target, end}
 use Rattle.model.specs.Outcomes.{Outcome, accepted, decided, wrong_size, wrong_length}
 use Rattle.query.specs.declared.Pattern.{Pattern}
 use Rattle.query.specs.declared.Query.{Query}
-use Rattle.query.specs.declared.Fit.{Fit}
 use Rattle.theory.proofs.Checks.{passes-first}
-use Rattle.query.specs.Ask.{blank, pattern_at, unbound, fit_triple, tried, search, wrong_query, retired, ask_checks, ask_outcome}
+use Rattle.query.specs.Ask.{Fit, blank, pattern_at, unbound, fit_triple, tried, search, wrong_query, retired, ask_checks, ask_outcome}
 use Rattle.query.specs.Match.{NodeOf, pattern_triple, Choice, AskAccepted, Exact, AskExact}
 use Rattle.query.specs.Choices.{Agrees, Puts, CanPut, Present}
 use Rattle.theory.proofs.Tests.{and_left, and_right, neither_left, neither_right, not_true_false}

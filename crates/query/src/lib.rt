@@ -35,13 +35,6 @@ pub enum Asked {
     None,
 }
 
-// Whether a pattern's end fits a node, and the variables' nodes afterwards.
-#[derive(Clone, Copy)]
-pub struct Fit {
-    pub bindings: [u32; 8],
-    pub fits: bool,
-}
-
 // The pattern `((v 0) 0 (v 0))`, which stands in the places past a query's count.
 pub fn blank_pattern() -> Pattern
     ensures { result ≡ blank }

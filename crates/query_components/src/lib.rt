@@ -14,37 +14,20 @@ use query::{End, Pattern, Query};
 fn same_variable(e: End, f: End, bindings: [u32; 8]) -> bool
     ensures { (v : ℕ) → v < 8 → get_or bindings v 0 ≡ absent → e ≡ Var v → f ≡ Var v → result ≡ true }
 {
-    let End::Var(v) = e else {
-        return false;
-    };
-    let End::Var(w) = f else {
-        return false;
-    };
-    if v != w {
-        return false;
+    match (e, f) {
+        (End::Var(v), End::Var(w)) => v == w && Code(bindings[(v % 8) as usize]).is_absent(),
+        _ => false,
     }
-    let node = bindings[(v % 8) as usize];
-    Code(node).is_absent()
 }
 
 // Whether two patterns share a variable that has no node.
 fn share(p: Pattern, o: Pattern, bindings: [u32; 8]) -> bool
     ensures { (v : ℕ) → v < 8 → get_or bindings v 0 ≡ absent → Holds v p → Holds v o → result ≡ true }
 {
-    let a = p.subject;
-    let b = p.object;
-    let c = o.subject;
-    let d = o.object;
-    if same_variable(a, c, bindings) {
-        return true;
-    }
-    if same_variable(a, d, bindings) {
-        return true;
-    }
-    if same_variable(b, c, bindings) {
-        return true;
-    }
-    same_variable(b, d, bindings)
+    same_variable(p.subject, o.subject, bindings)
+        || same_variable(p.subject, o.object, bindings)
+        || same_variable(p.object, o.subject, bindings)
+        || same_variable(p.object, o.object, bindings)
 }
 
 // Whether a pattern from the k-th to before the z-th shares a variable that has no node with p.
@@ -52,13 +35,10 @@ fn touched(q: Query, k: usize, z: usize, p: Pattern, bindings: [u32; 8]) -> bool
     requires { z ≤ 8 }
     ensures { (i v : ℕ) → v < 8 → get_or bindings v 0 ≡ absent → k ≤ i → i < z → Holds v (pattern_at q i) → Holds v p → result ≡ true }
 {
-    let mut i = k;
-    while i < z {
-        let o = q.patterns[i];
-        if share(o, p, bindings) {
+    for i in k..z {
+        if share(q.patterns[i], p, bindings) {
             return true;
         }
-        i += 1;
     }
     false
 }
@@ -68,14 +48,10 @@ fn apart(q: Query, k: usize, z: usize, bindings: [u32; 8]) -> bool
     requires { (z ≤ 8) × (q.count ≤ 8) }
     ensures { result ≡ true → Apart bindings q k z }
 {
-    let count = q.count as usize;
-    let mut j = z;
-    while j < count {
-        let p = q.patterns[j];
-        if touched(q, k, z, p, bindings) {
+    for j in z..q.count as usize {
+        if touched(q, k, z, q.patterns[j], bindings) {
             return false;
         }
-        j += 1;
     }
     true
 }
@@ -86,12 +62,10 @@ pub fn part_end(q: Query, k: usize, j: usize, bindings: [u32; 8]) -> usize
     ensures { PartEnd bindings q k j result }
 {
     let count = q.count as usize;
-    let mut z = j + 1;
-    while z < count {
+    for z in j + 1..count {
         if apart(q, k, z, bindings) {
             return z;
         }
-        z += 1;
     }
     count
 }

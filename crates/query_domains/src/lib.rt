@@ -12,30 +12,26 @@ use query::{End, Pattern, Query};
 use query_rows::{allowed, copy_row, put_in, set_row};
 
 // Whether an end may stand for the node x: a variable within its domain, a code by its map entry.
+#[tactic(auto, unfolding(crate::specs::Domains::stands_at, query::specs::Ask::wrong_pattern_end))]
 fn may_stand(map: &[u32], rows: &[u64], e: End, x: u32) -> bool
     requires { (wrong_pattern_end (length map.now) e ≡ false) × (length rows.now ≤ 13312) }
     ensures { result ≡ stands_at map.now rows.now e x }
 {
     match e {
-        End::Var(v) => allowed(rows, e, x),
+        End::Var(_) => allowed(rows, e, x),
         End::Code(c) => map[c as usize] == x,
     }
 }
 
 // False only where both ends are one variable and x is not y.
+#[tactic(auto, unfolding(crate::specs::Domains::ends_agree))]
 fn ends_agree(e: End, f: End, x: u32, y: u32) -> bool
     ensures { result ≡ ends_agree e f x y }
 {
-    let End::Var(v) = e else {
-        return true;
-    };
-    let End::Var(w) = f else {
-        return true;
-    };
-    if v == w {
-        return x == y;
+    match (e, f) {
+        (End::Var(v), End::Var(w)) => v != w || x == y,
+        _ => true,
     }
-    true
 }
 
 // Whether the triple at place i supports the pattern within the domains.
@@ -44,20 +40,10 @@ fn supported(table: &[u32], map: &[u32], rows: &[u64], p: Pattern, i: usize) -> 
     ensures { result ≡ supports map.now rows.now p (at table.now i) }
 {
     let triple = lists::triple_at(table, i);
-    if triple.property != p.property {
-        return false;
-    }
-    let subject = p.subject;
-    let x = triple.subject;
-    if !may_stand(map, rows, subject, x) {
-        return false;
-    }
-    let object = p.object;
-    let y = triple.object;
-    if !may_stand(map, rows, object, y) {
-        return false;
-    }
-    ends_agree(subject, object, x, y)
+    triple.property == p.property
+        && may_stand(map, rows, p.subject, triple.subject)
+        && may_stand(map, rows, p.object, triple.object)
+        && ends_agree(p.subject, p.object, triple.subject, triple.object)
 }
 
 // Marks the ends of the triple at place i in rows 8 and 9, if it supports the pattern. Whether it does.
@@ -79,13 +65,9 @@ fn mark_all(table: &[u32], map: &[u32], rows: &mut [u64], p: Pattern) -> bool
     requires { (wrong_pattern_end (length map.now) p.subject ≡ false) × (wrong_pattern_end (length map.now) p.object ≡ false) × Sized rows.old }
     ensures { AllMarked table.now map.now rows.old rows.new p (length table.now / 3) result }
 {
-    let n = table.len() / 3;
     let mut some = false;
-    let mut i = 0;
-    while i < n {
-        let here = mark_triple(table, map, rows, p, i);
-        some = some | here;
-        i += 1;
+    for i in 0..table.len() / 3 {
+        some |= mark_triple(table, map, rows, p, i);
     }
     some
 }
@@ -95,11 +77,8 @@ fn keep_end(rows: &mut [u64], e: End, v: usize)
     requires { Sized rows.old × VariableBelow e × (8 ≤ v) × (v < 10) }
     ensures { DomainKept rows.old rows.new e v }
 {
-    match e {
-        End::Var(u) => {
-            copy_row(rows, u as usize, v);
-        }
-        End::Code(c) => {}
+    if let End::Var(u) = e {
+        copy_row(rows, u as usize, v);
     }
 }
 
@@ -113,10 +92,8 @@ fn sweep(table: &[u32], map: &[u32], rows: &mut [u64], p: Pattern) -> bool
     if !mark_all(table, map, rows, p) {
         return false;
     }
-    let subject = p.subject;
-    let object = p.object;
-    keep_end(rows, subject, 8);
-    keep_end(rows, object, 9);
+    keep_end(rows, p.subject, 8);
+    keep_end(rows, p.object, 9);
     true
 }
 
@@ -126,11 +103,11 @@ fn fill_row(rows: &mut [u64], v: usize, node: u32)
     ensures { RowFilled rows.old rows.new v node }
 {
     if Code(node).is_absent() {
-        set_row(rows, v, 18446744073709551615);
-        return;
+        set_row(rows, v, u64::MAX);
+    } else {
+        set_row(rows, v, 0);
+        put_in(rows, v, node);
     }
-    set_row(rows, v, 0);
-    put_in(rows, v, node);
 }
 
 // The domains before any pass.
@@ -138,11 +115,8 @@ fn fill(rows: &mut [u64], bindings: [u32; 8])
     requires { Sized rows.old }
     ensures { Filled rows.old rows.new bindings }
 {
-    let mut v = 0;
-    while v < 8 {
-        let node = bindings[v];
-        fill_row(rows, v, node);
-        v += 1;
+    for v in 0..8 {
+        fill_row(rows, v, bindings[v]);
     }
 }
 
@@ -159,11 +133,8 @@ pub fn sweep_all(
     ensures { SweptAll table.now map.now rows.old rows.new q k bindings result }
 {
     fill(rows, bindings);
-    let mut j = q.count as usize;
-    while k < j {
-        j -= 1;
-        let p = q.patterns[j];
-        if !sweep(table, map, rows, p) {
+    for j in (k..q.count as usize).rev() {
+        if !sweep(table, map, rows, q.patterns[j]) {
             return false;
         }
     }

@@ -1,24 +1,19 @@
--- Checks 6 and 12, and an end against a node, branch by branch.
+-- Checks 6 and 12, branch by branch.
 -- Assumes nothing.
 use Prim.Native.Nat.{ℕ, ◌<◌, ◌≤◌}
 use native.Mathlib.Omega.{arith}
 use mathlib.Core.Path.{◌≡◌, ◌∙◌}
 use mathlib.Core.Bool.{Bool, true, false}
-use mathlib.Core.List.{List}
-use lib.Dec.{eqb, leb, ltb}
-use lib.ListN.{get_or, set}
-use borrow.Author.Tests.{lt-ltb, le-ltb, le-leb, lt-leb, eq-eqb, ne_eqb, ltb-false, leb-false}
+use lib.Dec.{leb, ltb}
+use borrow.Author.Tests.{lt-ltb, le-ltb, eq-eqb, ne_eqb, ltb-false, leb-false}
 use Rattle.model.specs.declared.Vocabulary.{Vocabulary}
-use Rattle.model.specs.Codes.{absent}
 use Rattle.model.specs.Lists.{any, tabulate}
-use Rattle.model.specs.Partition.{label}
 use Rattle.query.specs.declared.End.{End}
 use Rattle.query.specs.declared.End.TheVariants.{Var, Code}
-use Rattle.query.specs.declared.Pattern.{Pattern}
 use Rattle.query.specs.declared.Query.{Query}
-use Rattle.query.specs.Ask.{pattern_at, fit, fit_end, wrong_pattern_end, wrong_pattern, counted_patterns, wrong_query, asks_schema, retired}
+use Rattle.query.specs.Ask.{pattern_at, wrong_pattern_end, wrong_pattern, counted_patterns, wrong_query, asks_schema, retired}
 
--- ── check 6 of an end and of a pattern ──
+-- ── check 6 of an end ──
 pub end-variable : (n v : ℕ) (e : End) → e ≡ Var v → ltb 7 v ≡ wrong_pattern_end n e
 unfolding wrong_pattern_end
 end-variable n v e h = rw h
@@ -26,20 +21,6 @@ end-variable n v e h = rw h
 pub end-code : (n c : ℕ) (e : End) → e ≡ Code c → leb n c ≡ wrong_pattern_end n e
 unfolding wrong_pattern_end
 end-code n c e h = rw h
-
-module _ (n : ℕ) (p : Pattern) where
-  pub wrong-subject : wrong_pattern_end n p.subject ≡ true → true ≡ wrong_pattern n p
-  unfolding wrong_pattern
-  wrong-subject e = rw e
-
-  module _ (e : wrong_pattern_end n p.subject ≡ false) where
-    pub wrong-property : n ≤ p.property → true ≡ wrong_pattern n p
-    unfolding wrong_pattern
-    wrong-property h = rw (e, le-leb _ _ h)
-
-    pub wrong-object : p.property < n → wrong_pattern_end n p.object ≡ wrong_pattern n p
-    unfolding wrong_pattern
-    wrong-object h = rw (e, lt-leb _ _ h)
 
 -- ── check 6 of a query ──
 module _ (n : ℕ) (q : Query) where
@@ -68,17 +49,3 @@ variable-below n v e h w = omega (arith, ltb-false 7 v (end-variable n v e h ∙
 
 pub code_below : (n c : ℕ) (e : End) → e ≡ Code c → wrong_pattern_end n e ≡ false → c < n
 code_below n c e h w = leb-false n c (end-code n c e h ∙ w)
-
-module _ (map : List ℕ) (e : End) (x : ℕ) (b : List ℕ) where
-  module _ (v : ℕ) (h : e ≡ Var v) where
-    pub fit-unbound : get_or b v 0 ≡ absent → fit true (set b v x) ≡ fit_end map e x b
-    unfolding fit_end
-    fit-unbound n = rw (h, eq-eqb _ _ n)
-
-    pub fit-bound : (get_or b v 0 ≡ absent → ⊥) → fit (eqb (get_or b v 0) x) b ≡ fit_end map e x b
-    unfolding fit_end
-    fit-bound n = rw (h, ne_eqb _ _ n)
-
-  pub fit-code : (c : ℕ) → e ≡ Code c → get_or map c 0 ≡ label map c → fit (eqb (get_or map c 0) x) b ≡ fit_end map e x b
-  unfolding fit_end
-  fit-code c h n = rw (h, n)

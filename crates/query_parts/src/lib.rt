@@ -2,11 +2,12 @@
 #![tactic(auto)]
 
 ghost use Rattle.std.specs.Prelude.{◌≡◌, false, ◌≤◌, length};
+ghost use Rattle.query.specs.Kept.{kept};
 ghost use Rattle.query.specs.Ask.{fit_end, wrong_pattern_end, wrong_pattern, wrong_query, retired};
 
 use lists::Code;
 use model::Vocabulary;
-use query::{End, Fit, Pattern, Query};
+use query::{End, Pattern, Query};
 
 #[tactic(auto, unfolding(query::specs::Ask::wrong_pattern_end))]
 fn end_wrong(e: End, n: usize) -> bool
@@ -54,33 +55,19 @@ pub fn query_retired(words: Vocabulary, q: Query) -> bool
     false
 }
 
-// An end against the node x. A code stands for its map entry; a variable without a node takes x.
-pub fn fit_end(map: &[u32], e: End, x: u32, bindings: [u32; 8]) -> Fit
+// The bindings after an end is put at the node x, if it fits there. A code stands for its map entry; a variable without a node takes x.
+#[tactic(auto, unfolding(query::specs::Ask::fit_end, query::specs::Ask::wrong_pattern_end))]
+pub fn fit_end(map: &[u32], e: End, x: u32, bindings: [u32; 8]) -> Option<[u32; 8]>
     requires { wrong_pattern_end (length map.now) e ≡ false }
-    ensures { result ≡ fit_end map.now e x bindings }
+    ensures { result ≡ kept (fit_end map.now e x bindings) }
 {
     match e {
-        End::Var(v) => {
-            let node = bindings[v as usize];
-            if Code(node).is_absent() {
-                let mut more = bindings;
-                more[v as usize] = x;
-                return Fit {
-                    bindings: more,
-                    fits: true,
-                };
-            }
-            Fit {
-                bindings: bindings,
-                fits: node == x,
-            }
+        End::Var(v) if Code(bindings[v as usize]).is_absent() => {
+            let mut more = bindings;
+            more[v as usize] = x;
+            Some(more)
         }
-        End::Code(c) => {
-            let entry = map[c as usize];
-            Fit {
-                bindings: bindings,
-                fits: entry == x,
-            }
-        }
+        End::Var(v) => (bindings[v as usize] == x).then_some(bindings),
+        End::Code(c) => (map[c as usize] == x).then_some(bindings),
     }
 }

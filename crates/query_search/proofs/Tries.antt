@@ -23,8 +23,9 @@ use Rattle.query.specs.declared.End.{End}
 use Rattle.query.specs.declared.End.TheVariants.{Var, Code}
 use Rattle.query.specs.declared.Pattern.{Pattern}
 use Rattle.query.specs.declared.Query.{Query}
-use Rattle.query.specs.declared.Fit.{Fit}
-use Rattle.query.specs.Ask.{pattern_at, fit_end, fit_triple, wrong_query}
+use Rattle.query.specs.Ask.{Fit, pattern_at, fit_end, fit_triple, wrong_query}
+use Rattle.std.specs.Prelude.{Some, None}
+use Rattle.query.specs.Kept.{kept}
 use Rattle.query.specs.Match.{stands_for, pattern_triple}
 use Rattle.query.specs.Choices.{Agrees, Puts, CanPut, Present}
 use Rattle.query.proofs.Steps.{Good, GoodQuery, good-query, Fitting, triple-complete, Tried, triple-sound}
@@ -41,6 +42,22 @@ one_fewer n k m h =
 -- the next pattern has one pattern fewer, and this triple's place was one of its places
 pub falls-next : (n m i : ℕ) {t : ℕ} → n * (m / 3 + 1) + (m / 3 - i) ≡ t → 3 * i + 2 < m → n * (m / 3 + 1) + 0 < t
 falls-next n m i e h = omega arith
+
+-- ── what a fit leaves of the bindings ──
+module _ (f : Fit) where
+  kept-none : None ≡ kept f → f.fits ≡ false
+  kept-none n = go f.fits n
+    where
+      go : (t : Bool) → None ≡ cond t (Some f.bindings) None → t ≡ false
+      go true n = absurd (cc)
+      go false n = refl
+
+  kept-some : (b : List ℕ) → Some b ≡ kept f → (f.fits ≡ true) × (b ≡ f.bindings)
+  kept-some b n = go f.fits n
+    where
+      go : (t : Bool) → Some b ≡ cond t (Some f.bindings) None → (t ≡ true) × (b ≡ f.bindings)
+      go true n = (refl, cc)
+      go false n = absurd (cc)
 
 -- ── a cost ──
 module _ (limited : Bool) (before cost : ℕ) where
@@ -130,83 +147,89 @@ module _ (table map d : List ℕ) (q : Query) (right : wrong_query (length map) 
       object-outside e n = no_choice λ σ a w m.
           true≢false (sym (allowed_object σ a i m w) ∙ ap (λ (u : Triple). allows d p.object u.object) (sym same) ∙ sym e ∙ n)
 
-      module _ (f : Fit) (e : f ≡ fit_end map p.subject t.subject b) where
-        first : f ≡ fit_end map p.subject (at table i).subject b
-        first = e ∙ ap (λ (u : Triple). fit_end map p.subject u.subject b) same
+      -- what an end and then the other leave of the bindings
+      abbrev f : Fit
+      f = fit_end map p.subject t.subject b
 
-        first_fits : (σ : ℕ → ℕ) → Puts ts map q k b σ → Here σ i → f.fits ≡ true
+      first : f ≡ fit_end map p.subject (at table i).subject b
+      first = ap (λ (u : Triple). fit_end map p.subject u.subject b) same
+
+      first_fits : (σ : ℕ → ℕ) → Puts ts map q k b σ → Here σ i → f.fits ≡ true
+      unfolding fit_triple
+      first_fits σ a m = ap (λ (u : Fit). u.fits) first ∙ and_left _ _ (and_right (eqb (at table i).property p.property) _ (fitting σ a i m).fits)
+
+      pub subject_unfit : None ≡ kept f → Answer s false
+      subject_unfit n = no_choice λ σ a w m. true≢false (sym (first_fits σ a m) ∙ kept-none f n)
+
+      module _ (b₁ : List ℕ) (y : Some b₁ ≡ kept f) where
+        abbrev g : Fit
+        g = fit_end map p.object t.object b₁
+
+        second : g ≡ fit_end map p.object (at table i).object (fit_end map p.subject (at table i).subject b).bindings
+        second = ap (λ (u : Triple). fit_end map p.object u.object b₁) same
+            ∙ ap (λ (x : List ℕ). fit_end map p.object (at table i).object x) ((kept-some f b₁ y).1 ∙ ap (λ (u : Fit). u.bindings) first)
+
+        second_fits : (σ : ℕ → ℕ) → Puts ts map q k b σ → Here σ i → g.fits ≡ true
         unfolding fit_triple
-        first_fits σ a m = ap (λ (u : Fit). u.fits) first ∙ and_left _ _ (and_right (eqb (at table i).property p.property) _ (fitting σ a i m).fits)
+        second_fits σ a m =
+            ap (λ (u : Fit). u.fits) second
+            ∙ and_right (fit_end map p.subject (at table i).subject b).fits _ (and_right (eqb (at table i).property p.property) _ (fitting σ a i m).fits)
 
-        pub subject_unfit : f.fits ≡ false → Answer s false
-        subject_unfit n = no_choice λ σ a w m. true≢false (sym (first_fits σ a m) ∙ n)
+        pub object_unfit : None ≡ kept g → Answer s false
+        object_unfit n = no_choice λ σ a w m. true≢false (sym (second_fits σ a m) ∙ kept-none g n)
 
-        module _ (y : f.fits ≡ true) (g : Fit) (e' : g ≡ fit_end map p.object t.object f.bindings) where
-          second : g ≡ fit_end map p.object (at table i).object (fit_end map p.subject (at table i).subject b).bindings
-          second = e' ∙ ap (λ (u : Triple). fit_end map p.object u.object f.bindings) same
-              ∙ ap (λ (u : Fit). fit_end map p.object (at table i).object u.bindings) first
-
-          second_fits : (σ : ℕ → ℕ) → Puts ts map q k b σ → Here σ i → g.fits ≡ true
+        module _ (b₂ : List ℕ) (z : Some b₂ ≡ kept g) where
+          both : (fit_triple map p (at table i) b).fits ≡ true
           unfolding fit_triple
-          second_fits σ a m =
-              ap (λ (u : Fit). u.fits) second
-              ∙ and_right (fit_end map p.subject (at table i).subject b).fits _ (and_right (eqb (at table i).property p.property) _ (fitting σ a i m).fits)
+          both = and_both (eqb (at table i).property p.property) _ (eq-eqb _ _ h)
+              (and_both (fit_end map p.subject (at table i).subject b).fits _ (ap (λ (u : Fit). u.fits) (sym first) ∙ (kept-some f b₁ y).0) (ap (λ (u : Fit). u.fits) (sym second) ∙ (kept-some g b₂ z).0))
 
-          pub object_unfit : g.fits ≡ false → Answer s false
-          object_unfit n = no_choice λ σ a w m. true≢false (sym (second_fits σ a m) ∙ n)
+          after : (fit_triple map p (at table i) b).bindings ≡ b₂
+          unfolding fit_triple
+          after = ap (λ (u : Fit). u.bindings) (sym second) ∙ sym (kept-some g b₂ z).1
 
-          module _ (z : g.fits ≡ true) where
-            both : (fit_triple map p (at table i) b).fits ≡ true
-            unfolding fit_triple
-            both = and_both (eqb (at table i).property p.property) _ (eq-eqb _ _ h)
-                (and_both (fit_end map p.subject (at table i).subject b).fits _ (ap (λ (u : Fit). u.fits) (sym first) ∙ y) (ap (λ (u : Fit). u.fits) (sym second) ∙ z))
+          tried : Tried ts map p (at table i) b (fit_triple map p (at table i) b)
+          tried = triple-sound ts map p (at table i) b held both (present (at table i) held).0 (present (at table i) held).1
+              (good.subject k l) (good.object k l) long
 
-            after : (fit_triple map p (at table i) b).bindings ≡ g.bindings
-            unfolding fit_triple
-            after = ap (λ (u : Fit). u.bindings) (sym second)
+          pub next-long : length b₂ ≡ 8
+          next-long = ap (λ (x : List ℕ). length x) (sym after) ∙ tried.long
 
-            tried : Tried ts map p (at table i) b (fit_triple map p (at table i) b)
-            tried = triple-sound ts map p (at table i) b held both (present (at table i) held).0 (present (at table i) held).1
-                (good.subject k l) (good.object k l) long
+          -- a choice for the patterns after this one is one for this one too
+          put-here : CanPut ts map q (k + 1) b₂ → CanPut ts map q k b
+          put-here w =
+              let σ : ℕ → ℕ = w.0 in
+              let agrees = subst (λ (x : List ℕ). Agrees σ x) (sym after) w.1.agrees in (
+                σ,
+                record {
+                  agrees = tried.back σ agrees;
+                  puts = λ j l₁ l₂. ⊎_elim {C = Mem (pattern_triple (label map) σ (pattern_at q j)) ts}
+                      (λ m. Memᴰ.cast {a = pattern_triple (label map) σ (pattern_at q j)}
+                      (ap (λ (x : ℕ). pattern_triple (label map) σ (pattern_at q x)) (sym m) ∙ tried.there σ agrees) held)
+                      (λ m. w.1.puts j (omega arith) l₂)
+                      (eq-or-lt_of_le l₁);
+                },
+              )
 
-            pub next-long : length g.bindings ≡ 8
-            next-long = ap (λ (x : List ℕ). length x) (sym after) ∙ tried.long
+          pub all-put : k + 1 ≡ q.count → Answer s true
+          all-put m = record {
+            fewer = omega arith;
+            sound = λ w. put-here (λ v. get_or b₂ v 0, record { agrees = λ v lv n. refl; puts = λ j l₁ l₂. let o : ⊥ = omega arith in absurd o });
+            complete = λ w σ a x n. refl;
+          }
 
-            -- a choice for the patterns after this one is one for this one too
-            put-here : CanPut ts map q (k + 1) g.bindings → CanPut ts map q k b
-            put-here w =
-                let σ : ℕ → ℕ = w.0 in
-                let agrees = subst (λ (x : List ℕ). Agrees σ x) (sym after) w.1.agrees in (
-                  σ,
-                  record {
-                    agrees = tried.back σ agrees;
-                    puts = λ j l₁ l₂. ⊎_elim {C = Mem (pattern_triple (label map) σ (pattern_at q j)) ts}
-                        (λ m. Memᴰ.cast {a = pattern_triple (label map) σ (pattern_at q j)}
-                        (ap (λ (x : ℕ). pattern_triple (label map) σ (pattern_at q x)) (sym m) ∙ tried.there σ agrees) held)
-                        (λ m. w.1.puts j (omega arith) l₂)
-                        (eq-or-lt_of_le l₁);
-                  },
-                )
+          ahead : (σ : ℕ → ℕ) → Puts ts map q k b σ → Here σ i → Puts ts map q (k + 1) b₂ σ
+          ahead σ a m = record {
+            agrees = subst (λ (x : List ℕ). Agrees σ x) after (fitting σ a i m).extends;
+            puts = λ j l₁ l₂. a.puts j (omega arith) l₂;
+          }
 
-            pub all-put : k + 1 ≡ q.count → Answer s true
-            all-put m = record {
-              fewer = omega arith;
-              sound = λ w. put-here (λ v. get_or g.bindings v 0, record { agrees = λ v lv n. refl; puts = λ j l₁ l₂. let o : ⊥ = omega arith in absurd o });
-              complete = λ w σ a x n. refl;
-            }
-
-            ahead : (σ : ℕ → ℕ) → Puts ts map q k b σ → Here σ i → Puts ts map q (k + 1) g.bindings σ
-            ahead σ a m = record {
-              agrees = subst (λ (x : List ℕ). Agrees σ x) after (fitting σ a i m).extends;
-              puts = λ j l₁ l₂. a.puts j (omega arith) l₂;
-            }
-
-            pub next_sought : (s' : ℕ) {r : Bool} → Sought table map d q (k + 1) g.bindings limited s s' r → Answer s' r
-            next_sought s' w = record {
-              fewer = w.fewer;
-              sound = λ x. put-here (w.sound x);
-              complete = λ x σ a y n. w.complete x σ (ahead σ a n) y;
-            }
+          pub next_sought : (s' : ℕ) {r : Bool} → Sought table map d q (k + 1) b₂ limited s s' r → Answer s' r
+          next_sought s' w = record {
+            fewer = w.fewer;
+            sound = λ x. put-here (w.sound x);
+            complete = λ x σ a y n. w.complete x σ (ahead σ a n) y;
+          }
 
   -- ── one triple after the other ──
   module _ (limited : Bool) (s₀ : ℕ) where

@@ -25,7 +25,7 @@ fn spend(limited: bool, steps: &mut usize, cost: usize) -> bool
         *steps = 0;
         return true;
     }
-    *steps = *steps - cost;
+    *steps -= cost;
     false
 }
 
@@ -52,10 +52,7 @@ pub fn try_pattern(
     while from < n {
         let first = first_fit(table, map, pattern, bindings, from, n, rising);
         let i = first.place;
-        if spend(limited, steps, first.cost) {
-            return false;
-        }
-        if i == n {
+        if spend(limited, steps, first.cost) || i == n {
             return false;
         }
         if try_triple(table, map, rows, q, bindings, k, i, rising, limited, steps) {
@@ -87,27 +84,18 @@ fn try_triple(
     let triple = lists::triple_at(table, i);
     let subject = pattern.subject;
     let object = pattern.object;
-    let x = triple.subject;
-    let y = triple.object;
-    if !allowed(rows, subject, x) {
+    if !allowed(rows, subject, triple.subject) || !allowed(rows, object, triple.object) {
         return false;
     }
-    if !allowed(rows, object, y) {
+    let Some(bound) = fit_end(map, subject, triple.subject, bindings) else {
         return false;
-    }
-    let first = fit_end(map, subject, x, bindings);
-    if !first.fits {
+    };
+    let Some(next) = fit_end(map, object, triple.object, bound) else {
         return false;
-    }
-    let bound = first.bindings;
-    let second = fit_end(map, object, y, bound);
-    if !second.fits {
-        return false;
-    }
+    };
     let count = q.count as usize;
     if k + 1 == count {
         return true;
     }
-    let next = second.bindings;
     try_pattern(table, map, rows, q, next, k + 1, rising, limited, steps)
 }

@@ -16,12 +16,6 @@ pub fill_row-requires : goal.fill_row-requires
 fill_row-requires c = let size = c.loop-v.invariant.size in
     (sized_as _ _ size c.requires, c.loop-v-test.true)
 
-pub overflow_add-v : goal.overflow_add-v
-overflow_add-v c = omega arith
-
-pub loop-v-smaller : goal.loop-v-smaller
-loop-v-smaller c = omega arith
-
 pub loop-v-preserved : goal.loop-v-preserved
 loop-v-preserved c = one-filled _ _ _ _ _ c.loop-v.invariant c.loop-v-test.true c.fill_row.ensures
 

@@ -10,5 +10,5 @@ copy_row-requires c = let l = c.requires.1 _ c.in-Var.is in
 pub returns-in-Var : goal.returns-in-Var
 returns-in-Var c = variable-kept _ _ _ _ _ c.in-Var.is c.copy_row.ensures
 
-pub returns-in-Code : goal.returns-in-Code
-returns-in-Code c = code-kept _ _ _ _ _ c.in-Code.is refl
+pub returns-in_default : goal.returns-in_default
+returns-in_default c = code-kept _ _ _ _ _ c.in_default.is refl

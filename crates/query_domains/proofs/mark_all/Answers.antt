@@ -6,18 +6,12 @@ use Rattle.query_domains.proofs.mark_all.Goals as goal
 pub loop-i-init : goal.loop-i-init
 loop-i-init c = all_start _ _ _ _
 
-pub mark_triple-here-requires : goal.mark_triple-here-requires
-mark_triple-here-requires c = let size = c.loop-i.invariant.size in
+pub mark_triple-some-requires : goal.mark_triple-some-requires
+mark_triple-some-requires c = let size = c.loop-i.invariant.size in
     (c.requires.0, c.requires.1, sized_as _ _ size c.requires.2, omega arith)
 
-pub overflow_add-i : goal.overflow_add-i
-overflow_add-i c = omega arith
-
-pub loop-i-smaller : goal.loop-i-smaller
-loop-i-smaller c = omega arith
-
 pub loop-i-preserved : goal.loop-i-preserved
-loop-i-preserved c = all-step _ _ _ _ _ _ _ _ _ c.loop-i.invariant c.mark_triple-here.ensures
+loop-i-preserved c = all-step _ _ _ _ _ _ _ _ _ c.loop-i.invariant c.mark_triple-some.ensures
 
 pub shape_of-rows : goal.shape_of-rows
 shape_of-rows c = c.loop-i.invariant.size

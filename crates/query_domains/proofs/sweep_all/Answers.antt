@@ -9,14 +9,8 @@ use Rattle.query_domains.proofs.sweep_all.Goals as goal
 pub fill-requires : goal.fill-requires
 fill-requires c = c.requires.1
 
-pub overflow_cast-j : goal.overflow_cast-j
-overflow_cast-j c = omega arith
-
 pub loop-j-init : goal.loop-j-init
 loop-j-init c = (none_yet _ _ _ _ _, omega arith)
-
-pub overflow_sub-j : goal.overflow_sub-j
-overflow_sub-j c = omega arith
 
 pub offset_bounds-q-j : goal.offset_bounds-q-j
 offset_bounds-q-j c = omega (arith, c.loop-j.invariant.1, few_patterns _ c.args.q c.requires.0)
@@ -39,9 +33,6 @@ returns-then-not-sweep c = let low : c.args.k ≤ c.loop-j.j - 1 = omega (arith,
     let high : c.loop-j.j - 1 < c.args.q.count = omega (arith, c.loop-j-test.true, c.loop-j.invariant.1) in
     all_none c.args.table.now c.args.map.now _ c.args.q _ _ _ _ _ c.loop-j.invariant.0 low high
     c.sweep.ensures _ _ c.fill.ensures (c.if-not-sweep.true)
-
-pub loop-j-smaller : goal.loop-j-smaller
-loop-j-smaller c = omega (arith, c.loop-j-test.true)
 
 pub loop-j-preserved : goal.loop-j-preserved
 loop-j-preserved c = let low : c.args.k ≤ c.loop-j.j - 1 = omega (arith, c.loop-j-test.true) in

@@ -4,6 +4,3 @@ use Rattle.query_domains.proofs.sweep_all.Given as goal
 
 abbrev pub invariant-loop-j : goal.invariant-loop-j
 invariant-loop-j l = SweptSome l.table l.map l.initial.rows l.rows l.q l.k × (l.j ≤ l.q.count)
-
-abbrev pub decreases-loop-j : goal.decreases-loop-j
-decreases-loop-j l = l.j

@@ -1,10 +1,10 @@
 use Prim.Native.Nat.{◌+◌, ◌-◌, ◌/◌, ◌<◌}
 use native.Mathlib.Omega.{arith}
 use lib.ListN.{length}
-use borrow.Author.Tests.{not-false, not-true}
 use Rattle.query.proofs.Steps.{few_patterns, right-subject, right-object}
-use Rattle.query_search.proofs.Tries.{one_fewer, falls-next, subject-outside, object-outside, subject_unfit, object_unfit, next-long, all-put, next_sought, try_start, try_end, none_left, found_here, try_step}
+use Rattle.query_search.proofs.Tries.{gave_up, one_fewer, falls-next, subject-outside, object-outside, subject_unfit, object_unfit, next-long, all-put, next_sought, try_start, try_end, none_left, found_here, try_step}
 use Rattle.query_search.proofs.+try_pattern_try_triple.Goals as goal
+use Rattle.query_search.proofs.+try_pattern_try_triple.Goals.{try_pattern-then-spend-via-then-spend, try_pattern-then-spend-via-else-spend+then-i-n, try_triple-then-not-allowed-via-then-not-allowed, try_triple-then-not-allowed-via-else-not-allowed+then-not-allowed-2}
 
 pub try_pattern-bounds-q-k : goal.try_pattern-bounds-q-k
 try_pattern-bounds-q-k t c = omega (arith, few_patterns _ _ c.requires.0)
@@ -21,12 +21,16 @@ try_pattern-first_fit-first-requires t c =
     let h = c.requires in
     (right-subject _ x.q h.0 x.k h.1, right-object _ x.q h.0 x.k h.1, omega arith, omega arith, h.2)
 
-pub try_pattern-returns-then-i-n : goal.try_pattern-returns-then-i-n
-try_pattern-returns-then-i-n t c =
+pub try_pattern-returns-then-spend : goal.try_pattern-returns-then-spend
+try_pattern-returns-then-spend t c =
     let x = c.args in
     let h = c.requires in
-    none_left x.table.now x.map.now x.rows.now x.q h.0 x.k h.1 x.bindings h.5 x.limited _ _ _
-    c.loop-from.invariant _ c.first_fit-first.ensures _ _ c.spend.ensures c.if-i-n.true
+    elim c.then-spend.branch [
+      | try_pattern-then-spend-via-then-spend w ↦ gave_up x.table.now x.map.now x.rows.now x.q h.0 x.k h.1 x.bindings h.5 x.limited _ _ _
+          c.loop-from.invariant _ c.first_fit-first.ensures _ _ c.spend.ensures w.if-spend.true
+      | try_pattern-then-spend-via-else-spend+then-i-n w ↦ none_left x.table.now x.map.now x.rows.now x.q h.0 x.k h.1 x.bindings h.5 x.limited _ _ _
+          c.loop-from.invariant _ c.first_fit-first.ensures _ _ c.spend.ensures w.if-i-n.true
+    ]
 
 pub try_pattern-try_triple-requires : goal.try_pattern-try_triple-requires
 try_pattern-try_triple-requires t c =
@@ -67,45 +71,42 @@ pub try_triple-returns-then-not-allowed : goal.try_triple-returns-then-not-allow
 try_triple-returns-then-not-allowed t c =
     let x = c.args in
     let h = c.requires in
-    subject-outside x.table.now x.map.now x.rows.now x.q h.0 x.k h.1 x.bindings h.7 h.5 x.i h.2 h.3
-    x.limited _ _ c.triple_at-triple.ensures
-    c.allowed.ensures c.if-not-allowed.true
+    elim c.then-not-allowed.branch [
+      | try_triple-then-not-allowed-via-then-not-allowed w ↦
+          subject-outside x.table.now x.map.now x.rows.now x.q h.0 x.k h.1 x.bindings h.7 h.5 x.i h.2 h.3
+          x.limited _ _ c.triple_at-triple.ensures
+          c.allowed.ensures w.if-not-allowed.true
+      | try_triple-then-not-allowed-via-else-not-allowed+then-not-allowed-2 w ↦
+          object-outside x.table.now x.map.now x.rows.now x.q h.0 x.k h.1 x.bindings h.7 h.5 x.i h.2 h.3
+          x.limited _ _ c.triple_at-triple.ensures
+          w.allowed-else-not-allowed.ensures w.if-not-allowed-2.true
+    ]
 
-pub try_triple-returns-then-not-allowed-2 : goal.try_triple-returns-then-not-allowed-2
-try_triple-returns-then-not-allowed-2 t c =
-    let x = c.args in
-    let h = c.requires in
-    object-outside x.table.now x.map.now x.rows.now x.q h.0 x.k h.1 x.bindings h.7 h.5 x.i h.2 h.3
-    x.limited _ _ c.triple_at-triple.ensures
-    c.allowed-2.ensures c.if-not-allowed-2.true
-
-pub try_triple-fit_end-first-requires : goal.try_triple-fit_end-first-requires
-try_triple-fit_end-first-requires t c =
+pub try_triple-fit_end-requires : goal.try_triple-fit_end-requires
+try_triple-fit_end-requires t c =
     let x = c.args in
     let h = c.requires in
     right-subject _ x.q h.0 x.k h.1
 
-pub try_triple-returns-then-not-first : goal.try_triple-returns-then-not-first
-try_triple-returns-then-not-first t c =
+pub try_triple-returns-in_default : goal.try_triple-returns-in_default
+try_triple-returns-in_default t c =
     let x = c.args in
     let h = c.requires in
     subject_unfit x.table.now x.map.now x.rows.now x.q h.0 x.k h.1 x.bindings h.7 h.5 x.i h.2 h.3
-    x.limited _ _ c.triple_at-triple.ensures
-    _ c.fit_end-first.ensures (not-true _ c.if-not-first.true)
+    x.limited _ _ c.triple_at-triple.ensures c.in_default.ensures
 
-pub try_triple-fit_end-second-requires : goal.try_triple-fit_end-second-requires
-try_triple-fit_end-second-requires t c =
+pub try_triple-fit_end-requires-2 : goal.try_triple-fit_end-requires-2
+try_triple-fit_end-requires-2 t c =
     let x = c.args in
     let h = c.requires in
     right-object _ x.q h.0 x.k h.1
 
-pub try_triple-returns-then-not-second : goal.try_triple-returns-then-not-second
-try_triple-returns-then-not-second t c =
+pub try_triple-returns-in_default-fit_end : goal.try_triple-returns-in_default-fit_end
+try_triple-returns-in_default-fit_end t c =
     let x = c.args in
     let h = c.requires in
     object_unfit x.table.now x.map.now x.rows.now x.q h.0 x.k h.1 x.bindings h.7 h.5 x.i h.2 h.3
-    x.limited _ _ c.triple_at-triple.ensures
-    _ c.fit_end-first.ensures (not-false _ c.if-not-first.false) _ c.fit_end-second.ensures (not-true _ c.if-not-second.true)
+    x.limited _ _ c.triple_at-triple.ensures _ c.in-Some.ensures c.in_default-fit_end.ensures
 
 pub try_triple-returns-then-k-count : goal.try_triple-returns-then-k-count
 try_triple-returns-then-k-count t c =
@@ -113,7 +114,7 @@ try_triple-returns-then-k-count t c =
     let h = c.requires in
     all-put x.table.now x.map.now x.rows.now x.q h.0 x.k h.1 x.bindings h.7 h.5 x.i h.2 h.3 x.limited _
     _ c.triple_at-triple.ensures
-    _ c.fit_end-first.ensures (not-false _ c.if-not-first.false) _ c.fit_end-second.ensures (not-false _ c.if-not-second.false) c.if-k-count.true
+    _ c.in-Some.ensures _ c.in-Some-fit_end.ensures c.if-k-count.true
 
 pub try_triple-try_pattern-requires : goal.try_triple-try_pattern-requires
 try_triple-try_pattern-requires t c =
@@ -128,7 +129,7 @@ try_triple-try_pattern-requires t c =
         h.6,
         next-long x.table.now x.map.now x.rows.now x.q h.0 x.k h.1 x.bindings h.7 h.5 x.i h.2 h.3
             x.limited 0 _ c.triple_at-triple.ensures
-            _ c.fit_end-first.ensures (not-false _ c.if-not-first.false) _ c.fit_end-second.ensures (not-false _ c.if-not-second.false),
+            _ c.in-Some.ensures _ c.in-Some-fit_end.ensures,
       ),
     )
 
@@ -138,5 +139,5 @@ try_triple-returns t c =
     let h = c.requires in
     next_sought x.table.now x.map.now x.rows.now x.q h.0 x.k h.1 x.bindings h.7 h.5 x.i h.2 h.3
     x.limited _ _ c.triple_at-triple.ensures
-    _ c.fit_end-first.ensures (not-false _ c.if-not-first.false) _ c.fit_end-second.ensures (not-false _ c.if-not-second.false) _
+    _ c.in-Some.ensures _ c.in-Some-fit_end.ensures _
     c.try_pattern.ensures
