@@ -62,30 +62,25 @@ room-next-two l at w xs ys m a h p = omega (arith, length-append w (xs ++ ys), l
 
 -- ── the loop over bytes ──
 -- what is left gives the rest
-pub record Putting (l₀ : List ℕ) (at : ℕ) (w l : List ℕ) (i next : ℕ) : Type 0 where
-  pub within : i ≤ length w
-  pub place : next ≡ at + i
-  pub gives : sets l next (drop i w) ≡ sets l₀ at w
+pub record Putting (l₀ : List ℕ) (at : ℕ) (w l : List ℕ) (i : ℕ) : Type 0 where
+  pub gives : sets l (at + i) (drop i w) ≡ sets l₀ at w
   pub size : length l ≡ length l₀
 
 module _ (l₀ : List ℕ) (at : ℕ) (w : List ℕ) where
-  pub bytes-start : Putting l₀ at w l₀ 0 at
-  bytes-start = record { within = omega arith; place = omega arith; gives = refl; size = refl }
+  pub bytes-start : Putting l₀ at w l₀ 0
+  bytes-start = let e : at + 0 ≡ at = omega arith in record { gives = ap (λ (k : ℕ). sets l₀ k w) e; size = refl }
 
-  module _ (l : List ℕ) (i next : ℕ) (h : Putting l₀ at w l i next) where
-    pub bytes-step : i < length w → (m : List ℕ) → m ≡ set l next (get_or w i 0) → Putting l₀ at w m (i + 1) (next + 1)
-    bytes-step k m e = record {
-      within = omega arith;
-      place = omega (arith, h.place);
-      gives =
-          (λ j. sets (e j) (add-one next j) (drop (add-one i j) w))
-          ∙ ap (sets l next) (sym (drop-cons w i 0 k))
-          ∙ h.gives;
-      size = set-size l m next (get_or w i 0) e ∙ h.size;
-    }
+  module _ (l : List ℕ) (i : ℕ) (h : Putting l₀ at w l i) where
+    pub bytes-step : i < length w → (m : List ℕ) → m ≡ set l (at + i) (get_or w i 0) → Putting l₀ at w m (i + 1)
+    bytes-step k m e =
+        let f : at + (i + 1) ≡ suc (at + i) = omega arith in
+        record {
+          gives =
+              (λ j. sets (e j) (f j) (drop (add-one i j) w))
+              ∙ ap (sets l (at + i)) (sym (drop-cons w i 0 k))
+              ∙ h.gives;
+          size = set-size l m (at + i) (get_or w i 0) e ∙ h.size;
+        }
 
-    pub bytes-end : length w ≤ i → Put l₀ at w l next
-    bytes-end k = record {
-      list = ap (sets l next) (sym (drop_of_length-le w k)) ∙ h.gives;
-      next = omega (arith, h.within, h.place);
-    }
+    pub bytes-end : length w ≤ i → Put l₀ at w l (at + length w)
+    bytes-end k = record { list = ap (sets l (at + i)) (sym (drop_of_length-le w k)) ∙ h.gives; next = refl }
