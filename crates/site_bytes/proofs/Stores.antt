@@ -7,7 +7,8 @@ use native.Mathlib.Numerals.{add-one}
 use native.Mathlib.Omega.{arith}
 use lib.ListN.{length, drop, get_or, set, length-set, length-append, drop_of_length-le}
 use lib.Seq.{sets, length-sets, set_comm, set_out, drop-cons}
-use Rattle.site_bytes.specs.Calls.{Room, Put}
+use Rattle.site_bytes.specs.declared.Page.{Page}
+use Rattle.site_bytes.specs.Calls.{Room, Put, HasRoom, Wrote}
 
 pub outside : (l : List ℕ) (i b : ℕ) → length l ≤ i → l ≡ set l i b
 outside l i b h = sym (set_out l i b h)
@@ -59,6 +60,18 @@ room-first-two at w xs ys h = omega (arith, length-append w (xs ++ ys), length-a
 
 pub room-next-two : (l : List ℕ) (at : ℕ) (w xs ys m : List ℕ) (a : ℕ) → Room at (w ++ (xs ++ ys)) → Put l at (w ++ xs) m a → Room a ys
 room-next-two l at w xs ys m a h p = omega (arith, length-append w (xs ++ ys), length-append xs ys, length-append w xs, p.next)
+
+-- ── pages ──
+-- what was put on a new page
+pub on_new : (p : Page) (l : List ℕ) → p.out.now ≡ l → p.at ≡ 0 → (xs : List ℕ) (p' : Page) → Wrote p xs p' → Put l 0 xs p'.out.now p'.at
+on_new p l e f xs p' w = record { list = w.put.list ∙ (λ i. sets (e i) (f i) xs); next = w.put.next ∙ ap (λ (k : ℕ). k + length xs) f }
+
+-- the list, once the page is let go
+pub put_back : (l : List ℕ) (at : ℕ) (xs m x : List ℕ) (r : ℕ) → x ≡ m → Put l at xs m r → Put l at xs x r
+put_back l at xs m x r e p = record { list = e ∙ p.list; next = p.next }
+
+pub room-on-new : (p : Page) → p.at ≡ 0 → (xs : List ℕ) → Room 0 xs → HasRoom p xs
+room-on-new p f xs h = omega arith
 
 -- ── the loop over bytes ──
 -- what is left gives the rest

@@ -6,6 +6,7 @@ ghost use Rattle.site_form.specs.Text.{numeral};
 ghost use Rattle.site_bytes.specs.Calls.{Room, Put, HasRoom, Wrote};
 
 // A lent list, and the place up to which bytes were put into it.
+#[derive(Drop)]
 pub struct Page<'a> {
     pub out: &'a mut [u8],
     pub at: usize,
