@@ -17,10 +17,9 @@ use Rattle.theory.proofs.Checks.{no_checks, not_accepted, same-value, decided-pa
 use Rattle.theory.proofs.Flat.{triples-flat, length-flat, length-listed}
 use Rattle.table_checks.proofs.Laws.{left_after}
 use Rattle.site_form.specs.declared.Site.{Site}
-use Rattle.site_form.specs.declared.Form.TheVariants.{Read, Refused}
-use Rattle.site_form.specs.declared.ReadAnswer.{ReadAnswer}
+use Rattle.std.specs.Prelude.{Ok, Err}
 use Rattle.site_form.specs.Text.{most_lines, most_asks}
-use Rattle.site_form.specs.Reading.{Forms, read_forms, site_of, read_outcome, read_list, outcome_of, formed, triples_in}
+use Rattle.site_form.specs.Reading.{Forms, read_forms, site_of, read_outcome, read_list, outcome_of, triples_in}
 use Rattle.site_form.specs.Printing.{most_bytes, print_read, print_outcome, printed, shown}
 use Rattle.site_form.proofs.Whole.{read-says}
 use Rattle.site_reader.specs.Calls.{ReadCall}
@@ -45,7 +44,7 @@ pub record Taken (text list' : List ℕ) (site : Site) (f : Forms) : Type 0 wher
   pub is_site : site ≡ site_of f
   pub is_list : list' ≡ listed (3 * most_lines) f.triples
 
-module _ (text list : List ℕ) (size : length list ≡ 3 * most_lines) (short : length text ≤ most_bytes) (r : ReadAnswer) (list' : List ℕ) (C : ReadCall text list r list') where
+module _ (text list : List ℕ) (size : length list ≡ 3 * most_lines) (short : length text ≤ most_bytes) (list' : List ℕ) where
   none_is : read_forms text ≡ none → read_outcome text list ≡ refused 8
   unfolding read_outcome
   none_is e = ap (λ (o : Option Forms). outcome_of o list) e
@@ -58,23 +57,23 @@ module _ (text list : List ℕ) (size : length list ≡ 3 * most_lines) (short :
       (le-ltb (length list / 3) (length f.triples) (omega (arith, (read-says text f e).few_triples)))
       ∙ decided-passes [] (accepted (site_of f)) no_checks
 
-  refused-by : (y : Refusal) → r.form ≡ Refused y → (o : Option Forms) → read_forms text ≡ o → printed text ≡ shown (refused (refusal_number Form))
+  refused-by : (y : Refusal) → ReadCall text list (Err y) list' → (o : Option Forms) → read_forms text ≡ o → printed text ≡ shown (refused (refusal_number Form))
   unfolding refusal_number
-  refused-by y e none q = printed-is text short none q
-  refused-by y e (some f) q = absurd (not_accepted (sym (ap (λ z. formed z r.site) e) ∙ C.outcome ∙ some_is f q))
+  refused-by y C none q = printed-is text short none q
+  refused-by y C (some f) q = absurd (not_accepted (C.outcome ∙ some_is f q))
 
-  pub text_refused : (y : Refusal) → r.form ≡ Refused y → (l out : List ℕ) (x : ℕ) → Put l 0 (shown (refused (refusal_number Form))) out x → Put l 0 (printed text) out x
-  text_refused y e l out x p = put_as 0 (refused-by y e (read_forms text) refl) l out x p
+  pub text_refused : (y : Refusal) → ReadCall text list (Err y) list' → (l out : List ℕ) (x : ℕ) → Put l 0 (shown (refused (refusal_number Form))) out x → Put l 0 (printed text) out x
+  text_refused y C l out x p = put_as 0 (refused-by y C (read_forms text) refl) l out x p
 
-  module _ (e : r.form ≡ Read) where
-    taken-by : (o : Option Forms) → read_forms text ≡ o → (f : Forms) × Taken text list' r.site f
+  module _ (site : Site) (C : ReadCall text list (Ok site) list') where
+    taken-by : (o : Option Forms) → read_forms text ≡ o → (f : Forms) × Taken text list' site f
     unfolding read_list
-    taken-by none q = absurd (not_accepted (sym (none_is q) ∙ sym C.outcome ∙ ap (λ z. formed z r.site) e))
+    taken-by none q = absurd (not_accepted (sym (none_is q) ∙ sym C.outcome))
     taken-by (some f) q = (
       f,
       record {
         says = q;
-        is_site = same-value (sym (ap (λ z. formed z r.site) e) ∙ C.outcome ∙ some_is f q);
+        is_site = same-value (C.outcome ∙ some_is f q);
         is_list =
             C.list
             ∙ left_after _ _ _ _ (some_is f q)
@@ -82,32 +81,32 @@ module _ (text list : List ℕ) (size : length list ≡ 3 * most_lines) (short :
       },
     )
 
-    taken : (f : Forms) × Taken text list' r.site f
+    taken : (f : Forms) × Taken text list' site f
     taken = taken-by (read_forms text) refl
 
     abbrev f : Forms
     f = taken.0
 
-    counts : r.site.count ≡ length f.triples
+    counts : site.count ≡ length f.triples
     unfolding site_of
     counts = ap (λ (s : Site). s.count) taken.1.is_site
 
     few : length f.triples ≤ most_lines
     few = (read-says text f taken.1.says).few_triples
 
-    pub count-few : 3 * r.site.count ≤ 3 * most_lines
+    pub count-few : 3 * site.count ≤ 3 * most_lines
     count-few = omega (arith, counts, few)
 
-    pub count-end : 3 * r.site.count ≤ length list'
+    pub count-end : 3 * site.count ≤ length list'
     count-end =
         let n : length list' ≡ 3 * most_lines = ap length taken.1.is_list ∙ length-listed (3 * most_lines) f.triples (omega (arith, few)) in
         omega (arith, count-few)
 
     abbrev part : List ℕ
-    part = take (3 * r.site.count - 0) list'
+    part = take (3 * site.count - 0) list'
 
     part-is : part ≡ flat f.triples
-    part-is = ap (take (3 * r.site.count - 0)) taken.1.is_list ∙ front (3 * most_lines) f.triples r.site.count (sym counts)
+    part-is = ap (take (3 * site.count - 0)) taken.1.is_list ∙ front (3 * most_lines) f.triples site.count (sym counts)
 
     part-long : length part ≡ 3 * length f.triples
     part-long = ap length part-is ∙ length-flat f.triples
@@ -118,14 +117,14 @@ module _ (text list : List ℕ) (size : length list ≡ 3 * most_lines) (short :
     pub part-few : length part ≤ 3 * most_lines
     part-few = omega (arith, part-long, few)
 
-    asks_are : r.site.asks ≡ length f.asks
+    asks_are : site.asks ≡ length f.asks
     unfolding site_of
     asks_are = ap (λ (s : Site). s.asks) taken.1.is_site
 
-    pub asks-few : r.site.asks ≤ most_asks
+    pub asks-few : site.asks ≤ most_asks
     asks-few = omega (arith, asks_are, (read-says text f taken.1.says).few_asks)
 
-    printed_as : printed text ≡ shown (site_outcome r.site.words r.site.size (triples part) r.site.queries r.site.asks)
+    printed_as : printed text ≡ shown (site_outcome site.words site.size (triples part) site.queries site.asks)
     unfolding site_of
     printed_as =
         printed-is text short (some f) taken.1.says
@@ -133,5 +132,5 @@ module _ (text list : List ℕ) (size : length list ≡ 3 * most_lines) (short :
         ∙ (λ i. shown (site_outcome (sym taken.1.is_site i).words (sym taken.1.is_site i).size
         (sym (ap triples part-is ∙ triples-flat f.triples) i) (sym taken.1.is_site i).queries (sym taken.1.is_site i).asks))
 
-    pub text_put : (l out : List ℕ) (x : ℕ) → Put l 0 (shown (site_outcome r.site.words r.site.size (triples part) r.site.queries r.site.asks)) out x → Put l 0 (printed text) out x
+    pub text_put : (l out : List ℕ) (x : ℕ) → Put l 0 (shown (site_outcome site.words site.size (triples part) site.queries site.asks)) out x → Put l 0 (printed text) out x
     text_put l out x p = put_as 0 printed_as l out x p

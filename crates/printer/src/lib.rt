@@ -11,7 +11,7 @@ ghost use Rattle.table_printing.specs.Outcomes.{saturation_outcome, site_outcome
 use lists::{Code, wide};
 use model::{Refusal, Vocabulary};
 use query::Query;
-use site_form::{Form, LARGEST_PRINTED, MOST_ASKS, MOST_BYTES, MOST_LINES};
+use site_form::{LARGEST_PRINTED, MOST_ASKS, MOST_BYTES, MOST_LINES};
 use site_reader::read;
 use table_printing::{RESULT_NUMBERS, refuse, saturate_and_print};
 
@@ -80,10 +80,7 @@ pub fn print_site(text: &[u8], out: &mut [u8]) -> usize
         return refuse(out, Refusal::Form);
     }
     let mut list: [u32; READ_NUMBERS] = [0; READ_NUMBERS];
-    let answer = read(text, &mut list);
-    let site = answer.site;
-    let form = answer.form;
-    let Form::Read = form else {
+    let Ok(site) = read(text, &mut list) else {
         return refuse(out, Refusal::Form);
     };
     let words = site.words;

@@ -7,7 +7,8 @@ use native.Mathlib.Numerals.{add-one}
 use native.Mathlib.Omega.{arith}
 use lib.ListN.{length, drop, get_or, set, length-set, length-append, drop_of_length-le}
 use lib.Seq.{sets, length-sets, set_comm, set_out, drop-cons}
-use Rattle.site_bytes.specs.Calls.{Room, Put}
+use Rattle.site_bytes.specs.declared.Page.{Page}
+use Rattle.site_bytes.specs.Calls.{Room, Put, HasRoom, Wrote}
 
 pub outside : (l : List ℕ) (i b : ℕ) → length l ≤ i → l ≡ set l i b
 outside l i b h = sym (set_out l i b h)
@@ -60,32 +61,39 @@ room-first-two at w xs ys h = omega (arith, length-append w (xs ++ ys), length-a
 pub room-next-two : (l : List ℕ) (at : ℕ) (w xs ys m : List ℕ) (a : ℕ) → Room at (w ++ (xs ++ ys)) → Put l at (w ++ xs) m a → Room a ys
 room-next-two l at w xs ys m a h p = omega (arith, length-append w (xs ++ ys), length-append xs ys, length-append w xs, p.next)
 
+-- ── pages ──
+-- what was put on a new page
+pub on_new : (p : Page) (l : List ℕ) → p.out.now ≡ l → p.at ≡ 0 → (xs : List ℕ) (p' : Page) → Wrote p xs p' → Put l 0 xs p'.out.now p'.at
+on_new p l e f xs p' w = record { list = w.put.list ∙ (λ i. sets (e i) (f i) xs); next = w.put.next ∙ ap (λ (k : ℕ). k + length xs) f }
+
+-- the list, once the page is let go
+pub put_back : (l : List ℕ) (at : ℕ) (xs m x : List ℕ) (r : ℕ) → x ≡ m → Put l at xs m r → Put l at xs x r
+put_back l at xs m x r e p = record { list = e ∙ p.list; next = p.next }
+
+pub room-on-new : (p : Page) → p.at ≡ 0 → (xs : List ℕ) → Room 0 xs → HasRoom p xs
+room-on-new p f xs h = omega arith
+
 -- ── the loop over bytes ──
 -- what is left gives the rest
-pub record Putting (l₀ : List ℕ) (at : ℕ) (w l : List ℕ) (i next : ℕ) : Type 0 where
-  pub within : i ≤ length w
-  pub place : next ≡ at + i
-  pub gives : sets l next (drop i w) ≡ sets l₀ at w
+pub record Putting (l₀ : List ℕ) (at : ℕ) (w l : List ℕ) (i : ℕ) : Type 0 where
+  pub gives : sets l (at + i) (drop i w) ≡ sets l₀ at w
   pub size : length l ≡ length l₀
 
 module _ (l₀ : List ℕ) (at : ℕ) (w : List ℕ) where
-  pub bytes-start : Putting l₀ at w l₀ 0 at
-  bytes-start = record { within = omega arith; place = omega arith; gives = refl; size = refl }
+  pub bytes-start : Putting l₀ at w l₀ 0
+  bytes-start = let e : at + 0 ≡ at = omega arith in record { gives = ap (λ (k : ℕ). sets l₀ k w) e; size = refl }
 
-  module _ (l : List ℕ) (i next : ℕ) (h : Putting l₀ at w l i next) where
-    pub bytes-step : i < length w → (m : List ℕ) → m ≡ set l next (get_or w i 0) → Putting l₀ at w m (i + 1) (next + 1)
-    bytes-step k m e = record {
-      within = omega arith;
-      place = omega (arith, h.place);
-      gives =
-          (λ j. sets (e j) (add-one next j) (drop (add-one i j) w))
-          ∙ ap (sets l next) (sym (drop-cons w i 0 k))
-          ∙ h.gives;
-      size = set-size l m next (get_or w i 0) e ∙ h.size;
-    }
+  module _ (l : List ℕ) (i : ℕ) (h : Putting l₀ at w l i) where
+    pub bytes-step : i < length w → (m : List ℕ) → m ≡ set l (at + i) (get_or w i 0) → Putting l₀ at w m (i + 1)
+    bytes-step k m e =
+        let f : at + (i + 1) ≡ suc (at + i) = omega arith in
+        record {
+          gives =
+              (λ j. sets (e j) (f j) (drop (add-one i j) w))
+              ∙ ap (sets l (at + i)) (sym (drop-cons w i 0 k))
+              ∙ h.gives;
+          size = set-size l m (at + i) (get_or w i 0) e ∙ h.size;
+        }
 
-    pub bytes-end : length w ≤ i → Put l₀ at w l next
-    bytes-end k = record {
-      list = ap (sets l next) (sym (drop_of_length-le w k)) ∙ h.gives;
-      next = omega (arith, h.within, h.place);
-    }
+    pub bytes-end : length w ≤ i → Put l₀ at w l (at + length w)
+    bytes-end k = record { list = ap (sets l (at + i)) (sym (drop_of_length-le w k)) ∙ h.gives; next = refl }

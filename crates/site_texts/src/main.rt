@@ -8,8 +8,8 @@ use model::{Vocabulary, refusal_number};
 use printer::print_site;
 use query::{End, Pattern, Query};
 use read_full::read_full;
-use site_form::{Form, Site};
-use site_reader::read;
+use site_form::Site;
+use site_reader::{no_site, read};
 use std::io;
 
 // The most triples that are shown of a text.
@@ -126,11 +126,10 @@ fn show_words(rt: &impl Print, words: Vocabulary) -> io::Result<()> {
 // triples and the queries.
 fn show_read(rt: &impl Print, text: &[u8], list: &mut [u32]) -> io::Result<()> {
     let answer = read(text, list);
-    let site = answer.site;
-    let form = answer.form;
-    let refused = match form {
-        Form::Read => 0,
-        Form::Refused(r) => long(refusal_number(r)),
+    let site = answer.unwrap_or(no_site());
+    let refused = match answer {
+        Ok(_) => 0,
+        Err(refusal) => long(refusal_number(refusal)),
     };
     show(rt, "(read ", refused)?;
     show(rt, " ", long(site.size))?;

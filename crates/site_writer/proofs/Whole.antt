@@ -11,7 +11,7 @@ use native.Mathlib.Omega.{arith}
 use lib.Dec.{ltb}
 use lib.ListN.{length, length-append}
 use borrow.Author.Tests.{lt-ltb, le-ltb, ltb-false}
-use Rattle.std.specs.declared.result.Result.TheVariants.{Ok, Err}
+use Rattle.model.specs.declared.Counted.TheVariants.{Count, Refused}
 use Rattle.model.specs.declared.Refusal.TheVariants.{Length, Words, Code, Slots}
 use Rattle.model.specs.declared.Triple.{Triple}
 use Rattle.model.specs.declared.Vocabulary.{Vocabulary}
@@ -19,7 +19,7 @@ use Rattle.model.specs.Codes.{rdfs, wrong_words, smallest_size}
 use Rattle.model.specs.Lists.{any, collect, zeros, padded}
 use Rattle.model.specs.Triples.{triples}
 use Rattle.model.specs.Roster.{wrong_codes}
-use Rattle.model.specs.Outcomes.{Outcome, refused, accepted, refusal_number, decided, left, zeroed, wrong_size, wrong_length, outcome_by, outcome_of}
+use Rattle.model.specs.Outcomes.{Outcome, refused, accepted, refusal_number, counted, decided, left, zeroed, wrong_size, wrong_length}
 use Rattle.theory.proofs.Tests.{or_left, or_right, or_neither, neither_right}
 use Rattle.theory.proofs.Lists.{length-tabulate}
 use Rattle.theory.specs.Tables.{AllBelow}
@@ -33,7 +33,7 @@ use Rattle.site_form.specs.Writing.{same_words, line_of, written, wrong_write, w
 use Rattle.site_form.proofs.Filled.{filled}
 use Rattle.site_bytes.specs.Calls.{Room, Put}
 use Rattle.site_writer.specs.Calls.{WriteCall}
-use Rattle.site_bytes.proofs.Stores.{put-length, put_then}
+use Rattle.site_bytes.proofs.Stores.{put-length, put_then, room-first, room_next}
 use Rattle.site_bytes.proofs.Numerals.{five-digits}
 
 -- ── how long the text is ──
@@ -90,6 +90,30 @@ written_is : (v : Vocabulary) (n : ℕ) (table : List ℕ) → written v n table
 unfolding written site_text collect
 written_is v n table = ap (λ (x : List ℕ). site_line n ++ (words_text (line_of v) ++ x)) (append-nil (collect triple_line (triples table)))
 
+-- ── its parts ──
+module _ (v : Vocabulary) (n : ℕ) (table out : List ℕ) (h : Room 0 (written v n table)) where
+  all_room : Room 0 (site_line n ++ (words_text (line_of v) ++ collect triple_line (triples table)))
+  all_room = subst (Room 0) (written_is v n table) h
+
+  pub room-first-line : Room 0 (site_line n)
+  room-first-line = room-first 0 (site_line n) _ all_room
+
+  module _ (o : List ℕ) (j : ℕ) (ps : Put out 0 (site_line n) o j) where
+    behind-site : Room j (words_text (line_of v) ++ collect triple_line (triples table))
+    behind-site = room_next out 0 (site_line n) _ o j all_room ps
+
+    pub room-second-line : Room j (words_text (line_of v))
+    room-second-line = room-first j _ _ behind-site
+
+    module _ (m : List ℕ) (i : ℕ) (pw : Put o j (words_text (line_of v)) m i) where
+      pub room-third : Room i (collect triple_line (triples table))
+      room-third = room_next o j _ _ m i behind-site pw
+
+      pub text-put : (l : List ℕ) (count : ℕ) → Put m i (collect triple_line (triples table)) l count → Put out 0 (written v n table) l count
+      text-put l count pt = subst (λ (x : List ℕ). Put out 0 x l count) (sym (written_is v n table))
+          (put_then out 0 (site_line n) o j (words_text (line_of v) ++ collect triple_line (triples table)) l count ps
+          (put_then o j (words_text (line_of v)) m i (collect triple_line (triples table)) l count pw pt))
+
 -- ── the answers ──
 module _ (v : Vocabulary) (n : ℕ) (table out : List ℕ) where
   abbrev wide : Bool
@@ -104,19 +128,19 @@ module _ (v : Vocabulary) (n : ℕ) (table out : List ℕ) where
   unfolding write_list
   list-is e = ap (λ (o : Outcome ℕ). left o out (padded (length out) (written v n table))) e
 
-  by_length : wrong_write n table ≡ true → WriteCall v n table out (Err Length) out
-  unfolding outcome_by refusal_number left zeroed any
+  by_length : wrong_write n table ≡ true → WriteCall v n table out (Refused Length) out
+  unfolding counted refusal_number left zeroed any
   by_length p = let e = outcome-is p refl refl refl in record { outcome = sym e; list = sym (list-is e) }
 
-  pub write_size : wrong_size n ≡ true → WriteCall v n table out (Err Length) out
+  pub write_size : wrong_size n ≡ true → WriteCall v n table out (Refused Length) out
   unfolding wrong_write
   write_size p = by_length (or_left (wrong_size n) _ p)
 
-  pub write_table : wrong_length (length table) ≡ true → WriteCall v n table out (Err Length) out
+  pub write_table : wrong_length (length table) ≡ true → WriteCall v n table out (Refused Length) out
   unfolding wrong_write
   write_table p = by_length (or_right (wrong_size n) _ (or_left (wrong_length (length table)) _ p))
 
-  pub write_many : most_lines < length table / 3 → WriteCall v n table out (Err Length) out
+  pub write_many : most_lines < length table / 3 → WriteCall v n table out (Refused Length) out
   unfolding wrong_write
   write_many h =
       let k = triples-count table in
@@ -133,58 +157,45 @@ module _ (v : Vocabulary) (n : ℕ) (table out : List ℕ) where
     unfolding wrong_size
     small = ltb-false _ _ (neither_right (ltb n smallest_size) _ p)
 
-    pub write_words : wrong_words v n ≡ true → WriteCall v n table out (Err Words) out
-    unfolding outcome_by refusal_number left zeroed any
+    pub write_words : wrong_words v n ≡ true → WriteCall v n table out (Refused Words) out
+    unfolding counted refusal_number left zeroed any
     write_words k = let e = outcome-is passed k refl refl in record { outcome = sym e; list = sym (list-is e) }
 
-    pub write_codes : wrong_words v n ≡ false → wrong_codes v n (triples table) ≡ true → WriteCall v n table out (Err Code) out
-    unfolding outcome_by refusal_number left zeroed any
+    pub write_codes : wrong_words v n ≡ false → wrong_codes v n (triples table) ≡ true → WriteCall v n table out (Refused Code) out
+    unfolding counted refusal_number left zeroed any
     write_codes k c = let e = outcome-is passed k c refl in record { outcome = sym e; list = sym (list-is e) }
 
-    pub room-site : Room 0 (site_line n)
-    room-site = let s = small in omega (arith, site-short n (omega arith))
+    module _ (words : wrong_words v n ≡ false) (right : wrong_codes v n (triples table) ≡ false) where
+      pub room-written : Room 0 (written v n table)
+      room-written =
+          let s = small in
+          let k = triples-count table in
+          let below : AllBelow n (triples table) = λ t x. (all_codes v n (triples table) right t x).below in
+          let a = length-append (site_line n) (words_text (line_of v) ++ collect triple_line (triples table)) in
+          let b = length-append (words_text (line_of v)) (collect triple_line (triples table)) in
+          omega (arith, ap length (written_is v n table), site-short n (omega arith), words-short n (omega arith) v words, lines-short n (omega arith) (triples table) below)
 
-    module _ (words : wrong_words v n ≡ false) (right : wrong_codes v n (triples table) ≡ false) (o : List ℕ) (j : ℕ) (ps : Put out 0 (site_line n) o j) where
-      pub room-words : Room j (words_text (line_of v))
-      room-words = let s = small in omega (arith, ps.next, site-short n (omega arith), words-short n (omega arith) v words)
+      module _ (l : List ℕ) (count : ℕ) (put : Put out 0 (written v n table) l count) where
+        size : length l ≡ length out
+        size = put-length out 0 (written v n table) l count put
 
-      module _ (m : List ℕ) (i : ℕ) (pw : Put o j (words_text (line_of v)) m i) where
-        pub room-triples : Room i (collect triple_line (triples table))
-        room-triples =
-            let s = small in
-            let k = triples-count table in
-            let below : AllBelow n (triples table) = λ t x. (all_codes v n (triples table) right t x).below in
-            omega (arith, ps.next, pw.next, site-short n (omega arith), words-short n (omega arith) v words, lines-short n (omega arith) (triples table) below)
+        pub write_full : length l < count → (z : List ℕ) → Cleared l z 0 (length l) → WriteCall v n table out (Refused Slots) z
+        unfolding counted refusal_number left zeroed any
+        write_full h z c =
+            let k = put.next in
+            let s = size in
+            let e = outcome-is passed words right (lt-ltb (length out) (length (written v n table)) (omega arith)) in
+            record { outcome = sym e; list = cleared-all l z (length l) c (omega arith) ∙ ap zeros size ∙ sym (list-is e) }
 
-        module _ (l : List ℕ) (count : ℕ) (pt : Put m i (collect triple_line (triples table)) l count) where
-          whole : Put out 0 (written v n table) l count
-          whole = subst (λ (x : List ℕ). Put out 0 x l count) (sym (written_is v n table))
-              (put_then out 0 (site_line n) o j (words_text (line_of v) ++ collect triple_line (triples table)) l count ps
-              (put_then o j (words_text (line_of v)) m i (collect triple_line (triples table)) l count pw pt))
-
-          count-is : count ≡ length (written v n table)
-          count-is = omega (arith, whole.next)
-
-          size : length l ≡ length out
-          size = put-length out 0 (written v n table) l count whole
-
-          pub write_full : length l < count → (z : List ℕ) → Cleared l z 0 (length l) → WriteCall v n table out (Err Slots) z
-          unfolding outcome_by refusal_number left zeroed any
-          write_full h z c =
-              let k = count-is in
-              let s = size in
-              let e = outcome-is passed words right (lt-ltb (length out) (length (written v n table)) (omega arith)) in
-              record { outcome = sym e; list = cleared-all l z (length l) c (omega arith) ∙ ap zeros size ∙ sym (list-is e) }
-
-          pub write_all : count ≤ length l → (z : List ℕ) → Cleared l z count (length l) → WriteCall v n table out (Ok count) z
-          unfolding outcome_by left
-          write_all h z c =
-              let k = count-is in
-              let s = size in
-              let e = outcome-is passed words right (le-ltb (length out) (length (written v n table)) (omega arith)) in
-              record {
-                outcome = ap accepted count-is ∙ sym e;
-                list =
-                    filled out l z (written v n table) count count-is (omega arith) whole.list (subst (Cleared l z count) size c)
-                    ∙ sym (list-is e);
-              }
+        pub write_all : count ≤ length l → (z : List ℕ) → Cleared l z count (length l) → WriteCall v n table out (Count count) z
+        unfolding counted left
+        write_all h z c =
+            let k : count ≡ length (written v n table) = omega (arith, put.next) in
+            let s = size in
+            let e = outcome-is passed words right (le-ltb (length out) (length (written v n table)) (omega arith)) in
+            record {
+              outcome = ap accepted k ∙ sym e;
+              list =
+                  filled out l z (written v n table) count k (omega arith) put.list (subst (Cleared l z count) size c)
+                  ∙ sym (list-is e);
+            }

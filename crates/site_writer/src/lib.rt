@@ -1,4 +1,4 @@
-// The writer of the site form: lines put into a lent list of bytes, and the call `write`.
+// The writer of the site form: lines put on a page, and the call `write`.
 #![tactic(auto)]
 
 ghost use Rattle.std.specs.Prelude.{◌≡◌, ◌≤◌, length};
@@ -7,134 +7,127 @@ ghost use Rattle.model.specs.Lists.{collect};
 ghost use Rattle.model.specs.Triples.{triples};
 ghost use Rattle.lists.specs.Flat.{Cleared};
 ghost use Rattle.site_form.specs.Text.{site_line, words_line, words_text, triple_line};
-ghost use Rattle.site_form.specs.Writing.{same_words, line_of};
-ghost use Rattle.site_bytes.specs.Calls.{Room, Put};
+ghost use Rattle.site_form.specs.Writing.{same_words, line_of, written};
+ghost use Rattle.site_bytes.specs.Calls.{Room, Put, HasRoom, Wrote};
 ghost use Rattle.site_writer.specs.Calls.{WriteCall};
 
 use lists::Code;
-use model::{Refusal, Triple, Vocabulary};
-use site_bytes::{put_after, put_bytes};
+use model::{Counted, Refusal, Triple, Vocabulary};
+use site_bytes::Page;
 use site_form::MOST_LINES;
 
-// Stores the line `(site N)`.
-fn put_site(out: &mut [u8], at: usize, n: u32) -> usize
-    requires { Room at (site_line n) }
-    ensures { Put out.old at (site_line n) out.new result }
+// Puts the line `(site N)`.
+fn put_site(page: &mut Page, n: u32)
+    requires { HasRoom page.old (site_line n) }
+    ensures { Wrote page.old (site_line n) page.new }
 {
-    let i = put_after(out, at, b"(site ", n);
-    put_bytes(out, i, b")\n")
+    page.put_after(b"(site ", n);
+    page.put(b")\n");
 }
 
-// Stores the line `(words A B C D E)`.
-fn put_words(out: &mut [u8], at: usize, words: Vocabulary) -> usize
-    requires { Room at (words_line words) }
-    ensures { Put out.old at (words_line words) out.new result }
+// Puts the line `(words A B C D E)`.
+fn put_words(page: &mut Page, words: Vocabulary)
+    requires { HasRoom page.old (words_line words) }
+    ensures { Wrote page.old (words_line words) page.new }
 {
-    let i = put_after(out, at, b"(words ", words.instance);
-    let j = put_after(out, i, b" ", words.subclass);
-    let k = put_after(out, j, b" ", words.subproperty);
-    let l = put_after(out, k, b" ", words.domain);
-    let m = put_after(out, l, b" ", words.range);
-    put_bytes(out, m, b")\n")
+    page.put_after(b"(words ", words.instance);
+    page.put_after(b" ", words.subclass);
+    page.put_after(b" ", words.subproperty);
+    page.put_after(b" ", words.domain);
+    page.put_after(b" ", words.range);
+    page.put(b")\n");
 }
 
 // Whether the reserved codes are 0 to 4 in that sequence.
+#[tactic(auto, unfolding(site_form::specs::Writing::same_words))]
 fn plain_words(words: Vocabulary) -> bool
     ensures { result ≡ same_words words rdfs }
 {
-    if words.instance != Code::TYPE {
-        return false;
-    }
-    if words.subclass != Code::SUBCLASS {
-        return false;
-    }
-    if words.subproperty != Code::SUBPROPERTY {
-        return false;
-    }
-    if words.domain != Code::DOMAIN {
-        return false;
-    }
-    words.range == Code::RANGE
+    words.instance == Code::TYPE
+        && words.subclass == Code::SUBCLASS
+        && words.subproperty == Code::SUBPROPERTY
+        && words.domain == Code::DOMAIN
+        && words.range == Code::RANGE
 }
 
-// Stores the line of the reserved codes, or nothing where they are 0 to 4.
-fn put_loaded(out: &mut [u8], at: usize, words: Vocabulary) -> usize
-    requires { Room at (words_text (line_of words)) }
-    ensures { Put out.old at (words_text (line_of words)) out.new result }
+// Puts the line of the reserved codes, or nothing where they are 0 to 4.
+fn put_loaded(page: &mut Page, words: Vocabulary)
+    requires { HasRoom page.old (words_text (line_of words)) }
+    ensures { Wrote page.old (words_text (line_of words)) page.new }
 {
-    if plain_words(words) {
-        return at;
+    if !plain_words(words) {
+        put_words(page, words);
     }
-    put_words(out, at, words)
 }
 
-// Stores a line `(t S P O)`.
-fn put_triple(out: &mut [u8], at: usize, t: Triple) -> usize
-    requires { Room at (triple_line t) }
-    ensures { Put out.old at (triple_line t) out.new result }
+// Puts a line `(t S P O)`.
+fn put_triple(page: &mut Page, t: Triple)
+    requires { HasRoom page.old (triple_line t) }
+    ensures { Wrote page.old (triple_line t) page.new }
 {
-    let i = put_after(out, at, b"(t ", t.subject);
-    let j = put_after(out, i, b" ", t.property);
-    let k = put_after(out, j, b" ", t.object);
-    put_bytes(out, k, b")\n")
+    page.put_after(b"(t ", t.subject);
+    page.put_after(b" ", t.property);
+    page.put_after(b" ", t.object);
+    page.put(b")\n");
 }
 
-// Stores a line for each triple of the table.
-pub fn put_triples(out: &mut [u8], at: usize, table: &[u32]) -> usize
-    requires { Room at (collect triple_line (triples table.now)) }
-    ensures { Put out.old at (collect triple_line (triples table.now)) out.new result }
+// Puts a line for each triple of the table.
+pub fn put_triples(page: &mut Page, table: &[u32])
+    requires { HasRoom page.old (collect triple_line (triples table.now)) }
+    ensures { Wrote page.old (collect triple_line (triples table.now)) page.new }
 {
-    let n = table.len() / 3;
-    let mut i = 0;
-    let mut next = at;
-    while i < n {
-        next = put_triple(out, next, lists::triple_at(table, i));
-        i += 1;
+    for i in 0..table.len() / 3 {
+        put_triple(page, lists::triple_at(table, i));
     }
-    next
 }
 
-// Zeros from index a to before index b.
-fn clear_bytes(out: &mut [u8], a: usize, b: usize)
-    requires { (a ≤ b) × (b ≤ length out.old) }
-    ensures { Cleared out.old out.new a b }
+// Puts the text of a table into a list from its front; the number of bytes.
+fn put_text(words: Vocabulary, n: u32, table: &[u32], out: &mut [u8]) -> usize
+    requires { Room 0 (written words n table.now) }
+    ensures { Put out.old 0 (written words n table.now) out.new result }
 {
-    let mut i = a;
-    while i < b {
-        out[i] = 0;
-        i += 1;
-    }
+    let mut page = Page::new(out);
+    put_site(&mut page, n);
+    put_loaded(&mut page, words);
+    put_triples(&mut page, table);
+    page.at
+}
+
+// Zeros from index a on.
+fn clear_from(out: &mut [u8], a: usize)
+    requires { a ≤ length out.old }
+    ensures { Cleared out.old out.new a (length out.old) }
+{
+    out[a..].fill(0);
 }
 
 // Writes the site line, the line of the reserved codes where they are not 0 to 4, and the table's triples in their order, with zeros
 // behind; the number of bytes. Refused with 1, then 10, then 3, then with 5 where the list has too few bytes.
-pub fn write(words: Vocabulary, n: u32, table: &[u32], out: &mut [u8]) -> Result<usize, Refusal>
+pub fn write(words: Vocabulary, n: u32, table: &[u32], out: &mut [u8]) -> Counted
     ensures { WriteCall words n table.now out.old result out.new }
 {
     let size = n as usize;
     if checks::size_wrong(size) {
-        return Err(Refusal::Length);
+        return Counted::Refused(Refusal::Length);
     }
     if checks::length_wrong(table.len()) {
-        return Err(Refusal::Length);
+        return Counted::Refused(Refusal::Length);
     }
     if MOST_LINES < table.len() / 3 {
-        return Err(Refusal::Length);
+        return Counted::Refused(Refusal::Length);
     }
     if checks::words_wrong(words, size) {
-        return Err(Refusal::Words);
+        return Counted::Refused(Refusal::Words);
     }
     if checks::codes_wrong(words, table, size) {
-        return Err(Refusal::Code);
+        return Counted::Refused(Refusal::Code);
     }
-    let i = put_site(out, 0, n);
-    let j = put_loaded(out, i, words);
-    let count = put_triples(out, j, table);
+    let count = put_text(words, n, table, out);
     let room = out.len();
     if room < count {
-        clear_bytes(out, 0, room);
-        return Err(Refusal::Slots);
+        clear_from(out, 0);
+        return Counted::Refused(Refusal::Slots);
     }
-    clear_bytes(out, count, room);
-    Ok(count)
+    clear_from(out, count);
+    Counted::Count(count)
 }

@@ -21,10 +21,10 @@ use Rattle.model.specs.Intake.{State, open_leaves}
 use Rattle.intake_opening.specs.Opening.{Opens}
 use Rattle.query.specs.Ask.{ask_outcome}
 use Rattle.site_form.specs.declared.Site.{Site}
-use Rattle.site_form.specs.declared.Form.{Form}
-use Rattle.site_form.specs.declared.Form.TheVariants.{Read, Refused}
-use Rattle.site_form.specs.declared.ReadAnswer.{ReadAnswer}
-use Rattle.site_form.specs.Reading.{Forms, formed, query_of, queries_of, site_of, no_forms, read_forms, outcome_of, read_outcome, site_in, read_site, read_list}
+use Rattle.std.specs.Prelude.{Result, Ok, Err}
+use Rattle.std.specs.Result.{result_unwrap_or}
+use Rattle.model.specs.declared.Refusal.{Refusal}
+use Rattle.site_form.specs.Reading.{Forms, query_of, queries_of, site_of, no_forms, read_forms, outcome_of, read_outcome, answered, site_in, read_site, read_list}
 use Rattle.site_reader.specs.Calls.{ReadCall}
 use Rattle.call_numbers.specs.Status.{status_of, value_or, numbered, bits, Stores}
 use Rattle.flat_queries.specs.Flat.{flat_query, end_numbers, pattern_numbers, query_numbers, flat_queries}
@@ -32,10 +32,15 @@ use Rattle.weak_summary.specs.Calls.{flat_ask_outcome, OpenStatus, form_status, 
 use Rattle.call_numbers.proofs.Outcomes.{stores_as}
 
 -- ── reading ──
-form_status_lem : (f : Form) (site : Site) → form_status f ≡ status_of (formed f site)
+status_is : (a : Result Site Refusal) → form_status a ≡ status_of (answered a)
 unfolding form_status status_of
-form_status_lem Read site = refl
-form_status_lem (Refused r) site = refl
+status_is (Ok site) = refl
+status_is (Err r) = refl
+
+-- the site of an answer, or that of no text
+pub site_or : (a : Result Site Refusal) (d : Site) → d ≡ site_of no_forms → (s : Site) → s ≡ result_unwrap_or a d → s ≡ site_in (answered a)
+site_or (Ok site) d e s f = f
+site_or (Err r) d e s f = f ∙ e
 
 module _ (text : List ℕ) (s : ReadLent) where
   pub wrong-queries : (length s.queries ≡ 656 → ⊥) → right_lengths s ≡ false
@@ -67,15 +72,15 @@ module _ (text : List ℕ) (s : ReadLent) where
     leaves = sym (ap leaves_of h);
   }
 
-  module _ (h : right_lengths s ≡ true) (a : ReadAnswer) (list' : List ℕ) (r : ReadCall text s.list a list') where
-    pub read_status : (queries' : List ℕ) → queries' ≡ flat_queries a.site.queries → (words' : List ℕ) → words' ≡ codes a.site.words → (status : ℕ) → status ≡ form_status a.form
-        → ReadStatus text s status (lent list' queries' words' a.site.size a.site.count a.site.asks)
+  module _ (h : right_lengths s ≡ true) (a : Result Site Refusal) (list' : List ℕ) (r : ReadCall text s.list a list') (site : Site) (is : site ≡ site_in (answered a)) where
+    pub read-stands : (queries' : List ℕ) → queries' ≡ flat_queries site.queries → (words' : List ℕ) → words' ≡ codes site.words → (status : ℕ) → status ≡ form_status a
+        → ReadStatus text s status (lent list' queries' words' site.size site.count site.asks)
     unfolding flat_read_leaves leaves_of
-    read_status queries' q words' w status e = record {
-      answer = e ∙ form_status_lem a.form a.site ∙ ap status_of (r.outcome ∙ passed h);
+    read-stands queries' q words' w status e = record {
+      answer = e ∙ status_is a ∙ ap status_of (r.outcome ∙ passed h);
       leaves =
-          (λ i. lent (r.list i) (q i) (w i) a.site.size a.site.count a.site.asks)
-          ∙ ap (site_leaves (read_list text s.list)) r.site
+          (λ i. lent (r.list i) (q i) (w i) site.size site.count site.asks)
+          ∙ ap (site_leaves (read_list text s.list)) (is ∙ r.site)
           ∙ sym (ap leaves_of h);
     }
 

@@ -1,7 +1,8 @@
 -- What each call answers and leaves: its status, and the lent numbers and lists before and after it. The contracts of look up
 -- and of a subject's lines stand at the calls.
 -- Assumes nothing.
-use Rattle.std.specs.Prelude.{ℕ, ◌≡◌, Bool, true, cond, not, ◌&&◌, List, [], ◌∷◌, eqb, length}
+use Rattle.std.specs.Prelude.{ℕ, ◌≡◌, Bool, true, cond, not, ◌&&◌, List, [], ◌∷◌, eqb, length, Result, Ok, Err}
+use Rattle.model.specs.declared.Refusal.{Refusal}
 use Rattle.model.specs.declared.Triple.{Triple}
 use Rattle.model.specs.declared.Vocabulary.{Vocabulary}
 use Rattle.model.specs.Codes.{codes}
@@ -13,8 +14,6 @@ use Rattle.model.specs.Calls.{summarise_outcome, summarise_leaves, strong_summar
 use Rattle.model.specs.Intake.{State, open_outcome, open_leaves, Fed, Removes}
 use Rattle.query.specs.Ask.{ask_outcome}
 use Rattle.site_form.specs.declared.Site.{Site}
-use Rattle.site_form.specs.declared.Form.{Form}
-use Rattle.site_form.specs.declared.Form.TheVariants.{Read, Refused}
 use Rattle.site_form.specs.Reading.{read_outcome, read_site, read_list}
 use Rattle.site_form.specs.Writing.{write_outcome, write_list}
 use Rattle.call_numbers.specs.Status.{status_of, bits, new_bit, Stores, Reports, ReportsPlace}
@@ -22,9 +21,9 @@ use Rattle.flat_queries.specs.Flat.{flat_query, flat_queries}
 use Rattle.call_numbers.specs.Words.{ByWords}
 
 -- the status of a text: 0 where it was read
-unfoldable pub form_status : Form → ℕ
-form_status Read = 0
-form_status (Refused r) = refusal_number r
+unfoldable pub form_status : Result Site Refusal → ℕ
+form_status (Ok site) = 0
+form_status (Err r) = refusal_number r
 
 -- what is lent to the call that reads: the list of triples, the flat queries, the five reserved codes, and three numbers
 pub record ReadLent : Type 0 where

@@ -25,8 +25,8 @@ use look_up::look_up;
 use model::{Refusal, Triple, refusal_number};
 use roster::own_roster;
 use saturate::saturate;
-use site_form::Form;
-use site_reader::read;
+use site_form::Site;
+use site_reader::{no_site, read};
 use site_writer::write;
 use subject_lines::subject_part;
 use summarise::summarise;
@@ -317,12 +317,12 @@ pub extern "C" fn ws_write(
 }
 
 // The status of a text that was read.
-fn form_status(f: Form) -> u32
-    ensures { result ≡ form_status f }
+fn form_status(answer: Result<Site, Refusal>) -> u32
+    ensures { result ≡ form_status answer }
 {
-    match f {
-        Form::Read => 0,
-        Form::Refused(r) => refusal_number(r),
+    match answer {
+        Ok(_) => 0,
+        Err(refusal) => refusal_number(refusal),
     }
 }
 
@@ -348,7 +348,7 @@ pub extern "C" fn ws_read(
         return refusal_number(Refusal::Length);
     }
     let answer = read(text, list);
-    let site = answer.site;
+    let site = answer.unwrap_or(no_site());
     *n = site.size;
     *count = site.count;
     *asks = site.asks;
@@ -356,6 +356,5 @@ pub extern "C" fn ws_read(
     put_queries(queries, read_queries);
     let read_words = site.words;
     put_words(words, read_words);
-    let form = answer.form;
-    form_status(form)
+    form_status(answer)
 }

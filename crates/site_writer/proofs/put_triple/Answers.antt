@@ -1,19 +1,23 @@
+use Rattle.std.proofs.Common.{◌∙◌}
 use Rattle.site_writer.proofs.Lines.{room-subject, room-property, room-object, room-triple-end, triple-put}
 use Rattle.site_writer.proofs.put_triple.Goals as goal
 
-pub put_after-i-requires : goal.put_after-i-requires
-put_after-i-requires c = room-subject c.args.out.now _ c.args.t c.requires
+pub put_after-requires : goal.put_after-requires
+put_after-requires c = room-subject c.args.page.now.out.now _ c.args.t c.requires
 
-pub put_after-j-requires : goal.put_after-j-requires
-put_after-j-requires c = room-property _ _ c.args.t c.requires _ _ c.put_after-i.ensures
+pub put_after-requires-2 : goal.put_after-requires-2
+put_after-requires-2 c = room-property _ _ c.args.t c.requires _ _ c.put_after.ensures.put
 
-pub put_after-k-requires : goal.put_after-k-requires
-put_after-k-requires c = room-object _ _ c.args.t c.requires _ _ c.put_after-i.ensures _ _ c.put_after-j.ensures
+pub put_after-requires-3 : goal.put_after-requires-3
+put_after-requires-3 c = room-object _ _ c.args.t c.requires _ _ c.put_after.ensures.put _ _ c.put_after-2.ensures.put
 
-pub put_bytes-requires : goal.put_bytes-requires
-put_bytes-requires c = room-triple-end _ _ c.args.t c.requires _ _ c.put_after-i.ensures _ _ c.put_after-j.ensures _ _
-    c.put_after-k.ensures
+pub put-requires : goal.put-requires
+put-requires c = room-triple-end _ _ c.args.t c.requires _ _ c.put_after.ensures.put _ _ c.put_after-2.ensures.put _ _
+    c.put_after-3.ensures.put
 
 pub returns : goal.returns
-returns c = triple-put _ _ c.args.t c.requires _ _ c.put_after-i.ensures _ _ c.put_after-j.ensures _ _ c.put_after-k.ensures
-    _ _ c.put_bytes.ensures
+returns c = record {
+  put = triple-put _ _ c.args.t c.requires _ _ c.put_after.ensures.put _ _ c.put_after-2.ensures.put _ _ c.put_after-3.ensures.put
+      _ _ c.put.ensures.put;
+  lent = c.put.ensures.lent ∙ c.put_after-3.ensures.lent ∙ c.put_after-2.ensures.lent ∙ c.put_after.ensures.lent;
+}

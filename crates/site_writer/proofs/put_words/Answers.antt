@@ -1,27 +1,27 @@
+use Rattle.std.proofs.Common.{◌∙◌}
 use Rattle.site_writer.proofs.Lines.{room-instance, room-subclass, room-subproperty, room-domain, room-range, room-words-end, words-put}
 use Rattle.site_writer.proofs.put_words.Goals as goal
 
-pub put_after-i-requires : goal.put_after-i-requires
-put_after-i-requires c = room-instance c.args.out.now _ c.args.words c.requires
+pub put_after-requires : goal.put_after-requires
+put_after-requires c = room-instance c.args.page.now.out.now _ c.args.words c.requires
 
-pub put_after-j-requires : goal.put_after-j-requires
-put_after-j-requires c = room-subclass _ _ c.args.words c.requires _ _ c.put_after-i.ensures
+pub put_after-requires-2 : goal.put_after-requires-2
+put_after-requires-2 c = room-subclass _ _ c.args.words c.requires _ _ c.put_after.ensures.put
 
-pub put_after-k-requires : goal.put_after-k-requires
-put_after-k-requires c = room-subproperty _ _ c.args.words c.requires _ _ c.put_after-i.ensures _ _ c.put_after-j.ensures
+pub put_after-requires-3 : goal.put_after-requires-3
+put_after-requires-3 c = room-subproperty _ _ c.args.words c.requires _ _ c.put_after.ensures.put _ _ c.put_after-2.ensures.put
 
-pub put_after-l-requires : goal.put_after-l-requires
-put_after-l-requires c = room-domain _ _ c.args.words c.requires _ _ c.put_after-i.ensures _ _ c.put_after-j.ensures _ _
-    c.put_after-k.ensures
+pub put_after-requires-4 : goal.put_after-requires-4
+put_after-requires-4 c = room-domain _ _ c.args.words c.requires _ _ c.put_after.ensures.put _ _ c.put_after-2.ensures.put _ _ c.put_after-3.ensures.put
 
-pub put_after-m-requires : goal.put_after-m-requires
-put_after-m-requires c = room-range _ _ c.args.words c.requires _ _ c.put_after-i.ensures _ _ c.put_after-j.ensures _ _
-    c.put_after-k.ensures _ _ c.put_after-l.ensures
+pub put_after-requires-5 : goal.put_after-requires-5
+put_after-requires-5 c = room-range _ _ c.args.words c.requires _ _ c.put_after.ensures.put _ _ c.put_after-2.ensures.put _ _ c.put_after-3.ensures.put _ _ c.put_after-4.ensures.put
 
-pub put_bytes-requires : goal.put_bytes-requires
-put_bytes-requires c = room-words-end _ _ c.args.words c.requires _ _ c.put_after-i.ensures _ _ c.put_after-j.ensures _ _
-    c.put_after-k.ensures _ _ c.put_after-l.ensures _ _ c.put_after-m.ensures
+pub put-requires : goal.put-requires
+put-requires c = room-words-end _ _ c.args.words c.requires _ _ c.put_after.ensures.put _ _ c.put_after-2.ensures.put _ _ c.put_after-3.ensures.put _ _ c.put_after-4.ensures.put _ _ c.put_after-5.ensures.put
 
 pub returns : goal.returns
-returns c = words-put _ _ c.args.words c.requires _ _ c.put_after-i.ensures _ _ c.put_after-j.ensures _ _
-    c.put_after-k.ensures _ _ c.put_after-l.ensures _ _ c.put_after-m.ensures _ _ c.put_bytes.ensures
+returns c = record {
+  put = words-put _ _ c.args.words c.requires _ _ c.put_after.ensures.put _ _ c.put_after-2.ensures.put _ _ c.put_after-3.ensures.put _ _ c.put_after-4.ensures.put _ _ c.put_after-5.ensures.put _ _ c.put.ensures.put;
+  lent = c.put.ensures.lent ∙ c.put_after-5.ensures.lent ∙ c.put_after-4.ensures.lent ∙ c.put_after-3.ensures.lent ∙ c.put_after-2.ensures.lent ∙ c.put_after.ensures.lent;
+}

@@ -1,5 +1,5 @@
 use mathlib.Core.Path.{sym, ◌∙◌}
-use Rattle.site_writer.proofs.Whole.{write_size, write_table, write_many, write_words, write_codes, room-site, room-words, room-triples, write_full, write_all}
+use Rattle.site_writer.proofs.Whole.{write_size, write_table, write_many, write_words, write_codes, room-written, write_full, write_all}
 use Rattle.site_writer.proofs.write.Goals as goal
 
 pub returns-then-size_wrong : goal.returns-then-size_wrong
@@ -20,28 +20,17 @@ returns-then-codes_wrong c = write_codes _ c.args.n c.args.table.now c.args.out.
     (sym c.length_wrong.ensures ∙ c.if-length_wrong.false) c.if-table-gt-MOST_LINES.false (sym c.words_wrong.ensures ∙ c.if-words_wrong.false)
     (sym c.codes_wrong.ensures ∙ c.if-codes_wrong.true)
 
-pub put_site-i-requires : goal.put_site-i-requires
-put_site-i-requires c = room-site c.args.words c.args.n c.args.table.now c.args.out.now
-    (sym c.size_wrong.ensures ∙ c.if-size_wrong.false) (sym c.length_wrong.ensures ∙ c.if-length_wrong.false) c.if-table-gt-MOST_LINES.false
-
-pub put_loaded-j-requires : goal.put_loaded-j-requires
-put_loaded-j-requires c = room-words _ c.args.n c.args.table.now c.args.out.now (sym c.size_wrong.ensures ∙ c.if-size_wrong.false)
+pub put_text-count-requires : goal.put_text-count-requires
+put_text-count-requires c = room-written _ c.args.n c.args.table.now c.args.out.now (sym c.size_wrong.ensures ∙ c.if-size_wrong.false)
     (sym c.length_wrong.ensures ∙ c.if-length_wrong.false) c.if-table-gt-MOST_LINES.false (sym c.words_wrong.ensures ∙ c.if-words_wrong.false)
-    (sym c.codes_wrong.ensures ∙ c.if-codes_wrong.false) _ _ c.put_site-i.ensures
-
-pub put_triples-count-requires : goal.put_triples-count-requires
-put_triples-count-requires c = room-triples _ c.args.n c.args.table.now c.args.out.now (sym c.size_wrong.ensures ∙ c.if-size_wrong.false)
-    (sym c.length_wrong.ensures ∙ c.if-length_wrong.false) c.if-table-gt-MOST_LINES.false (sym c.words_wrong.ensures ∙ c.if-words_wrong.false)
-    (sym c.codes_wrong.ensures ∙ c.if-codes_wrong.false) _ _ c.put_site-i.ensures _ _ c.put_loaded-j.ensures
+    (sym c.codes_wrong.ensures ∙ c.if-codes_wrong.false)
 
 pub returns-then-room-count : goal.returns-then-room-count
 returns-then-room-count c = write_full _ c.args.n c.args.table.now c.args.out.now (sym c.size_wrong.ensures ∙ c.if-size_wrong.false)
     (sym c.length_wrong.ensures ∙ c.if-length_wrong.false) c.if-table-gt-MOST_LINES.false (sym c.words_wrong.ensures ∙ c.if-words_wrong.false)
-    (sym c.codes_wrong.ensures ∙ c.if-codes_wrong.false) _ _ c.put_site-i.ensures _ _ c.put_loaded-j.ensures _ _
-    c.put_triples-count.ensures c.if-room-count.true _ c.clear_bytes.ensures
+    (sym c.codes_wrong.ensures ∙ c.if-codes_wrong.false) _ _ c.put_text-count.ensures c.if-room-count.true _ c.clear_from.ensures
 
 pub returns : goal.returns
 returns c = write_all _ c.args.n c.args.table.now c.args.out.now (sym c.size_wrong.ensures ∙ c.if-size_wrong.false)
     (sym c.length_wrong.ensures ∙ c.if-length_wrong.false) c.if-table-gt-MOST_LINES.false (sym c.words_wrong.ensures ∙ c.if-words_wrong.false)
-    (sym c.codes_wrong.ensures ∙ c.if-codes_wrong.false) _ _ c.put_site-i.ensures _ _ c.put_loaded-j.ensures _ _
-    c.put_triples-count.ensures c.if-room-count.false _ c.clear_bytes-2.ensures
+    (sym c.codes_wrong.ensures ∙ c.if-codes_wrong.false) _ _ c.put_text-count.ensures c.if-room-count.false _ c.clear_from-2.ensures

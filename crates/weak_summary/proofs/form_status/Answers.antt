@@ -1,11 +1,10 @@
-use mathlib.Core.Path.{◌∙◌, sym, ap}
 use Rattle.weak_summary.specs.Calls.{form_status}
 use Rattle.weak_summary.proofs.form_status.Goals as goal
 
-pub returns-in-Read : goal.returns-in-Read
+pub returns-in-Ok : goal.returns-in-Ok
 unfolding form_status
-returns-in-Read c = rw c.in-Read.is
+returns-in-Ok c = search rules
 
 pub returns-in-Err : goal.returns-in-Err
 unfolding form_status
-returns-in-Err c = c.refusal_number.ensures ∙ sym (ap form_status c.in-Err.is)
+returns-in-Err c = c.refusal_number.ensures
