@@ -1,5 +1,5 @@
 // The answers of both engines in one form.
-use model::{Counted, Done, Found, Refusal, Reply};
+use model::{Found, Refusal, Reply};
 use query::Asked;
 
 // The number of a refusal, 0 for none, a count, and a place.
@@ -79,41 +79,41 @@ fn refused(r: Refusal) -> Answer {
     })
 }
 
-pub fn of_done(d: Done) -> Answer {
+pub fn of_done(d: Result<(), Refusal>) -> Answer {
     match d {
-        Done::Accepted => Answer::accepted(0, 0),
-        Done::Refused(r) => refused(r),
+        Ok(()) => Answer::accepted(0, 0),
+        Err(r) => refused(r),
     }
 }
 
-pub fn of_counted(c: Counted) -> Answer {
+pub fn of_counted(c: Result<usize, Refusal>) -> Answer {
     match c {
-        Counted::Count(k) => Answer::accepted(k, 0),
-        Counted::Refused(r) => refused(r),
+        Ok(k) => Answer::accepted(k, 0),
+        Err(r) => refused(r),
     }
 }
 
-pub fn of_found(f: Found) -> Answer {
+pub fn of_found(f: Result<Found, Refusal>) -> Answer {
     match f {
-        Found::Yes(place) => Answer::accepted(1, place),
-        Found::No(place) => Answer::accepted(0, place),
-        Found::Refused(r) => refused(r),
+        Ok(Found::Yes(place)) => Answer::accepted(1, place),
+        Ok(Found::No(place)) => Answer::accepted(0, place),
+        Err(r) => refused(r),
     }
 }
 
-pub fn of_reply(reply: Reply) -> Answer {
+pub fn of_reply(reply: Result<Reply, Refusal>) -> Answer {
     match reply {
-        Reply::New(place) => Answer::accepted(1, place),
-        Reply::NotNew(place) => Answer::accepted(0, place),
-        Reply::Removed(place) => Answer::accepted(2, place),
-        Reply::Refused(r) => refused(r),
+        Ok(Reply::New(place)) => Answer::accepted(1, place),
+        Ok(Reply::NotNew(place)) => Answer::accepted(0, place),
+        Ok(Reply::Removed(place)) => Answer::accepted(2, place),
+        Err(r) => refused(r),
     }
 }
 
-pub fn of_asked(a: Asked) -> Answer {
+pub fn of_asked(a: Result<Asked, Refusal>) -> Answer {
     match a {
-        Asked::Maybe => Answer::accepted(1, 0),
-        Asked::None => Answer::accepted(0, 0),
-        Asked::Refused(r) => refused(r),
+        Ok(Asked::Maybe) => Answer::accepted(1, 0),
+        Ok(Asked::None) => Answer::accepted(0, 0),
+        Err(r) => refused(r),
     }
 }

@@ -76,19 +76,19 @@ fn put_refused_query(page: &mut Page, refusal: Refusal)
 }
 
 // Puts the line of an answer.
-fn put_answer(page: &mut Page, answer: Asked)
+fn put_answer(page: &mut Page, answer: Result<Asked, Refusal>)
     requires { HasRoom page.old (answer_line (asked answer)) }
     ensures { Wrote page.old (answer_line (asked answer)) page.new }
 {
     match answer {
-        Asked::Maybe => page.put(b"(ask maybe)\n"),
-        Asked::None => page.put(b"(ask none)\n"),
-        Asked::Refused(r) => put_refused_query(page, r),
+        Ok(Asked::Maybe) => page.put(b"(ask maybe)\n"),
+        Ok(Asked::None) => page.put(b"(ask none)\n"),
+        Err(r) => put_refused_query(page, r),
     }
 }
 
 // Puts a line for each of the first `count` answers.
-pub fn put_answers(page: &mut Page, answers: [Asked; MOST_ASKS], count: usize)
+pub fn put_answers(page: &mut Page, answers: [Result<Asked, Refusal>; MOST_ASKS], count: usize)
     requires { (count ≤ most_asks) × HasRoom page.old (collect answer_line (answers_in answers count)) }
     ensures { Wrote page.old (collect answer_line (answers_in answers count)) page.new }
 {

@@ -11,7 +11,7 @@ use native.Mathlib.Omega.{arith}
 use lib.Dec.{ltb}
 use lib.ListN.{length, length-append}
 use borrow.Author.Tests.{lt-ltb, le-ltb, ltb-false}
-use Rattle.model.specs.declared.Counted.TheVariants.{Count, Refused}
+use Rattle.std.specs.declared.result.Result.TheVariants.{Ok, Err}
 use Rattle.model.specs.declared.Refusal.TheVariants.{Length, Words, Code, Slots}
 use Rattle.model.specs.declared.Triple.{Triple}
 use Rattle.model.specs.declared.Vocabulary.{Vocabulary}
@@ -19,7 +19,7 @@ use Rattle.model.specs.Codes.{rdfs, wrong_words, smallest_size}
 use Rattle.model.specs.Lists.{any, collect, zeros, padded}
 use Rattle.model.specs.Triples.{triples}
 use Rattle.model.specs.Roster.{wrong_codes}
-use Rattle.model.specs.Outcomes.{Outcome, refused, accepted, refusal_number, counted, decided, left, zeroed, wrong_size, wrong_length}
+use Rattle.model.specs.Outcomes.{Outcome, refused, accepted, refusal_number, decided, left, zeroed, wrong_size, wrong_length, outcome_by, outcome_of}
 use Rattle.theory.proofs.Tests.{or_left, or_right, or_neither, neither_right}
 use Rattle.theory.proofs.Lists.{length-tabulate}
 use Rattle.theory.specs.Tables.{AllBelow}
@@ -128,19 +128,19 @@ module _ (v : Vocabulary) (n : ℕ) (table out : List ℕ) where
   unfolding write_list
   list-is e = ap (λ (o : Outcome ℕ). left o out (padded (length out) (written v n table))) e
 
-  by_length : wrong_write n table ≡ true → WriteCall v n table out (Refused Length) out
-  unfolding counted refusal_number left zeroed any
+  by_length : wrong_write n table ≡ true → WriteCall v n table out (Err Length) out
+  unfolding outcome_by refusal_number left zeroed any
   by_length p = let e = outcome-is p refl refl refl in record { outcome = sym e; list = sym (list-is e) }
 
-  pub write_size : wrong_size n ≡ true → WriteCall v n table out (Refused Length) out
+  pub write_size : wrong_size n ≡ true → WriteCall v n table out (Err Length) out
   unfolding wrong_write
   write_size p = by_length (or_left (wrong_size n) _ p)
 
-  pub write_table : wrong_length (length table) ≡ true → WriteCall v n table out (Refused Length) out
+  pub write_table : wrong_length (length table) ≡ true → WriteCall v n table out (Err Length) out
   unfolding wrong_write
   write_table p = by_length (or_right (wrong_size n) _ (or_left (wrong_length (length table)) _ p))
 
-  pub write_many : most_lines < length table / 3 → WriteCall v n table out (Refused Length) out
+  pub write_many : most_lines < length table / 3 → WriteCall v n table out (Err Length) out
   unfolding wrong_write
   write_many h =
       let k = triples-count table in
@@ -157,12 +157,12 @@ module _ (v : Vocabulary) (n : ℕ) (table out : List ℕ) where
     unfolding wrong_size
     small = ltb-false _ _ (neither_right (ltb n smallest_size) _ p)
 
-    pub write_words : wrong_words v n ≡ true → WriteCall v n table out (Refused Words) out
-    unfolding counted refusal_number left zeroed any
+    pub write_words : wrong_words v n ≡ true → WriteCall v n table out (Err Words) out
+    unfolding outcome_by refusal_number left zeroed any
     write_words k = let e = outcome-is passed k refl refl in record { outcome = sym e; list = sym (list-is e) }
 
-    pub write_codes : wrong_words v n ≡ false → wrong_codes v n (triples table) ≡ true → WriteCall v n table out (Refused Code) out
-    unfolding counted refusal_number left zeroed any
+    pub write_codes : wrong_words v n ≡ false → wrong_codes v n (triples table) ≡ true → WriteCall v n table out (Err Code) out
+    unfolding outcome_by refusal_number left zeroed any
     write_codes k c = let e = outcome-is passed k c refl in record { outcome = sym e; list = sym (list-is e) }
 
     module _ (words : wrong_words v n ≡ false) (right : wrong_codes v n (triples table) ≡ false) where
@@ -179,16 +179,16 @@ module _ (v : Vocabulary) (n : ℕ) (table out : List ℕ) where
         size : length l ≡ length out
         size = put-length out 0 (written v n table) l count put
 
-        pub write_full : length l < count → (z : List ℕ) → Cleared l z 0 (length l) → WriteCall v n table out (Refused Slots) z
-        unfolding counted refusal_number left zeroed any
+        pub write_full : length l < count → (z : List ℕ) → Cleared l z 0 (length l) → WriteCall v n table out (Err Slots) z
+        unfolding outcome_by refusal_number left zeroed any
         write_full h z c =
             let k = put.next in
             let s = size in
             let e = outcome-is passed words right (lt-ltb (length out) (length (written v n table)) (omega arith)) in
             record { outcome = sym e; list = cleared-all l z (length l) c (omega arith) ∙ ap zeros size ∙ sym (list-is e) }
 
-        pub write_all : count ≤ length l → (z : List ℕ) → Cleared l z count (length l) → WriteCall v n table out (Count count) z
-        unfolding counted left
+        pub write_all : count ≤ length l → (z : List ℕ) → Cleared l z count (length l) → WriteCall v n table out (Ok count) z
+        unfolding outcome_by left
         write_all h z c =
             let k : count ≡ length (written v n table) = omega (arith, put.next) in
             let s = size in

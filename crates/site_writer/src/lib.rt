@@ -12,7 +12,7 @@ ghost use Rattle.site_bytes.specs.Calls.{Room, Put, HasRoom, Wrote};
 ghost use Rattle.site_writer.specs.Calls.{WriteCall};
 
 use lists::Code;
-use model::{Counted, Refusal, Triple, Vocabulary};
+use model::{Refusal, Triple, Vocabulary};
 use site_bytes::Page;
 use site_form::MOST_LINES;
 
@@ -103,31 +103,31 @@ fn clear_from(out: &mut [u8], a: usize)
 
 // Writes the site line, the line of the reserved codes where they are not 0 to 4, and the table's triples in their order, with zeros
 // behind; the number of bytes. Refused with 1, then 10, then 3, then with 5 where the list has too few bytes.
-pub fn write(words: Vocabulary, n: u32, table: &[u32], out: &mut [u8]) -> Counted
+pub fn write(words: Vocabulary, n: u32, table: &[u32], out: &mut [u8]) -> Result<usize, Refusal>
     ensures { WriteCall words n table.now out.old result out.new }
 {
     let size = n as usize;
     if checks::size_wrong(size) {
-        return Counted::Refused(Refusal::Length);
+        return Err(Refusal::Length);
     }
     if checks::length_wrong(table.len()) {
-        return Counted::Refused(Refusal::Length);
+        return Err(Refusal::Length);
     }
     if MOST_LINES < table.len() / 3 {
-        return Counted::Refused(Refusal::Length);
+        return Err(Refusal::Length);
     }
     if checks::words_wrong(words, size) {
-        return Counted::Refused(Refusal::Words);
+        return Err(Refusal::Words);
     }
     if checks::codes_wrong(words, table, size) {
-        return Counted::Refused(Refusal::Code);
+        return Err(Refusal::Code);
     }
     let count = put_text(words, n, table, out);
     let room = out.len();
     if room < count {
         clear_from(out, 0);
-        return Counted::Refused(Refusal::Slots);
+        return Err(Refusal::Slots);
     }
     clear_from(out, count);
-    Counted::Count(count)
+    Ok(count)
 }
