@@ -12,7 +12,8 @@ use Rattle.std.specs.declared.result.Result.TheVariants.{Ok, Err}
 use Rattle.model.specs.declared.Refusal.{Refusal}
 use Rattle.model.specs.declared.Vocabulary.{Vocabulary}
 use Rattle.model.specs.Triples.{triples}
-use Rattle.model.specs.Cliques.{source, target, cliques}
+use Rattle.model.specs.declared.Side.TheVariants.{Source as source, Target as target}
+use Rattle.model.specs.Cliques.{cliques}
 use Rattle.model.specs.Outcomes.{Outcome, refused, accepted, refusal_number, checked, left, outcome_by, outcome_of}
 use Rattle.model.specs.Calls.{table_checks, cliques_outcome, cliques_leave}
 use Rattle.theory.proofs.Tests.{or-false}

@@ -4,7 +4,7 @@ use Rattle.std.specs.declared.result.Result.{Result}
 use Rattle.model.specs.declared.Refusal.{Refusal}
 use Rattle.std.specs.Prelude.{ℕ, ◌≡◌, List}
 use Rattle.model.specs.declared.Vocabulary.{Vocabulary}
-use Rattle.model.specs.Cliques.{source, target}
+use Rattle.model.specs.declared.Side.TheVariants.{Source as source, Target as target}
 use Rattle.model.specs.Outcomes.{outcome_by, outcome_of}
 use Rattle.model.specs.Calls.{cliques_outcome, cliques_leave}
 

@@ -3,13 +3,13 @@
 
 ghost use Rattle.std.specs.Prelude.{◌≡◌, not, ◌||◌, eqb, length};
 ghost use Rattle.model.specs.Triples.{triples};
-ghost use Rattle.model.specs.Cliques.{side_of, cliques};
+ghost use Rattle.model.specs.Cliques.{cliques};
 ghost use Rattle.theory.specs.Tables.{Right};
 ghost use Rattle.property_groups.specs.Grouping.{NodesCleared};
 ghost use Rattle.cliques.specs.Calls.{CliquesCall};
 
 use lists::Code;
-use model::{Refusal, Vocabulary};
+use model::{Refusal, Side, Vocabulary};
 use property_groups::group_side;
 use table_checks::table_refusal;
 use union_find::flatten;
@@ -27,11 +27,11 @@ fn clear_nodes(roster: &[u8], list: &mut [u32])
 }
 
 // The clique list of a side.
-fn clique_side(words: Vocabulary, table: &[u32], roster: &[u8], sources: bool, list: &mut [u32])
+fn clique_side(words: Vocabulary, table: &[u32], roster: &[u8], side: Side, list: &mut [u32])
     requires { Right words roster.now (triples table.now) × (length list.old ≡ length roster.now) }
-    ensures { list.new ≡ cliques words roster.now (side_of sources) (triples table.now) }
+    ensures { list.new ≡ cliques words roster.now side (triples table.now) }
 {
-    group_side(words, table, roster, sources, list);
+    group_side(words, table, roster, side, list);
     clear_nodes(roster, list);
     flatten(list);
 }
@@ -55,7 +55,7 @@ pub fn cliques(
 {
     let lengths = lengths_wrong(roster.len(), sources.len(), targets.len());
     table_refusal(words, lengths, table, roster)?;
-    clique_side(words, table, roster, true, sources);
-    clique_side(words, table, roster, false, targets);
+    clique_side(words, table, roster, Side::Source, sources);
+    clique_side(words, table, roster, Side::Target, targets);
     Ok(())
 }

@@ -13,7 +13,9 @@ use Rattle.model.specs.Codes.{absent, kind}
 use Rattle.model.specs.Triples.{is_data, holds, insert}
 use Rattle.model.specs.Roster.{unmarked}
 use Rattle.model.specs.Partition.{label}
-use Rattle.model.specs.Cliques.{Graph, Side, source, target, end, Node, Has}
+use Rattle.model.specs.declared.Side.{Side}
+use Rattle.model.specs.declared.Side.TheVariants.{Source as source, Target as target}
+use Rattle.model.specs.Cliques.{Graph, end, Node, Has}
 use Rattle.model.specs.Classes.{DataNode, map_of}
 use Rattle.model.specs.Summary.{moved, Image, summary, weight, weights_by, weights}
 use Rattle.theory.proofs.Order.{insert-keeps, insert-mem}

@@ -16,7 +16,9 @@ use Rattle.model.specs.Lists.{tabulate}
 use Rattle.model.specs.Triples.{is_data, without}
 use Rattle.model.specs.Order.{Lt}
 use Rattle.model.specs.Roster.{unmarked}
-use Rattle.model.specs.Cliques.{Side, source, target, end, Node, Has, links, side_of}
+use Rattle.model.specs.declared.Side.{Side}
+use Rattle.model.specs.declared.Side.TheVariants.{Source as source, Target as target}
+use Rattle.model.specs.Cliques.{end, Node, Has, links, side_of}
 use Rattle.theory.specs.Tables.{AllBelow, In}
 use Rattle.theory.proofs.Tests.{and_true, and_both, or_true, bool_cases}
 use Rattle.theory.proofs.Lists.{mem-tabulate}

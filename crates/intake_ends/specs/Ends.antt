@@ -3,7 +3,8 @@
 use Rattle.std.specs.Prelude.{ℕ, ◌<◌, ◌≡◌, Bool, true, false, ◌&&◌, ◌||◌, List, eqb}
 use Rattle.model.specs.declared.Triple.{Triple}
 use Rattle.model.specs.declared.Vocabulary.{Vocabulary}
-use Rattle.model.specs.Cliques.{Side, end, links}
+use Rattle.model.specs.declared.Side.{Side}
+use Rattle.model.specs.Cliques.{end, links}
 
 -- u has t's property and, at that side, t's end
 unfoldable pub at_side : Side → Triple → Triple → Bool

@@ -11,7 +11,9 @@ use Rattle.model.specs.Lists.{zeros}
 use Rattle.model.specs.Triples.{triples, slots, holds, place, listed}
 use Rattle.model.specs.Roster.{covers, own_roster, wrong_roster, wrong_codes}
 use Rattle.model.specs.Saturation.{saturation}
-use Rattle.model.specs.Cliques.{Side, source, target, cliques}
+use Rattle.model.specs.declared.Side.{Side}
+use Rattle.model.specs.declared.Side.TheVariants.{Source as source, Target as target}
+use Rattle.model.specs.Cliques.{cliques}
 use Rattle.model.specs.Classes.{map_of, strong_map_of}
 use Rattle.model.specs.Summary.{condensed}
 use Rattle.model.specs.Outcomes.{Outcome, Answer, answer, Check, check, checked, Passes, left, wrong_size, wrong_length, wrong_work}

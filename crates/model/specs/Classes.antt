@@ -8,7 +8,9 @@ use Rattle.model.specs.Lists.{collect, when, tabulate}
 use Rattle.model.specs.Triples.{is_data}
 use Rattle.model.specs.Roster.{unmarked, is_node}
 use Rattle.model.specs.Partition.{label, pairs, merged}
-use Rattle.model.specs.Cliques.{Graph, Side, source, target, end, Node, Has, Clique, cliques}
+use Rattle.model.specs.declared.Side.{Side}
+use Rattle.model.specs.declared.Side.TheVariants.{Source as source, Target as target}
+use Rattle.model.specs.Cliques.{Graph, end, Node, Has, Clique, cliques}
 
 -- a data node with its two cliques, each by its smallest property, or absent
 pub record Placed : Type 0 where

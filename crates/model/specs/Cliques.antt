@@ -2,8 +2,8 @@
 -- 01: "Properties p and q share a source if some data node is subject of both in data triples; a source clique is a class of the
 -- transitive closure. Targets likewise, by objects. Marked nodes link nothing."
 -- Assumes nothing.
-pub use Rattle.model.specs.declared.Side.{Side}
-pub use Rattle.model.specs.declared.Side.TheVariants.{Source as source, Target as target}
+use Rattle.model.specs.declared.Side.{Side}
+use Rattle.model.specs.declared.Side.TheVariants.{Source as source, Target as target}
 use Rattle.std.specs.Prelude.{ℕ, ◌≡◌, Bool, true, false, cond, ◌&&◌, List, eqb, length}
 use Rattle.model.specs.declared.Triple.{Triple}
 use Rattle.model.specs.declared.Vocabulary.{Vocabulary}

@@ -10,7 +10,8 @@ use Rattle.model.specs.Lists.{any, all}
 use Rattle.model.specs.Triples.{triple, triples, flat, sorted}
 use Rattle.model.specs.Roster.{own_roster}
 use Rattle.model.specs.Saturation.{saturation}
-use Rattle.model.specs.Cliques.{source, target, cliques}
+use Rattle.model.specs.declared.Side.TheVariants.{Source as source, Target as target}
+use Rattle.model.specs.Cliques.{cliques}
 use Rattle.model.specs.Classes.{map_of, strong_map_of}
 use Rattle.model.specs.Summary.{summary, weights, strong_summary}
 use Rattle.model.specs.Outcomes.{Check, place_of}

@@ -15,7 +15,8 @@ use Rattle.model.specs.declared.Vocabulary.{Vocabulary}
 use Rattle.model.specs.Codes.{absent}
 use Rattle.model.specs.Triples.{triples}
 use Rattle.model.specs.Roster.{unmarked}
-use Rattle.model.specs.Cliques.{Side, Has, cliques}
+use Rattle.model.specs.declared.Side.{Side}
+use Rattle.model.specs.Cliques.{Has, cliques}
 use Rattle.model.specs.Classes.{clique_of}
 use Rattle.theory.proofs.Tests.{not_both, bool_cases}
 use Rattle.theory.proofs.Lists.{length-tabulate, tabulate-at}

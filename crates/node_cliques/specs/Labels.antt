@@ -6,7 +6,8 @@ use Rattle.model.specs.declared.Vocabulary.{Vocabulary}
 use Rattle.model.specs.Codes.{absent}
 use Rattle.model.specs.Lists.{tabulate}
 use Rattle.model.specs.Roster.{unmarked}
-use Rattle.model.specs.Cliques.{Side, cliques}
+use Rattle.model.specs.declared.Side.{Side}
+use Rattle.model.specs.Cliques.{cliques}
 use Rattle.model.specs.Classes.{clique_of}
 
 module _ (v : Vocabulary) (roster : List ℕ) where

@@ -6,12 +6,11 @@ ghost use Rattle.std.specs.Prelude.{Bool, List, ◌≡◌, ℕ, ◌+◌, ◌<◌
 ghost use Rattle.model.specs.Codes.{absent};
 ghost use Rattle.model.specs.Triples.{triples};
 ghost use Rattle.theory.specs.Tables.{Right};
-ghost use Rattle.model.specs.Cliques.{side_of};
 ghost use Rattle.node_cliques.specs.Labels.{is_label, node_cliques};
 ghost use Rattle.node_cliques.specs.Labelling.{EntriesFilled, FirstProperties, NodesLabelled, Labelling, SomeLabelling, SomeProperties};
 
 use lists::{Code, narrow, wide};
-use model::Vocabulary;
+use model::{Side, Vocabulary};
 use property_groups::group_side;
 use union_find::find;
 
@@ -68,13 +67,13 @@ pub fn node_cliques(
     words: Vocabulary,
     table: &[u32],
     roster: &[u8],
-    sources: bool,
+    side: Side,
     list: &mut [u32],
 )
     requires { Right words roster.now (triples table.now) × (length list.old ≡ length roster.now) }
-    ensures { list.new ≡ node_cliques words roster.now (side_of sources) (triples table.now) }
+    ensures { list.new ≡ node_cliques words roster.now side (triples table.now) }
 {
-    group_side(words, table, roster, sources, list);
+    group_side(words, table, roster, side, list);
     label_nodes(words.instance, roster, list);
     empty_labels(words, roster, list);
 }

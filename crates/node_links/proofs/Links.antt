@@ -14,7 +14,9 @@ use Rattle.model.specs.declared.Vocabulary.{Vocabulary}
 use Rattle.model.specs.Codes.{absent}
 use Rattle.model.specs.Triples.{is_data}
 use Rattle.model.specs.Roster.{unmarked, is_node}
-use Rattle.model.specs.Cliques.{Side, source, target, end, Has, links}
+use Rattle.model.specs.declared.Side.{Side}
+use Rattle.model.specs.declared.Side.TheVariants.{Source as source, Target as target}
+use Rattle.model.specs.Cliques.{end, Has, links}
 use Rattle.theory.proofs.Tests.{not_both, bool_cases, and_true}
 use Rattle.theory.specs.Tables.{In, HasData, by_side, Right}
 use Rattle.theory.proofs.Weak.{has_data, has-node}

@@ -13,7 +13,9 @@ use Rattle.model.specs.declared.Vocabulary.{Vocabulary}
 use Rattle.model.specs.Codes.{absent}
 use Rattle.model.specs.Lists.{tabulate}
 use Rattle.model.specs.Roster.{is_node}
-use Rattle.model.specs.Cliques.{Side, source, target, end, Node}
+use Rattle.model.specs.declared.Side.{Side}
+use Rattle.model.specs.declared.Side.TheVariants.{Source as source, Target as target}
+use Rattle.model.specs.Cliques.{end, Node}
 use Rattle.theory.proofs.Tests.{not_both}
 use Rattle.theory.proofs.Lists.{mem-tabulate}
 use Rattle.theory.specs.Tables.{Below, In, Weak, turned, chained, Right}

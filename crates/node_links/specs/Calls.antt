@@ -5,7 +5,8 @@ use Rattle.model.specs.declared.Triple.{Triple}
 use Rattle.model.specs.declared.Vocabulary.{Vocabulary}
 use Rattle.model.specs.Codes.{absent}
 use Rattle.model.specs.Roster.{unmarked}
-use Rattle.model.specs.Cliques.{Side, end, Has, links}
+use Rattle.model.specs.declared.Side.{Side}
+use Rattle.model.specs.Cliques.{end, Has, links}
 use Rattle.theory.specs.Tables.{Below, In}
 use Rattle.union_find.specs.Roots.{root}
 use Rattle.union_find.specs.Calls.{ActivePair, United}

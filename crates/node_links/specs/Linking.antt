@@ -6,7 +6,9 @@ use Rattle.model.specs.declared.Vocabulary.{Vocabulary}
 use Rattle.model.specs.Codes.{absent}
 use Rattle.model.specs.Lists.{tabulate}
 use Rattle.model.specs.Roster.{unmarked, is_node}
-use Rattle.model.specs.Cliques.{Side, source, target, Node, Has}
+use Rattle.model.specs.declared.Side.{Side}
+use Rattle.model.specs.declared.Side.TheVariants.{Source as source, Target as target}
+use Rattle.model.specs.Cliques.{Node, Has}
 use Rattle.model.specs.Classes.{DataNode}
 use Rattle.theory.specs.Tables.{AllBelow, In, HasData, Weak, Right}
 use Rattle.lists.specs.Flat.{at, Before}

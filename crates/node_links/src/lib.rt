@@ -4,12 +4,11 @@
 #![tactic(auto)]
 
 ghost use Rattle.std.specs.Prelude.{◌≡◌, ◌<◌, ◌≤◌, length, set};
-ghost use Rattle.model.specs.Cliques.{side_of};
 ghost use Rattle.node_links.specs.Linking.{slot_of, Openable, Opened};
 ghost use Rattle.node_links.specs.Calls.{SlotLinkable, SlotLinked, EndLinkable, EndLinked};
 
 use lists::{Code, triple_at, wide};
-use model::{Triple, Vocabulary};
+use model::{Side, Triple, Vocabulary};
 use roster_checks::{links_at, side_end};
 use union_find::union;
 
@@ -35,14 +34,13 @@ pub fn open_nodes(table: &[u32], count: usize, map: &mut [u32])
 }
 
 // The entry of a property in the work list: for the sources at its code, for the targets n behind it.
-fn slot(n: usize, sources: bool, property: u32) -> usize
+fn slot(n: usize, side: Side, property: u32) -> usize
     requires { n ≤ 65536 }
-    ensures { result ≡ slot_of n (side_of sources) property }
+    ensures { result ≡ slot_of n side property }
 {
-    if sources {
-        wide(property)
-    } else {
-        n + wide(property)
+    match side {
+        Side::Source => wide(property),
+        Side::Target => n + wide(property),
     }
 }
 
@@ -63,19 +61,19 @@ fn link_node(map: &mut [u32], work: &mut [u32], slot: usize, node: u32)
 pub fn link_end(
     words: Vocabulary,
     roster: &[u8],
-    sources: bool,
+    side: Side,
     t: Triple,
     map: &mut [u32],
     work: &mut [u32],
 )
-    requires { EndLinkable words roster.now (side_of sources) t map.old work.old }
-    ensures { EndLinked words roster.now (side_of sources) t map.old work.old map.new work.new }
+    requires { EndLinkable words roster.now side t map.old work.old }
+    ensures { EndLinked words roster.now side t map.old work.old map.new work.new }
 {
-    if !links_at(words, roster, sources, t) {
+    if !links_at(words, roster, side, t) {
         return;
     }
-    let node = side_end(sources, t);
-    let k = slot(roster.len(), sources, t.property);
+    let node = side_end(side, t);
+    let k = slot(roster.len(), side, t.property);
     link_node(map, work, k, node);
     own_entry(work, node);
 }

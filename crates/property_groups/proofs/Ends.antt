@@ -15,7 +15,8 @@ use Rattle.model.specs.declared.Vocabulary.{Vocabulary}
 use Rattle.model.specs.Codes.{absent}
 use Rattle.model.specs.Triples.{triples}
 use Rattle.model.specs.Partition.{label}
-use Rattle.model.specs.Cliques.{Side, Clique, shared, linked, cliques}
+use Rattle.model.specs.declared.Side.{Side}
+use Rattle.model.specs.Cliques.{Clique, shared, linked, cliques}
 use Rattle.theory.proofs.Tests.{bool_cases, not_both}
 use Rattle.theory.proofs.Covered.{by-mark}
 use Rattle.theory.specs.Tables.{In, Right}

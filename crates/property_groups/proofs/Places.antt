@@ -13,7 +13,8 @@ use Rattle.model.specs.declared.Vocabulary.{Vocabulary}
 use Rattle.model.specs.Lists.{tabulate}
 use Rattle.model.specs.Triples.{triples, is_data}
 use Rattle.model.specs.Roster.{unmarked}
-use Rattle.model.specs.Cliques.{Side, end, links}
+use Rattle.model.specs.declared.Side.{Side}
+use Rattle.model.specs.Cliques.{end, links}
 use Rattle.theory.proofs.Tests.{and_true, not_both}
 use Rattle.theory.specs.Tables.{Below, Right}
 use Rattle.theory.proofs.Weak.{clique-self}

@@ -15,7 +15,8 @@ use Rattle.model.specs.declared.Triple.{Triple}
 use Rattle.model.specs.declared.Vocabulary.{Vocabulary}
 use Rattle.model.specs.Codes.{absent}
 use Rattle.model.specs.Roster.{unmarked}
-use Rattle.model.specs.Cliques.{Graph, Side, Has, Clique, shared, linked}
+use Rattle.model.specs.declared.Side.{Side}
+use Rattle.model.specs.Cliques.{Graph, Has, Clique, shared, linked}
 use Rattle.theory.proofs.Tests.{cond_cases, bool_cases, not_both, not_true_false, or_true, or_left, or_right, or-false}
 use Rattle.theory.proofs.Weak.{has-map, clique_sym}
 use Rattle.union_find.specs.Roots.{Kept, root, merge}

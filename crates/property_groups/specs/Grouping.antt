@@ -5,7 +5,8 @@ use Rattle.std.specs.Prelude.{ℕ, ◌<◌, ◌≡◌, ◌⊎◌, Bool, true, fa
 use Rattle.model.specs.declared.Vocabulary.{Vocabulary}
 use Rattle.model.specs.Codes.{absent}
 use Rattle.model.specs.Roster.{unmarked}
-use Rattle.model.specs.Cliques.{Graph, Side, Has, Clique}
+use Rattle.model.specs.declared.Side.{Side}
+use Rattle.model.specs.Cliques.{Graph, Has, Clique}
 use Rattle.lists.specs.Flat.{Before}
 use Rattle.union_find.specs.Roots.{Forest, root}
 use Rattle.union_find.specs.Calls.{ActivePair, United}

@@ -5,12 +5,11 @@
 
 ghost use Rattle.std.specs.Prelude.{◌≡◌, ◌+◌, ◌/◌, ◌<◌, length};
 ghost use Rattle.model.specs.Triples.{triples};
-ghost use Rattle.model.specs.Cliques.{side_of};
 ghost use Rattle.theory.specs.Tables.{Right};
 ghost use Rattle.property_groups.specs.Grouping.{Grouped, group_opened, Linkable, NodeLinked};
 
 use lists::{Code, empty, triple_at, wide};
-use model::Vocabulary;
+use model::{Side, Vocabulary};
 use roster_checks::{links_at, side_end};
 use union_find::union;
 
@@ -45,36 +44,36 @@ fn link_at(
     words: Vocabulary,
     table: &[u32],
     roster: &[u8],
-    sources: bool,
+    side: Side,
     list: &mut [u32],
     i: usize,
 )
-    requires { Right words roster.now (triples table.now) × (i < length table.now / 3) × Grouped words table.now roster.now (side_of sources) i list.old }
-    ensures { Grouped words table.now roster.now (side_of sources) (i + 1) list.new }
+    requires { Right words roster.now (triples table.now) × (i < length table.now / 3) × Grouped words table.now roster.now side i list.old }
+    ensures { Grouped words table.now roster.now side (i + 1) list.new }
 {
     let t = triple_at(table, i);
-    if !links_at(words, roster, sources, t) {
+    if !links_at(words, roster, side, t) {
         return;
     }
     open_property(list, t.property);
-    link_node(list, side_end(sources, t), t.property);
+    link_node(list, side_end(side, t), t.property);
 }
 
 // Adds each triple of the table.
-fn link_table(words: Vocabulary, table: &[u32], roster: &[u8], sources: bool, list: &mut [u32])
-    requires { Right words roster.now (triples table.now) × Grouped words table.now roster.now (side_of sources) 0 list.old }
-    ensures { Grouped words table.now roster.now (side_of sources) (length table.now / 3) list.new }
+fn link_table(words: Vocabulary, table: &[u32], roster: &[u8], side: Side, list: &mut [u32])
+    requires { Right words roster.now (triples table.now) × Grouped words table.now roster.now side 0 list.old }
+    ensures { Grouped words table.now roster.now side (length table.now / 3) list.new }
 {
     for i in 0..table.len() / 3 {
-        link_at(words, table, roster, sources, list, i);
+        link_at(words, table, roster, side, list, i);
     }
 }
 
 // Groups the properties that share a node at a side; the entry of an unmarked code is the first property seen at that node.
-pub fn group_side(words: Vocabulary, table: &[u32], roster: &[u8], sources: bool, list: &mut [u32])
+pub fn group_side(words: Vocabulary, table: &[u32], roster: &[u8], side: Side, list: &mut [u32])
     requires { Right words roster.now (triples table.now) × (length list.old ≡ length roster.now) }
-    ensures { Grouped words table.now roster.now (side_of sources) (length table.now / 3) list.new }
+    ensures { Grouped words table.now roster.now side (length table.now / 3) list.new }
 {
     empty(list);
-    link_table(words, table, roster, sources, list);
+    link_table(words, table, roster, side, list);
 }

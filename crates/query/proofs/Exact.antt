@@ -17,7 +17,9 @@ use Rattle.model.specs.Codes.{wrong_words, absent}
 use Rattle.model.specs.Triples.{triples}
 use Rattle.model.specs.Roster.{wrong_codes, wrong_triple, wrong_end}
 use Rattle.model.specs.Partition.{label}
-use Rattle.model.specs.Cliques.{Side, source, target, end}
+use Rattle.model.specs.declared.Side.{Side}
+use Rattle.model.specs.declared.Side.TheVariants.{Source as source, Target as target}
+use Rattle.model.specs.Cliques.{end}
 use Rattle.model.specs.Outcomes.{Outcome, accepted, decided, wrong_size, wrong_length}
 use Rattle.query.specs.declared.Pattern.{Pattern}
 use Rattle.query.specs.declared.Query.{Query}

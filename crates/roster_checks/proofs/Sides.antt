@@ -11,7 +11,9 @@ use Rattle.model.specs.declared.Triple.{Triple}
 use Rattle.model.specs.declared.Vocabulary.{Vocabulary}
 use Rattle.model.specs.Triples.{is_data}
 use Rattle.model.specs.Roster.{unmarked}
-use Rattle.model.specs.Cliques.{Side, source, target, end, Has, links}
+use Rattle.model.specs.declared.Side.{Side}
+use Rattle.model.specs.declared.Side.TheVariants.{Source as source, Target as target}
+use Rattle.model.specs.Cliques.{end, Has, links}
 use Rattle.theory.specs.Tables.{Below}
 use Rattle.theory.proofs.Tests.{and_both}
 use Rattle.theory.proofs.Lists.{tabulate-mem, mem-tabulate}

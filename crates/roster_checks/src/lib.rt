@@ -5,12 +5,12 @@ ghost use Rattle.std.specs.Prelude.{◌≡◌, false, not, ◌<◌, length, get_
 ghost use Rattle.model.specs.Codes.{wrong_words};
 ghost use Rattle.model.specs.Triples.{triples};
 ghost use Rattle.theory.specs.Tables.{Below, AllBelow};
-ghost use Rattle.model.specs.Cliques.{side_of, end, links};
+ghost use Rattle.model.specs.Cliques.{end, links};
 ghost use Rattle.model.specs.Roster.{is_class, is_property, unmarked, wrong_roster, covers_triple, covers};
 ghost use Rattle.roster_checks.specs.Reserved.{marked};
 
 use lists::{Code, triple_at};
-use model::{Triple, Vocabulary, Word};
+use model::{Side, Triple, Vocabulary, Word};
 use roster_values::value_wrong;
 
 // Whether a mark says class.
@@ -103,18 +103,21 @@ pub fn roster_wrong(words: Vocabulary, roster: &[u8]) -> bool
     value_wrong(roster) || reserved_marked(words, roster)
 }
 
-// The end of a triple at a side: its subject for the sources, its object for the targets.
-pub fn side_end(sources: bool, t: Triple) -> u32
-    ensures { result ≡ end (side_of sources) t }
+// The end of a triple at a side.
+pub fn side_end(side: Side, t: Triple) -> u32
+    ensures { result ≡ end side t }
 {
-    if sources { t.subject } else { t.object }
+    match side {
+        Side::Source => t.subject,
+        Side::Target => t.object,
+    }
 }
 
 // Whether a triple is a data triple with an unmarked end at the side.
 #[tactic(auto, unfolding(model::specs::Cliques::links, model::specs::Triples::is_data, model::specs::Codes::reserved, model::specs::Roster::unmarked), using(crate::proofs::Sides::end_below))]
-pub fn links_at(words: Vocabulary, roster: &[u8], sources: bool, t: Triple) -> bool
+pub fn links_at(words: Vocabulary, roster: &[u8], side: Side, t: Triple) -> bool
     requires { Below (length roster.now) t }
-    ensures { result ≡ links words roster.now (side_of sources) t }
+    ensures { result ≡ links words roster.now side t }
 {
-    !Code(t.property).is_reserved(words) && roster[side_end(sources, t) as usize] == 0
+    !Code(t.property).is_reserved(words) && roster[side_end(side, t) as usize] == 0
 }

@@ -16,7 +16,9 @@ use Rattle.model.specs.declared.Vocabulary.{Vocabulary}
 use Rattle.model.specs.Codes.{absent, kind, reserved}
 use Rattle.model.specs.Roster.{unmarked, is_node}
 use Rattle.model.specs.Partition.{label}
-use Rattle.model.specs.Cliques.{Side, source, target, Node, cliques}
+use Rattle.model.specs.declared.Side.{Side}
+use Rattle.model.specs.declared.Side.TheVariants.{Source as source, Target as target}
+use Rattle.model.specs.Cliques.{Node, cliques}
 use Rattle.model.specs.Classes.{DataNode, RepresentsBy, clique_of, strong_map_of}
 use Rattle.theory.proofs.Tests.{bool_cases, and_true, and_both, or_true, or_left, or_right, not_true_false, not_both}
 use Rattle.theory.proofs.Lists.{length-tabulate, tabulate-at}

@@ -10,7 +10,8 @@ use Rattle.model.specs.declared.Vocabulary.{Vocabulary}
 use Rattle.model.specs.Codes.{absent}
 use Rattle.model.specs.Lists.{zeros}
 use Rattle.model.specs.Triples.{triples}
-use Rattle.model.specs.Cliques.{source, target, Node}
+use Rattle.model.specs.declared.Side.TheVariants.{Source as source, Target as target}
+use Rattle.model.specs.Cliques.{Node}
 use Rattle.model.specs.Classes.{strong_map_of}
 use Rattle.theory.specs.Tables.{In, Right}
 use Rattle.lists.specs.Flat.{Cleared, Emptied}

@@ -7,7 +7,7 @@
 ghost use Rattle.std.specs.Prelude.{◌≡◌, ◌++◌, ◌+◌, ◌*◌, ◌<◌, length};
 ghost use Rattle.model.specs.Lists.{zeros};
 ghost use Rattle.model.specs.Triples.{triples};
-ghost use Rattle.model.specs.Cliques.{source, target};
+ghost use Rattle.model.specs.declared.Side.TheVariants.{Source as source, Target as target};
 ghost use Rattle.model.specs.Classes.{strong_map_of};
 ghost use Rattle.theory.specs.Tables.{Right};
 ghost use Rattle.node_cliques.specs.Labels.{node_cliques};
@@ -15,7 +15,7 @@ ghost use Rattle.thread_settling.specs.Threads.{Groups, Threaded};
 ghost use Rattle.thread_settling.specs.Calls.{data_node, Threadable, NodeThreaded, Labelled, SomeLabelled};
 
 use lists::{Code, clear, empty, narrow, wide};
-use model::Vocabulary;
+use model::{Side, Vocabulary};
 use node_cliques::node_cliques;
 use node_links::open_nodes;
 use thread_settling::settle_labels;
@@ -58,8 +58,8 @@ fn both_cliques(words: Vocabulary, table: &[u32], roster: &[u8], work: &mut [u32
     ensures { work.new ≡ node_cliques words roster.now source (triples table.now) ++ node_cliques words roster.now target (triples table.now) }
 {
     let n = roster.len();
-    node_cliques(words, table, roster, true, &mut work[0..n]);
-    node_cliques(words, table, roster, false, &mut work[n..2 * n]);
+    node_cliques(words, table, roster, Side::Source, &mut work[0..n]);
+    node_cliques(words, table, roster, Side::Target, &mut work[n..2 * n]);
 }
 
 // The strong map of a table. The work list is zero afterwards.

@@ -18,7 +18,9 @@ use Rattle.model.specs.Triples.{triples, flat}
 use Rattle.model.specs.Roster.{class_row, property_row, covers, wrong_codes}
 use Rattle.model.specs.Saturation.{saturation}
 use Rattle.model.specs.Partition.{label}
-use Rattle.model.specs.Cliques.{Side, source, target, Node, Has}
+use Rattle.model.specs.declared.Side.{Side}
+use Rattle.model.specs.declared.Side.TheVariants.{Source as source, Target as target}
+use Rattle.model.specs.Cliques.{Node, Has, end}
 use Rattle.model.specs.Classes.{map_of}
 use Rattle.model.specs.Summary.{moved, condensed, summary}
 use Rattle.model.specs.Outcomes.{wrong_size, wrong_length}
@@ -121,7 +123,7 @@ module _ (v : Vocabulary) (roster : List ℕ) (ts : List Triple) (R : Right v ro
   node-free : (c : ℕ) → Node (In ts) c → 5 ≤ kind v c
   node-free c x = at x.side x.is_end
     where
-      at : (e : Rattle.model.specs.Cliques.Side) → Rattle.model.specs.Cliques.end e x.by ≡ c → 5 ≤ kind v c
+      at : (e : Side) → end e x.by ≡ c → 5 ≤ kind v c
       at source q = subst (λ (z : ℕ). 5 ≤ kind v z) q (in_codes x.by x.held).subject_free
       at target q = subst (λ (z : ℕ). 5 ≤ kind v z) q (in_codes x.by x.held).object_free
 

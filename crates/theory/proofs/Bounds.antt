@@ -20,7 +20,9 @@ use Rattle.model.specs.Lists.{any, how_many, collect, filter, total}
 use Rattle.model.specs.Triples.{triple, is_data, sorted}
 use Rattle.model.specs.Roster.{unmarked}
 use Rattle.model.specs.Partition.{label}
-use Rattle.model.specs.Cliques.{Side, source, target, end, Node, Has}
+use Rattle.model.specs.declared.Side.{Side}
+use Rattle.model.specs.declared.Side.TheVariants.{Source as source, Target as target}
+use Rattle.model.specs.Cliques.{end, Node, Has}
 use Rattle.model.specs.Classes.{map_of}
 use Rattle.model.specs.Summary.{moved, summary}
 use Rattle.theory.specs.Tables.{AllBelow, In, by_side}

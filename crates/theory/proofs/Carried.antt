@@ -8,7 +8,9 @@ use mathlib.Core.List.{List}
 use Rattle.model.specs.declared.Triple.{Triple}
 use Rattle.model.specs.declared.Vocabulary.{Vocabulary}
 use Rattle.model.specs.Triples.{is_data}
-use Rattle.model.specs.Cliques.{Graph, Side, source, target, end, Node, Has}
+use Rattle.model.specs.declared.Side.{Side}
+use Rattle.model.specs.declared.Side.TheVariants.{Source as source, Target as target}
+use Rattle.model.specs.Cliques.{Graph, end, Node, Has}
 use Rattle.model.specs.Classes.{DataNode}
 use Rattle.model.specs.Summary.{moved, Image}
 use Rattle.theory.proofs.Covered.{Marked, Plain, by-mark}

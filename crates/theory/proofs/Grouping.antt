@@ -15,7 +15,8 @@ use Rattle.model.specs.Triples.{triple}
 use Rattle.model.specs.Rules.{Derives, given}
 use Rattle.model.specs.Saturation.{saturation}
 use Rattle.model.specs.Partition.{label}
-use Rattle.model.specs.Cliques.{Graph, source, target, Node}
+use Rattle.model.specs.declared.Side.TheVariants.{Source as source, Target as target}
+use Rattle.model.specs.Cliques.{Graph, Node}
 use Rattle.model.specs.Classes.{DataNode, RepresentsBy, map_of, strong_map_of}
 use Rattle.model.specs.Summary.{moved, Image, condensed}
 use Rattle.theory.proofs.Order.{rising_unique, rising-length}

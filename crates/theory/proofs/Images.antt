@@ -11,7 +11,9 @@ use Rattle.model.specs.declared.Vocabulary.{Vocabulary}
 use Rattle.model.specs.Codes.{kind}
 use Rattle.model.specs.Triples.{triple}
 use Rattle.model.specs.Rules.{fits, gives, Derives, given, by_rule}
-use Rattle.model.specs.Cliques.{Graph, Side, source, target, end, Node}
+use Rattle.model.specs.declared.Side.{Side}
+use Rattle.model.specs.declared.Side.TheVariants.{Source as source, Target as target}
+use Rattle.model.specs.Cliques.{Graph, end, Node}
 use Rattle.model.specs.Summary.{moved, Image}
 use Rattle.theory.proofs.Covered.{Marked, Covered, schema-marked}
 use Rattle.theory.proofs.RuleLaws.{EndOf, first_subject, first_object, second_subject, second_object, Fixes, laws}

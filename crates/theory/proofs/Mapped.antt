@@ -20,7 +20,9 @@ use Rattle.model.specs.Lists.{any, when, tabulate}
 use Rattle.model.specs.Triples.{is_data}
 use Rattle.model.specs.Roster.{unmarked, is_node}
 use Rattle.model.specs.Partition.{label, Pair, pairs}
-use Rattle.model.specs.Cliques.{Graph, Side, source, target, end, Node, Has, Clique, shared, linked, links, shares, has_clique, cliques}
+use Rattle.model.specs.declared.Side.{Side}
+use Rattle.model.specs.declared.Side.TheVariants.{Source as source, Target as target}
+use Rattle.model.specs.Cliques.{Graph, end, Node, Has, Clique, shared, linked, links, shares, has_clique, cliques}
 use Rattle.model.specs.Classes.{DataNode, Placed, together, alike, RepresentsBy, clique_of, placed_at, placed, map_by, map_of, strong_map_of}
 use Rattle.theory.proofs.Tests.{cond_cases, bool_cases, or_true, or_left, or_right, and_true, and_both}
 use Rattle.theory.proofs.Lists.{any_found, any-holds, collect-mem, mem-collect, when-mem, mem-when, mem-tabulate, length-tabulate}

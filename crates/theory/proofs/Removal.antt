@@ -11,7 +11,8 @@ use Rattle.model.specs.declared.Vocabulary.{Vocabulary}
 use Rattle.model.specs.Codes.{absent}
 use Rattle.model.specs.Triples.{same, without, is_data}
 use Rattle.model.specs.Partition.{label}
-use Rattle.model.specs.Cliques.{Graph, Side, end, Node, Has}
+use Rattle.model.specs.declared.Side.{Side}
+use Rattle.model.specs.Cliques.{Graph, end, Node, Has}
 use Rattle.model.specs.Classes.{DataNode, map_of}
 use Rattle.theory.specs.Tables.{AllBelow, In, HasData, Weak, by_side, by_none, itself, turned, chained}
 use Rattle.theory.proofs.Tests.{bool_cases}

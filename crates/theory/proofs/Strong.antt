@@ -11,7 +11,9 @@ use Rattle.model.specs.declared.Vocabulary.{Vocabulary}
 use Rattle.model.specs.Codes.{kind}
 use Rattle.model.specs.Triples.{is_data}
 use Rattle.model.specs.Rules.{Derives, given, by_rule}
-use Rattle.model.specs.Cliques.{Graph, Side, source, target, end, Node, Has, Clique, shared, linked}
+use Rattle.model.specs.declared.Side.{Side}
+use Rattle.model.specs.declared.Side.TheVariants.{Source as source, Target as target}
+use Rattle.model.specs.Cliques.{Graph, end, Node, Has, Clique, shared, linked}
 use Rattle.model.specs.Classes.{DataNode, SameClique, neither, in_one, Strongly}
 use Rattle.model.specs.Summary.{Image}
 use Rattle.theory.proofs.Covered.{Plain}

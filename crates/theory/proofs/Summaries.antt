@@ -15,7 +15,8 @@ use Rattle.model.specs.Triples.{triple}
 use Rattle.model.specs.Order.{Rising}
 use Rattle.model.specs.Rules.{Derives}
 use Rattle.model.specs.Partition.{label}
-use Rattle.model.specs.Cliques.{Graph, source, target, Node}
+use Rattle.model.specs.declared.Side.TheVariants.{Source as source, Target as target}
+use Rattle.model.specs.Cliques.{Graph, Node}
 use Rattle.model.specs.Classes.{DataNode, RepresentsBy, map_of}
 use Rattle.model.specs.Summary.{moved, Image, condensed, summary}
 use Rattle.theory.proofs.Lists.{map-mem, mem-map}

@@ -11,7 +11,8 @@ use Rattle.model.specs.declared.Triple.{Triple}
 use Rattle.model.specs.declared.Vocabulary.{Vocabulary}
 use Rattle.model.specs.Codes.{kind}
 use Rattle.model.specs.Triples.{is_data}
-use Rattle.model.specs.Cliques.{Graph, Side, Node, Has, Share, Clique, shared, linked}
+use Rattle.model.specs.declared.Side.{Side}
+use Rattle.model.specs.Cliques.{Graph, Node, Has, Share, Clique, shared, linked}
 use Rattle.model.specs.Classes.{DataNode, Weakly, same_clique, no_clique, chain, RepresentsBy}
 use Rattle.theory.specs.Tables.{HasData, Weak, by_side, by_none, itself, turned, chained}
 use Rattle.theory.proofs.Covered.{Plain}

@@ -8,7 +8,9 @@ use Rattle.model.specs.Codes.{kind}
 use Rattle.model.specs.Lists.{any, how_many, tabulate, total}
 use Rattle.model.specs.Triples.{is_data, sorted}
 use Rattle.model.specs.Roster.{unmarked}
-use Rattle.model.specs.Cliques.{Side, source, target, end}
+use Rattle.model.specs.declared.Side.{Side}
+use Rattle.model.specs.declared.Side.TheVariants.{Source as source, Target as target}
+use Rattle.model.specs.Cliques.{end}
 use Rattle.model.specs.Summary.{summary}
 
 -- 0, 1, .., n - 1

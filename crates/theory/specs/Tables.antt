@@ -8,7 +8,8 @@ use Rattle.model.specs.Codes.{wrong_words}
 use Rattle.model.specs.Outcomes.{wrong_size}
 use Rattle.model.specs.Roster.{covers, wrong_roster, wrong_codes}
 use Rattle.model.specs.Triples.{is_data}
-use Rattle.model.specs.Cliques.{Graph, Side, end, Has}
+use Rattle.model.specs.declared.Side.{Side}
+use Rattle.model.specs.Cliques.{Graph, end, Has}
 use Rattle.model.specs.Classes.{DataNode}
 
 -- the codes of a triple are below n

@@ -12,7 +12,8 @@ use Rattle.model.specs.Roster.{mark, is_class, is_property, covers, own_roster, 
 use Rattle.model.specs.Rules.{Derives}
 use Rattle.model.specs.Saturation.{saturation}
 use Rattle.model.specs.Partition.{label}
-use Rattle.model.specs.Cliques.{Graph, Side, Node, Has, Clique, cliques}
+use Rattle.model.specs.declared.Side.{Side}
+use Rattle.model.specs.Cliques.{Graph, Node, Has, Clique, cliques}
 use Rattle.model.specs.Classes.{DataNode, Weakly, Strongly, RepresentsBy, map_of, strong_map_of}
 use Rattle.model.specs.Summary.{moved, Image, condensed, summary, weights, strong_summary}
 use Rattle.model.specs.Outcomes.{Outcome, accepted, Answer, answer, Said, new, Passes}

@@ -14,7 +14,8 @@ use Rattle.model.specs.declared.Triple.{Triple}
 use Rattle.model.specs.declared.Vocabulary.{Vocabulary}
 use Rattle.model.specs.Codes.{absent}
 use Rattle.model.specs.Roster.{unmarked, is_node}
-use Rattle.model.specs.Cliques.{Side, Has}
+use Rattle.model.specs.declared.Side.{Side}
+use Rattle.model.specs.Cliques.{Has}
 use Rattle.theory.proofs.Tests.{bool_cases, not_both, and_true, and_both}
 use Rattle.theory.specs.Tables.{In, by_none}
 use Rattle.theory.proofs.Weak.{data_has}

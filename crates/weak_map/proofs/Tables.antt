@@ -12,7 +12,9 @@ use Rattle.model.specs.declared.Triple.{Triple}
 use Rattle.model.specs.declared.Vocabulary.{Vocabulary}
 use Rattle.model.specs.Codes.{absent}
 use Rattle.model.specs.Lists.{tabulate}
-use Rattle.model.specs.Cliques.{Side, source, target, end, Has, links}
+use Rattle.model.specs.declared.Side.{Side}
+use Rattle.model.specs.declared.Side.TheVariants.{Source as source, Target as target}
+use Rattle.model.specs.Cliques.{end, Has, links}
 use Rattle.theory.proofs.Lists.{tabulate-mem, mem-tabulate}
 use Rattle.theory.specs.Tables.{In, Right}
 use Rattle.theory.proofs.Weak.{has-map}

@@ -12,7 +12,7 @@ ghost use Rattle.node_links.specs.Linking.{Started, AllSeen};
 ghost use Rattle.node_links.specs.Calls.{bare, BareJoinable, BareJoined, Ready, Complete};
 
 use lists::{Code, clear, empty, narrow, triple_at, wide};
-use model::Vocabulary;
+use model::{Side, Vocabulary};
 use node_links::{link_end, open_nodes};
 use union_find::{flatten, union};
 
@@ -30,8 +30,8 @@ fn link_table(
 {
     for i in 0..count {
         let t = triple_at(table, i);
-        link_end(words, roster, true, t, map, work);
-        link_end(words, roster, false, t, map, work);
+        link_end(words, roster, Side::Source, t, map, work);
+        link_end(words, roster, Side::Target, t, map, work);
     }
 }
 

@@ -7,7 +7,7 @@ use Rattle.model.specs.declared.Triple.{Triple}
 use Rattle.model.specs.declared.Vocabulary.{Vocabulary}
 use Rattle.model.specs.Codes.{codes}
 use Rattle.model.specs.Lists.{zeros}
-use Rattle.model.specs.Cliques.{source, target}
+use Rattle.model.specs.declared.Side.TheVariants.{Source as source, Target as target}
 use Rattle.model.specs.Outcomes.{Outcome, refused, Answer, Said, refusal_number, check, decided}
 use Rattle.model.specs.Calls.{Summarised, own_roster_outcome, own_roster_leaves, saturate_outcome, saturate_leaves, cliques_outcome, cliques_leave}
 use Rattle.model.specs.Calls.{summarise_outcome, summarise_leaves, strong_summarise_outcome, strong_summarise_leaves}
