@@ -1,6 +1,6 @@
 -- Marking the roles of triples, and that it makes the own roster.
 -- Assumes nothing.
-use Prim.Native.Nat.{ℕ, zero, suc, ◌+◌, ◌-◌, ◌/◌, ◌≤◌, ◌<◌}
+use Prim.Native.Nat.{ℕ, suc, ◌+◌, ◌-◌, ◌/◌, ◌≤◌, ◌<◌}
 use mathlib.Core.Path.{◌≡◌, refl, sym, ◌∙◌, ap}
 use mathlib.Core.Logic.{⊎_elim}
 use mathlib.Core.Bool.{Bool, true, false, cond, ◌||◌, or_assoc}
@@ -16,14 +16,12 @@ use lib.Seq.{get_or-set_same, get_or-set_other, ext_get_or}
 use borrow.Author.Tests.{eq-eqb, ne_eqb, eqb-true, eqb-false}
 use Rattle.model.specs.declared.Triple.{Triple}
 use Rattle.model.specs.declared.Vocabulary.{Vocabulary}
-use Rattle.model.specs.Codes.{kind}
 use Rattle.model.specs.Lists.{any, among, tabulate, zeros}
 use Rattle.model.specs.Triples.{triples}
-use Rattle.model.specs.Roster.{class_row, property_row, class_roles, property_roles, class_in, property_in, own_roster}
+use Rattle.model.specs.Roster.{class_roles, property_roles, class_in, property_in, own_roster}
 use Rattle.theory.proofs.Tests.{bool_cases}
 use Rattle.theory.proofs.Lists.{tabulate-at, length-tabulate}
 use Rattle.theory.specs.Tables.{Below, AllBelow}
-use Rattle.theory.proofs.Covered.{kind_top}
 use Rattle.theory.proofs.OwnRoster.{Role, as_subject, as_object, as_property, class_role, property_role}
 use Rattle.lists.specs.Flat.{at}
 use Rattle.lists.proofs.Places.{triples-table}
@@ -139,47 +137,6 @@ or_none_lem true = refl
 or_none_lem false = refl
 
 module _ (v : Vocabulary) where
-  -- ── the roles of a triple, by its kind ──
-  module _ (l : List ℕ) (t : Triple) where
-    abbrev rows : ℕ → List ℕ
-    rows k = all_marked property_marked (all_marked class_marked l (class_row t k)) (property_row t k)
-
-    by_kind : (k : ℕ) → kind v t.property ≡ k → roles_marked v l t ≡ rows k
-    unfolding roles_marked class_roles property_roles
-    by_kind k e = ap rows e
-
-    pub roles_data : (k : ℕ) → k ≡ kind v t.property → k ≡ 5 → (m : List ℕ) → m ≡ property_marked l t.property → m ≡ roles_marked v l t
-    unfolding all_marked
-    roles_data k q e m h = h ∙ sym (by_kind 5 (sym q ∙ e))
-
-    pub roles_type : (k : ℕ) → k ≡ kind v t.property → k ≡ 0 → (m : List ℕ) → m ≡ class_marked l t.object → m ≡ roles_marked v l t
-    unfolding all_marked
-    roles_type k q e m h = h ∙ sym (by_kind 0 (sym q ∙ e))
-
-    pub roles_subproperty : (k : ℕ) → k ≡ kind v t.property → k ≡ 2 → (m m' : List ℕ) → m ≡ property_marked l t.object → m' ≡ property_marked m t.subject → m' ≡ roles_marked v l t
-    unfolding all_marked
-    roles_subproperty k q e m m' h g = g ∙ ap (λ (x : List ℕ). property_marked x t.subject) h ∙ sym (by_kind 2 (sym q ∙ e))
-
-    pub roles_subclass : (k : ℕ) → k ≡ kind v t.property → k ≡ 1 → (m m' : List ℕ) → m ≡ class_marked l t.object → m' ≡ class_marked m t.subject → m' ≡ roles_marked v l t
-    unfolding all_marked
-    roles_subclass k q e m m' h g = g ∙ ap (λ (x : List ℕ). class_marked x t.subject) h ∙ sym (by_kind 1 (sym q ∙ e))
-
-    rest-kind : (k : ℕ) → k ≤ 5 → (k ≡ 5 → ⊥) → (k ≡ 2 → ⊥) → (k ≡ 0 → ⊥) → (k ≡ 1 → ⊥) → rows k ≡ property_marked (class_marked l t.object) t.subject
-    unfolding all_marked
-    rest-kind zero u e d a b = absurd (a refl)
-    rest-kind (suc zero) u e d a b = absurd (b refl)
-    rest-kind (suc (suc zero)) u e d a b = absurd (d refl)
-    rest-kind (suc (suc (suc zero))) u e d a b = refl
-    rest-kind (suc (suc (suc (suc zero)))) u e d a b = refl
-    rest-kind (suc (suc (suc (suc (suc zero))))) u e d a b = absurd (e refl)
-    rest-kind (suc (suc (suc (suc (suc (suc k)))))) u e d a b = absurd (omega arith)
-
-    pub roles_rest : (k : ℕ) → k ≡ kind v t.property → (k ≡ 5 → ⊥) → (k ≡ 2 → ⊥) → (k ≡ 0 → ⊥) → (k ≡ 1 → ⊥) → (m m' : List ℕ)
-        → m ≡ class_marked l t.object → m' ≡ property_marked m t.subject → m' ≡ roles_marked v l t
-    roles_rest k q e d a b m m' h g =
-        let u = kind_top v t.property in
-        g ∙ ap (λ (x : List ℕ). property_marked x t.subject) h ∙ sym (by_kind k (sym q) ∙ rest-kind k (omega arith) e d a b)
-
   -- ── all triples, one after the other ──
   -- what is left to mark from place i on ends where marking all from the start ends
   abbrev pub Left : List ℕ → List ℕ → ℕ → ℕ → List ℕ → Type 0

@@ -9,8 +9,8 @@ ghost use Rattle.roster.specs.Calls.{OwnRosterCall};
 ghost use Rattle.roster.specs.Marks.{with_class, with_property, class_marked, property_marked, roles_marked, table_marked};
 
 use checks::{codes_wrong, length_wrong, size_wrong, words_wrong};
-use lists::{Code, DATA, SUBCLASS, SUBPROPERTY, TYPE, triple_at, wide};
-use model::{Refusal, Triple, Vocabulary};
+use lists::{Code, triple_at, wide};
+use model::{Done, Refusal, Triple, Vocabulary, Word};
 
 // The mark that also says class.
 fn with_class(mark: u8) -> u8
@@ -55,29 +55,27 @@ fn mark_property(roster: &mut [u8], c: u32)
 }
 
 // Marks each role of a triple.
+#[tactic(auto, unfolding(crate::specs::Marks::roles_marked, crate::specs::Marks::all_marked, model::specs::Roster::class_roles, model::specs::Roster::property_roles, model::specs::Codes::kind_number, model::specs::Codes::word_number))]
 fn mark_roles(words: Vocabulary, roster: &mut [u8], t: Triple)
     requires { Below (length roster.old) t }
     ensures { roster.new ≡ roles_marked words roster.old t }
 {
-    let kind = Code(t.property).kind(words);
-    if kind == DATA {
-        mark_property(roster, t.property);
-        return;
+    match Code(t.property).kind(words) {
+        None => mark_property(roster, t.property),
+        Some(Word::Instance) => mark_class(roster, t.object),
+        Some(Word::Subclass) => {
+            mark_class(roster, t.object);
+            mark_class(roster, t.subject);
+        }
+        Some(Word::Subproperty) => {
+            mark_property(roster, t.object);
+            mark_property(roster, t.subject);
+        }
+        Some(Word::Domain | Word::Range) => {
+            mark_class(roster, t.object);
+            mark_property(roster, t.subject);
+        }
     }
-    if kind == SUBPROPERTY {
-        mark_property(roster, t.object);
-        mark_property(roster, t.subject);
-        return;
-    }
-    mark_class(roster, t.object);
-    if kind == TYPE {
-        return;
-    }
-    if kind == SUBCLASS {
-        mark_class(roster, t.subject);
-        return;
-    }
-    mark_property(roster, t.subject);
 }
 
 // Zeros in the whole roster.
@@ -107,23 +105,23 @@ fn mark_table(words: Vocabulary, table: &[u32], roster: &mut [u8])
 }
 
 // The smallest roster that covers the table, written into the lent roster; N is its length.
-pub fn own_roster(words: Vocabulary, table: &[u32], roster: &mut [u8]) -> Result<(), Refusal>
+pub fn own_roster(words: Vocabulary, table: &[u32], roster: &mut [u8]) -> Done
     ensures { OwnRosterCall words table.now roster.old result roster.new }
 {
     let n = roster.len();
     if size_wrong(n) {
-        return Err(Refusal::Length);
+        return Done::Refused(Refusal::Length);
     }
     if length_wrong(table.len()) {
-        return Err(Refusal::Length);
+        return Done::Refused(Refusal::Length);
     }
     if words_wrong(words, n) {
-        return Err(Refusal::Words);
+        return Done::Refused(Refusal::Words);
     }
     if codes_wrong(words, table, n) {
-        return Err(Refusal::Code);
+        return Done::Refused(Refusal::Code);
     }
     clear_marks(roster);
     mark_table(words, table, roster);
-    Ok(())
+    Done::Accepted
 }
