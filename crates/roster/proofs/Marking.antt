@@ -13,7 +13,7 @@ use native.Mathlib.Nat.{zero-add}
 use lib.Dec.{eqb}
 use lib.ListN.{length, get_or, set, length-set, replicate, length-replicate, get_or-replicate}
 use lib.Seq.{get_or-set_same, get_or-set_other, ext_get_or}
-use borrow.Author.Tests.{eq-eqb, ne_eqb, eqb-true, eqb-false}
+use borrow.Author.Tests.{eqb-true, eqb-false}
 use Rattle.model.specs.declared.Triple.{Triple}
 use Rattle.model.specs.declared.Vocabulary.{Vocabulary}
 use Rattle.model.specs.Lists.{any, among, tabulate, zeros}
@@ -28,14 +28,6 @@ use Rattle.lists.proofs.Places.{triples-table}
 use Rattle.roster.specs.Marks.{with_class, with_property, class_marked, property_marked, all_marked, roles_marked, table_marked}
 
 -- ── marks ──
-pub with_class_lem : (m : ℕ) → ((m ≡ 0 → 1 ≡ with_class m) × ((m ≡ 0 → ⊥) → m ≡ 2 → 3 ≡ with_class m)) × ((m ≡ 0 → ⊥) → (m ≡ 2 → ⊥) → m ≡ with_class m)
-unfolding with_class
-with_class_lem m = ((λ e. rw (eq-eqb m 0 e), λ n e. rw (ne_eqb m 0 n, eq-eqb m 2 e)), λ n k. rw (ne_eqb m 0 n, ne_eqb m 2 k))
-
-pub with_property_lem : (m : ℕ) → ((m ≡ 0 → 2 ≡ with_property m) × ((m ≡ 0 → ⊥) → m ≡ 1 → 3 ≡ with_property m)) × ((m ≡ 0 → ⊥) → (m ≡ 1 → ⊥) → m ≡ with_property m)
-unfolding with_property
-with_property_lem m = ((λ e. rw (eq-eqb m 0 e), λ n e. rw (ne_eqb m 0 n, eq-eqb m 1 e)), λ n k. rw (ne_eqb m 0 n, ne_eqb m 1 k))
-
 pub class-stored : (l : List ℕ) (c i m : ℕ) → i ≡ c → m ≡ with_class (get_or l i 0) → set l i m ≡ class_marked l c
 unfolding class_marked
 class-stored l c i m e h = λ k. set l (e k) ((h ∙ ap (λ (j : ℕ). with_class (get_or l j 0)) e) k)

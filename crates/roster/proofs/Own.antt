@@ -4,7 +4,7 @@ use Prim.Native.Nat.{ℕ}
 use mathlib.Core.Path.{◌≡◌, refl, sym, ◌∙◌, ap, subst}
 use mathlib.Core.Bool.{Bool, true, false, cond, ◌||◌}
 use mathlib.Core.List.{List}
-use lib.ListN.{length, length-replicate}
+use lib.ListN.{length, replicate, length-replicate}
 use Rattle.std.specs.declared.result.Result.TheVariants.{Ok, Err}
 use Rattle.model.specs.declared.Refusal.TheVariants.{Length, Code, Words}
 use Rattle.model.specs.declared.Vocabulary.{Vocabulary}
@@ -20,6 +20,11 @@ use Rattle.theory.proofs.Covered.{all_codes}
 use Rattle.roster.specs.Calls.{OwnRosterCall}
 use Rattle.roster.specs.Marks.{table_marked}
 use Rattle.roster.proofs.Marking.{marked-own}
+
+-- the roster, filled with zeros
+pub filled : (l m : List ℕ) → m ≡ replicate (length l) 0 → m ≡ zeros (length l)
+unfolding zeros
+filled l m e = e
 
 module _ (v : Vocabulary) where
   module _ (table roster : List ℕ) where

@@ -2,7 +2,6 @@
 #![tactic(auto)]
 
 ghost use Rattle.std.specs.Prelude.{◌≡◌, ◌<◌, length};
-ghost use Rattle.model.specs.Lists.{zeros};
 ghost use Rattle.model.specs.Triples.{triples};
 ghost use Rattle.theory.specs.Tables.{Below, AllBelow};
 ghost use Rattle.roster.specs.Calls.{OwnRosterCall};
@@ -13,29 +12,27 @@ use lists::{Code, triple_at, wide};
 use model::{Done, Refusal, Triple, Vocabulary, Word};
 
 // The mark that also says class.
+#[tactic(auto, unfolding(crate::specs::Marks::with_class))]
 fn with_class(mark: u8) -> u8
     ensures { result ≡ with_class mark }
 {
-    if mark == 0 {
-        return 1;
+    match mark {
+        0 => 1,
+        2 => 3,
+        _ => mark,
     }
-    if mark == 2 {
-        return 3;
-    }
-    mark
 }
 
 // The mark that also says property.
+#[tactic(auto, unfolding(crate::specs::Marks::with_property))]
 fn with_property(mark: u8) -> u8
     ensures { result ≡ with_property mark }
 {
-    if mark == 0 {
-        return 2;
+    match mark {
+        0 => 2,
+        1 => 3,
+        _ => mark,
     }
-    if mark == 1 {
-        return 3;
-    }
-    mark
 }
 
 fn mark_class(roster: &mut [u8], c: u32)
@@ -78,29 +75,13 @@ fn mark_roles(words: Vocabulary, roster: &mut [u8], t: Triple)
     }
 }
 
-// Zeros in the whole roster.
-fn clear_marks(roster: &mut [u8])
-    ensures { roster.new ≡ zeros (length roster.old) }
-{
-    let n = roster.len();
-    let mut i = 0;
-    while i < n {
-        roster[i] = 0;
-        i += 1;
-    }
-}
-
 // Marks each role of each triple of the table.
 fn mark_table(words: Vocabulary, table: &[u32], roster: &mut [u8])
     requires { AllBelow (length roster.old) (triples table.now) }
     ensures { roster.new ≡ table_marked words roster.old (triples table.now) }
 {
-    let n = table.len() / 3;
-    let mut i = 0;
-    while i < n {
-        let t = triple_at(table, i);
-        mark_roles(words, roster, t);
-        i += 1;
+    for i in 0..table.len() / 3 {
+        mark_roles(words, roster, triple_at(table, i));
     }
 }
 
@@ -121,7 +102,7 @@ pub fn own_roster(words: Vocabulary, table: &[u32], roster: &mut [u8]) -> Done
     if codes_wrong(words, table, n) {
         return Done::Refused(Refusal::Code);
     }
-    clear_marks(roster);
+    roster.fill(0);
     mark_table(words, table, roster);
     Done::Accepted
 }

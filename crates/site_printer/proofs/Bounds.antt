@@ -2,16 +2,13 @@
 -- Assumes nothing.
 use Prim.Native.Nat.{ℕ, ◌≤◌}
 use mathlib.Core.Path.{◌≡◌}
-use mathlib.Core.List.{List, ◌++◌}
+use mathlib.Core.List.{List}
 use native.Mathlib.Omega.{arith}
-use lib.ListN.{length, length-append}
+use lib.ListN.{length}
 use Rattle.site_form.specs.Printing.{printed}
 use Rattle.site_bytes.specs.Calls.{Put}
 use Rattle.site_bytes.proofs.Stores.{put-length}
 use Rattle.table_printing.proofs.Fits.{printed-fits}
-
-pub read-end : (n : ℕ) (first rest : List ℕ) → n ≤ length first → n ≤ length (first ++ rest)
-read-end n first rest h = omega (arith, length-append first rest)
 
 -- what is printed fits
 pub print_end : (text l out : List ℕ) (r : ℕ) → 65536 ≡ length l → Put l 0 (printed text) out r → r ≤ length out

@@ -18,6 +18,7 @@ use model::{Refusal, Vocabulary, refusal_number};
 use query::{Asked, Query, is_retired};
 use roster::own_roster;
 use saturate::saturate;
+use site_bytes::Page;
 use site_form::{LARGEST_PRINTED, MOST_ASKS, PRINTER_SLOTS};
 use site_report::{put_answers, put_nodes, put_refused, put_summary};
 use site_writer::put_triples;
@@ -32,7 +33,9 @@ const WORK_NUMBERS: usize = 2 * LARGEST_PRINTED;
 pub fn refuse(out: &mut [u8], refusal: Refusal) -> usize
     ensures { Put out.old 0 (shown (refused (refusal_number refusal))) out.new result }
 {
-    put_refused(out, 0, refusal_number(refusal))
+    let mut page = Page::new(out);
+    put_refused(&mut page, refusal_number(refusal));
+    page.at
 }
 
 // Whether a query was refused, and not because it is retired.
@@ -51,12 +54,10 @@ fn any_wrong(answers: [Result<Asked, Refusal>; MOST_ASKS], count: usize) -> bool
     requires { count ≤ most_asks }
     ensures { result ≡ any is_wrong (answers_in answers count) }
 {
-    let mut i = 0;
-    while i < count {
+    for i in 0..count {
         if is_wrong(answers[i]) {
             return true;
         }
-        i += 1;
     }
     false
 }
@@ -73,10 +74,8 @@ fn ask_all(
     ensures { answers_in result count ≡ asked_of words table.now map.now queries count }
 {
     let mut answers = [Ok(Asked::Maybe); MOST_ASKS];
-    let mut i = 0;
-    while i < count {
+    for i in 0..count {
         answers[i] = ask(words, table, map, queries[i]);
-        i += 1;
     }
     answers
 }
@@ -92,10 +91,12 @@ fn put_report(
     requires { (count ≤ most_asks) × (length table.now ≤ 3 * printer_slots) × (length map.now ≤ largest_printed) × Room 0 (report (triples table.now) map.now (answers_in answers count)) }
     ensures { Put out.old 0 (report (triples table.now) map.now (answers_in answers count)) out.new result }
 {
-    let i = put_summary(out, 0, narrow(table.len() / 3));
-    let j = put_triples(out, i, table);
-    let k = put_nodes(out, j, map);
-    put_answers(out, k, answers, count)
+    let mut page = Page::new(out);
+    put_summary(&mut page, narrow(table.len() / 3));
+    put_triples(&mut page, table);
+    put_nodes(&mut page, map);
+    put_answers(&mut page, answers, count);
+    page.at
 }
 
 // Asks the queries of a summary and its map: 6 where one is wrong, else the report.

@@ -1,5 +1,5 @@
 use mathlib.Core.Path.{sym, ◌∙◌}
-use Rattle.roster.proofs.Own.{by_size, by-table, by-words, by_codes, by_marking, codes-below}
+use Rattle.roster.proofs.Own.{by_size, by-table, by-words, by_codes, by_marking, codes-below, filled}
 use Rattle.roster.proofs.own_roster.Goals as goal
 
 pub returns-then-size_wrong : goal.returns-then-size_wrong
@@ -19,9 +19,9 @@ returns-then-codes_wrong c = by_codes _ c.args.table.now c.args.roster.now (sym 
 
 pub mark_table-requires : goal.mark_table-requires
 mark_table-requires c = codes-below _ c.args.table.now c.args.roster.now (sym c.codes_wrong.ensures ∙ c.if-codes_wrong.false) _
-    c.clear_marks.ensures
+    (filled _ _ (c.fill.ensures.after (λ y e. e)))
 
 pub returns : goal.returns
 returns c = by_marking _ c.args.table.now c.args.roster.now (sym c.size_wrong.ensures ∙ c.if-size_wrong.false)
     (sym c.length_wrong.ensures ∙ c.if-length_wrong.false) (sym c.words_wrong.ensures ∙ c.if-words_wrong.false)
-    (sym c.codes_wrong.ensures ∙ c.if-codes_wrong.false) _ _ c.clear_marks.ensures c.mark_table.ensures
+    (sym c.codes_wrong.ensures ∙ c.if-codes_wrong.false) _ _ (filled _ _ (c.fill.ensures.after (λ y e. e))) c.mark_table.ensures

@@ -1,5 +1,4 @@
 use mathlib.Core.Path.{sym, ◌∙◌}
-use native.Mathlib.Omega.{arith}
 use Rattle.theory.proofs.Runs.{none-start, none-step, one_found, none_found}
 use Rattle.site_form.specs.Printing.{is_wrong}
 use Rattle.site_report.specs.Lines.{answer_at}
@@ -12,12 +11,6 @@ loop-i-init c = none-start _ _ _
 pub returns-then-is_wrong : goal.returns-then-is_wrong
 returns-then-is_wrong c = wrong-by _ _
     (one_found is_wrong (answer_at c.args.answers) _ _ c.loop-i-test.true (sym c.is_wrong.ensures ∙ c.if-is_wrong.true))
-
-pub overflow_add-i : goal.overflow_add-i
-overflow_add-i c = omega arith
-
-pub loop-i-smaller : goal.loop-i-smaller
-loop-i-smaller c = omega arith
 
 pub loop-i-preserved : goal.loop-i-preserved
 loop-i-preserved c = none-step _ _ _ _ c.loop-i.invariant c.loop-i-test.true (sym c.is_wrong.ensures ∙ c.if-is_wrong.false)

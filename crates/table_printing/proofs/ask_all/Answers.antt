@@ -5,12 +5,6 @@ use Rattle.table_printing.proofs.ask_all.Goals as goal
 pub loop-i-init : goal.loop-i-init
 loop-i-init c = asks-start _ _ _ _
 
-pub overflow_add-i : goal.overflow_add-i
-overflow_add-i c = omega arith
-
-pub loop-i-smaller : goal.loop-i-smaller
-loop-i-smaller c = omega arith
-
 pub loop-i-preserved : goal.loop-i-preserved
 loop-i-preserved c = asks-step _ _ _ _ _ _ c.loop-i.invariant (omega (arith, c.requires, c.loop-i-test.true)) _ c.ask.ensures
 
