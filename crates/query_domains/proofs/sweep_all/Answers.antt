@@ -3,17 +3,8 @@ use native.Mathlib.Omega.{arith}
 use mathlib.Core.Path.{◌∙◌}
 use Rattle.query.proofs.Steps.{few_patterns, right-subject, right-object}
 use Rattle.query_rows.proofs.Rows.{sized_as}
-use Rattle.query_domains.proofs.Sweeps.{none_yet, one_more, all_none, all-swept}
+use Rattle.query_domains.proofs.Sweeps.{all_none, all-swept}
 use Rattle.query_domains.proofs.sweep_all.Goals as goal
-
-pub fill-requires : goal.fill-requires
-fill-requires c = c.requires.1
-
-pub loop-j-init : goal.loop-j-init
-loop-j-init c = (none_yet _ _ _ _ _, omega arith)
-
-pub offset_bounds-q-j : goal.offset_bounds-q-j
-offset_bounds-q-j c = omega (arith, c.loop-j.invariant.1, few_patterns _ c.args.q c.requires.0)
 
 pub bounds-q-j : goal.bounds-q-j
 bounds-q-j c = omega (arith, c.loop-j-test.true, c.loop-j.invariant.1, few_patterns _ c.args.q c.requires.0)
@@ -25,23 +16,11 @@ sweep-requires c = let high : c.loop-j.j - 1 < c.args.q.count = omega (arith, c.
   sized_as _ _ (c.loop-j.invariant.0.size ∙ c.fill.ensures.size) c.requires.1,
 )
 
-pub shape_of-rows-then-not-sweep : goal.shape_of-rows-then-not-sweep
-shape_of-rows-then-not-sweep c = c.sweep.ensures.size ∙ c.loop-j.invariant.0.size ∙ c.fill.ensures.size
-
 pub returns-then-not-sweep : goal.returns-then-not-sweep
 returns-then-not-sweep c = let low : c.args.k ≤ c.loop-j.j - 1 = omega (arith, c.loop-j-test.true) in
     let high : c.loop-j.j - 1 < c.args.q.count = omega (arith, c.loop-j-test.true, c.loop-j.invariant.1) in
     all_none c.args.table.now c.args.map.now _ c.args.q _ _ _ _ _ c.loop-j.invariant.0 low high
     c.sweep.ensures _ _ c.fill.ensures (c.if-not-sweep.true)
-
-pub loop-j-preserved : goal.loop-j-preserved
-loop-j-preserved c = let low : c.args.k ≤ c.loop-j.j - 1 = omega (arith, c.loop-j-test.true) in
-    let high : c.loop-j.j - 1 < c.args.q.count = omega (arith, c.loop-j-test.true, c.loop-j.invariant.1) in
-    let swept = c.sweep.ensures in
-    (one_more c.args.table.now c.args.map.now _ c.args.q _ _ _ _ _ c.loop-j.invariant.0 low high swept, omega (arith, high))
-
-pub shape_of-rows : goal.shape_of-rows
-shape_of-rows c = c.loop-j.invariant.0.size ∙ c.fill.ensures.size
 
 pub returns : goal.returns
 returns c = all-swept _ _ _ _ _ _ _ _ c.fill.ensures c.loop-j.invariant.0
