@@ -9,7 +9,7 @@ ghost use Rattle.roster.specs.Marks.{with_class, with_property, class_marked, pr
 
 use checks::{codes_wrong, length_wrong, size_wrong, words_wrong};
 use lists::{Code, triple_at, wide};
-use model::{Done, Refusal, Triple, Vocabulary, Word};
+use model::{Refusal, Triple, Vocabulary, Word};
 
 // The mark that also says class.
 #[tactic(auto, unfolding(crate::specs::Marks::with_class))]
@@ -86,23 +86,23 @@ fn mark_table(words: Vocabulary, table: &[u32], roster: &mut [u8])
 }
 
 // The smallest roster that covers the table, written into the lent roster; N is its length.
-pub fn own_roster(words: Vocabulary, table: &[u32], roster: &mut [u8]) -> Done
+pub fn own_roster(words: Vocabulary, table: &[u32], roster: &mut [u8]) -> Result<(), Refusal>
     ensures { OwnRosterCall words table.now roster.old result roster.new }
 {
     let n = roster.len();
     if size_wrong(n) {
-        return Done::Refused(Refusal::Length);
+        return Err(Refusal::Length);
     }
     if length_wrong(table.len()) {
-        return Done::Refused(Refusal::Length);
+        return Err(Refusal::Length);
     }
     if words_wrong(words, n) {
-        return Done::Refused(Refusal::Words);
+        return Err(Refusal::Words);
     }
     if codes_wrong(words, table, n) {
-        return Done::Refused(Refusal::Code);
+        return Err(Refusal::Code);
     }
     roster.fill(0);
     mark_table(words, table, roster);
-    Done::Accepted
+    Ok(())
 }
