@@ -54,7 +54,7 @@ demand_2 =
       summaries = theorems.summary-exact;
       strong_representatives = theorems.strong-representatives-exact;
       strong_summaries = theorems.strong-summary-exact;
-      own_roster_lem = theorems.own-roster-least;
+      own_roster_least = theorems.own-roster-least;
       ask = ask-exact;
       retired = retired-exact;
     }

@@ -229,7 +229,7 @@ module _ (v : Vocabulary) where
   pub accepted_calls : AcceptedCalls v
   accepted_calls table roster h =
       record {
-        own_roster_lem = λ list e. accepts-own-roster table roster list h e;
+        accepts_own_roster = λ list e. accepts-own-roster table roster list h e;
         saturates = λ result few. accepts_saturate table roster result h few;
         summarises = accepts_summarise (map_of v) table roster h;
         strongly_summarises = accepts_summarise (strong_map_of v) table roster h;

@@ -63,7 +63,7 @@ pub record Demand2 : Type 0 where
   pub summaries : (v : Vocabulary) → SummaryExact v
   pub strong_representatives : (v : Vocabulary) → StrongRepresentativesExact v
   pub strong_summaries : (v : Vocabulary) → StrongSummaryExact v
-  pub own_roster_lem : (v : Vocabulary) → OwnRosterLeast v
+  pub own_roster_least : (v : Vocabulary) → OwnRosterLeast v
   pub ask : AskExact
   pub retired : RetiredExact
 

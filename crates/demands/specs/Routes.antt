@@ -77,7 +77,7 @@ module _ (v : Vocabulary) where
   -- On an accepted table, with lists that are long enough, these calls are accepted.
   pub record CallsAccept (table roster : List ℕ) : Type 0 where
     -- own roster into a list of the roster's length
-    pub own_roster_lem : (list : List ℕ) → length list ≡ length roster → own_roster_outcome v table list ≡ accepted tt
+    pub accepts_own_roster : (list : List ℕ) → length list ≡ length roster → own_roster_outcome v table list ≡ accepted tt
     pub saturates : (result : List ℕ) → length (saturation v (length roster) (triples table)) ≤ slots result
         → saturate_outcome v table roster result ≡ accepted (length (saturation v (length roster) (triples table)))
     pub summarises : AcceptsSummarise (map_of v) table roster

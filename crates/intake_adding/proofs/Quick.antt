@@ -65,7 +65,7 @@ module _ (v : Vocabulary) (roster : List ℕ) (ts : List Triple) (t : Triple) (b
   agrees target = ap (λ (x : Triple). x.object) image.2
 
   plain_rep : (n : ℕ) → Node G n → Plain roster n → Plain roster (f n)
-  plain_rep n x a = (weak_nodes v roster (reps.of_data_lem n (record { node = x; plain = a }))).1.plain
+  plain_rep n x a = (weak_nodes v roster (reps.of_plain n (record { node = x; plain = a }))).1.plain
 
   -- both ends of a side are one marked node, or weakly equivalent
   alike : (e : Side) → (end e t ≡ end e u) ⊎ Weak v roster G (end e t) (end e u)
@@ -78,12 +78,12 @@ module _ (v : Vocabulary) (roster : List ℕ) (ts : List Triple) (t : Triple) (b
       go (inr a) (inl b) =
           absurd (true≢false (sym (plain_rep (end e t) (node e) a) ∙ ap (unmarked roster) (agrees e ∙ reps.of_marked (end e u) (node_of e) b) ∙ b))
       go (inr a) (inr b) =
-          inr (chained (subst (Weak v roster G (end e t)) (agrees e) (reps.of_data_lem (end e t) (record { node = node e; plain = a })))
-          (turned (reps.of_data_lem (end e u) (record { node = node_of e; plain = b }))))
+          inr (chained (subst (Weak v roster G (end e t)) (agrees e) (reps.of_plain (end e t) (record { node = node e; plain = a })))
+          (turned (reps.of_plain (end e u) (record { node = node_of e; plain = b }))))
 
-  is_data_lem : is_data v t ≡ true → is_data v u ≡ true
+  data_triple : is_data v t ≡ true → is_data v u ≡ true
   unfolding is_data
-  is_data_lem h = ap (λ (p : ℕ). lib.Dec.leb 5 (kind v p)) (sym property) ∙ h
+  data_triple h = ap (λ (p : ℕ). lib.Dec.leb 5 (kind v p)) (sym property) ∙ h
 
   kept : (x : Triple) → G x → H x
   kept x m = insert-keeps t x ts m
@@ -99,12 +99,12 @@ module _ (v : Vocabulary) (roster : List ℕ) (ts : List Triple) (t : Triple) (b
 
   data_back : {n : ℕ} → HasData v H n → HasData v G n
   data_back {n} x = ⊎_elim
-      (λ (e : x.by ≡ t). subst (HasData v G) (ap (end x.side) (sym e) ∙ x.is_end) (at x.side (subst (λ (z : Triple). is_data v z ≡ true) e x.is_data_lem)))
-      (λ m. record { by = x.by; held = m; is_data_lem = x.is_data_lem; side = x.side; is_end = x.is_end }) (insert-mem t x.by ts x.held)
+      (λ (e : x.by ≡ t). subst (HasData v G) (ap (end x.side) (sym e) ∙ x.is_end) (at x.side (subst (λ (z : Triple). is_data v z ≡ true) e x.data_triple)))
+      (λ m. record { by = x.by; held = m; data_triple = x.data_triple; side = x.side; is_end = x.is_end }) (insert-mem t x.by ts x.held)
     where
       at : (e : Side) → is_data v t ≡ true → HasData v G (end e t)
       at e h =
-          let k : HasData v G (end e u) = record { by = u; held = held; is_data_lem = is_data_lem h; side = e; is_end = refl } in
+          let k : HasData v G (end e u) = record { by = u; held = held; data_triple = data_triple h; side = e; is_end = refl } in
           ⊎_elim (λ q. subst (HasData v G) (sym q) k) (λ w. (weak_data v roster w).1 k) (alike e)
 
   -- a node at a side of a property has an equivalent there before
@@ -118,21 +118,21 @@ module _ (v : Vocabulary) (roster : List ℕ) (ts : List Triple) (t : Triple) (b
     where
       old : Mem x.by ts → Before e n p
       old m =
-          let h : Has v roster G e n p = record { by = x.by; held = m; is_data_lem = x.is_data_lem; is_end = x.is_end; plain = x.plain; property = x.property } in
+          let h : Has v roster G e n p = record { by = x.by; held = m; data_triple = x.data_triple; is_end = x.is_end; plain = x.plain; property = x.property } in
           record { other = n; has = h; same = itself (has-node v roster h) }
 
       new : x.by ≡ t → Before e n p
       new q =
           let a : end e t ≡ n = ap (end e) (sym q) ∙ x.is_end in
-          let d : is_data v u ≡ true = is_data_lem (subst (λ (z : Triple). is_data v z ≡ true) q x.is_data_lem) in
+          let d : is_data v u ≡ true = data_triple (subst (λ (z : Triple). is_data v z ≡ true) q x.data_triple) in
           let k : u.property ≡ p = sym property ∙ ap (λ (z : Triple). z.property) (sym q) ∙ x.property in
           ⊎_elim
           (λ o.
-          let h : Has v roster G e n p = record { by = u; held = held; is_data_lem = d; is_end = sym o ∙ a; plain = x.plain; property = k } in
+          let h : Has v roster G e n p = record { by = u; held = held; data_triple = d; is_end = sym o ∙ a; plain = x.plain; property = k } in
           record { other = n; has = h; same = itself (has-node v roster h) })
           (λ w.
           let y = (weak_nodes v roster w).1 in
-          record { other = end e u; has = record { by = u; held = held; is_data_lem = d; is_end = refl; plain = y.plain; property = k }; same = subst (λ (z : ℕ). Weak v roster G z (end e u)) a w })
+          record { other = end e u; has = record { by = u; held = held; data_triple = d; is_end = refl; plain = y.plain; property = k }; same = subst (λ (z : ℕ). Weak v roster G z (end e u)) a w })
           (alike e)
 
   weak_back : {n m : ℕ} → Weak v roster H n m → Weak v roster G n m
@@ -149,7 +149,7 @@ module _ (v : Vocabulary) (roster : List ℕ) (ts : List Triple) (t : Triple) (b
   reps-on =
       record {
         of_marked = λ n x a. reps.of_marked n (node-back x) a;
-        of_data_lem = λ n x. weak_on (reps.of_data_lem n (data_node_back x));
+        of_plain = λ n x. weak_on (reps.of_plain n (data_node_back x));
         least = λ n m x w. reps.least n m (data_node_back x) (weak_back w);
       }
 

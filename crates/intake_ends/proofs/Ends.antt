@@ -58,7 +58,7 @@ module _ (f : ℕ → Triple) (n i : ℕ) (t : Triple) (rising : RisingPart f 0 
         record {
           by = f E.place;
           held = other-held E.place E.inside E.there.other;
-          is_data_lem = ap (λ (q : ℕ). leb 5 (kind v q)) p ∙ d;
+          data_triple = ap (λ (q : ℕ). leb 5 (kind v q)) p ∙ d;
           is_end = eqb-true _ (end e t) w.1;
           plain = a;
           property = p;

@@ -55,13 +55,13 @@ module _ (v : Vocabulary) (roster : List ℕ) where
   pub record Strongly (G : Graph) (n m : ℕ) : Type 0 where
     pub one : DataNode G n
     pub two : DataNode G m
-    pub at_side_lem : (e : Side) → SameClique G e n m
+    pub each_side : (e : Side) → SameClique G e n m
 
   -- 01: "A representative is the smallest code of its class; a marked node represents itself."
   -- f gives the representatives of the nodes by the equivalence E of its data nodes.
   pub record RepresentsBy (E : ℕ → ℕ → Type 0) (G : Graph) (f : ℕ → ℕ) : Type 0 where
     pub of_marked : (n : ℕ) → Node G n → unmarked roster n ≡ false → f n ≡ n
-    pub of_data_lem : (n : ℕ) → DataNode G n → E n (f n)
+    pub of_plain : (n : ℕ) → DataNode G n → E n (f n)
     pub least : (n m : ℕ) → DataNode G n → E n m → f n ≤ m
 
   -- ── computed ──

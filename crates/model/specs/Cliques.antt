@@ -34,7 +34,7 @@ module _ (v : Vocabulary) (roster : List ℕ) where
   pub record Has (G : Graph) (e : Side) (n p : ℕ) : Type 0 where
     pub by : Triple
     pub held : G by
-    pub is_data_lem : is_data v by ≡ true
+    pub data_triple : is_data v by ≡ true
     pub is_end : end e by ≡ n
     pub plain : unmarked roster n ≡ true
     pub property : by.property ≡ p

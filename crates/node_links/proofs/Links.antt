@@ -190,7 +190,7 @@ module _ (v : Vocabulary) where
           (b : Linked v roster ts S map work) where
         has_end : links v roster e t ≡ true → HasIn e (end e t) t.property
         unfolding links
-        has_end h = let x = and_true (is_data v t) _ h in record { by = t; held = m; is_data_lem = x.0; is_end = refl; plain = x.1; property = refl }
+        has_end h = let x = and_true (is_data v t) _ h in record { by = t; held = m; data_triple = x.0; is_end = refl; plain = x.1; property = refl }
 
         pub end-linkable : EndLinkable v roster e t map work
         end-linkable = record {

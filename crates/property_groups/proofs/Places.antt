@@ -46,14 +46,14 @@ module _ (v : Vocabulary) where
           grown : Grown v roster e (Before table i) (Before table (i + 1)) (end e t) t.property
           grown = record {
             up = (up table i);
-            own = record { by = t; held = subst (Before table (i + 1)) (sym is) (last table i); is_data_lem = parts.0; is_end = refl; plain = parts.1; property = refl };
+            own = record { by = t; held = subst (Before table (i + 1)) (sym is) (last table i); data_triple = parts.0; is_end = refl; plain = parts.1; property = refl };
             back = λ m p k. ⊎_elim (λ o. inl o) (λ x. inr (x.1, x.2)) (has-back v table i roster e t is m p k);
           }
 
           marked : unmarked roster t.property ≡ false
           marked =
               let m = subst (λ (x : Triple). Mem x (triples table)) (sym is) (at_in table i w) in
-              has-marked v roster (triples table) R {e = e} (record { by = t; held = m; is_data_lem = parts.0; is_end = refl; plain = parts.1; property = refl })
+              has-marked v roster (triples table) R {e = e} (record { by = t; held = m; data_triple = parts.0; is_end = refl; plain = parts.1; property = refl })
 
           pub property-inside : t.property < length l
           property-inside = omega (arith, place-below.property, g.state.size)

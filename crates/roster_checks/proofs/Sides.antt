@@ -46,9 +46,9 @@ module _ (v : Vocabulary) where
       unfolding links
       has-back m p h =
           ⊎_elim
-          (λ k. inl (record { by = h.by; held = k; is_data_lem = h.is_data_lem; is_end = h.is_end; plain = h.plain; property = h.property }))
+          (λ k. inl (record { by = h.by; held = k; data_triple = h.data_triple; is_end = h.is_end; plain = h.plain; property = h.property }))
           (λ k.
           let q : t ≡ h.by = is ∙ sym k in
           let s : end e t ≡ m = ap (end e) q ∙ h.is_end in
-          inr (and_both (is_data v t) _ (ap (is_data v) q ∙ h.is_data_lem) (ap (unmarked roster) s ∙ h.plain), sym s, sym (ap (λ (x : Triple). x.property) q ∙ h.property)))
+          inr (and_both (is_data v t) _ (ap (is_data v) q ∙ h.data_triple) (ap (unmarked roster) s ∙ h.plain), sym s, sym (ap (λ (x : Triple). x.property) q ∙ h.property)))
           ((back table i) h.by h.held)

@@ -142,7 +142,7 @@ module _ (v : Vocabulary) (roster : List ℕ) (ts : List Triple) (R : Right v ro
   clique-no-type : (e : Side) (c : ℕ) → Plain roster c → clique_at e c ≡ v.instance → ⊥
   clique-no-type e c a q =
       ⊎_elim (λ z. omega (arith, q, z, type-below R, room v roster ts R))
-      (λ k. let d = data_kind v k.has.by k.has.is_data_lem in omega (arith, type-kind v, ap (kind v) k.has.property, ap (kind v) q))
+      (λ k. let d = data_kind v k.has.by k.has.data_triple in omega (arith, type-kind v, ap (kind v) k.has.property, ap (kind v) q))
       (clique_or v roster ts (below v roster ts R) (room v roster ts R) e c a)
 
   same_clique : (e : Side) (c d : ℕ) → Plain roster c → Plain roster d → label_at e c ≡ label_at e d → clique_at e c ≡ clique_at e d
@@ -249,7 +249,7 @@ module _ (v : Vocabulary) (roster : List ℕ) (ts : List Triple) (R : Right v ro
     reps =
         record {
           of_marked = λ c x m. node-entry c x ∙ S.rest c (λ d. not_both (data_node_lem c d).plain m) ∙ own c x;
-          of_data_lem = λ c x. subst (Strong v roster (In ts) c) (sym (node-entry c x.node)) (data_rep c x (settled_at c x));
+          of_plain = λ c x. subst (Strong v roster (In ts) c) (sym (node-entry c x.node)) (data_rep c x (settled_at c x));
           least = λ c d x w. subst (λ (z : ℕ). z ≤ d) (sym (node-entry c x.node)) (least_rep c d w (settled_at c x));
         }
       where

@@ -101,7 +101,7 @@ module _ (v : Vocabulary) (roster : List ℕ) (ts : List Triple) (R : Right v ro
   pub has-marked : {e : Side} {n p : ℕ} → Has v roster (In ts) e n p → Marked roster p
   has-marked h =
       let q = h.by.property in
-      let k : kind v q ≡ 5 = omega (arith, kind_top v q, data_kind v h.by h.is_data_lem) in
+      let k : kind v q ≡ 5 = omega (arith, kind_top v q, data_kind v h.by h.data_triple) in
       subst (Marked roster) h.property (property-marked roster q (property-at roster v h.by 5 k (covered h.by h.held) q (here refl)))
 
   -- ── the saturation ──

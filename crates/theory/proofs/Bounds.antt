@@ -76,7 +76,7 @@ module _ (v : Vocabulary) (roster : List ℕ) (ts : List Triple) where
     -- ── one property ──
     module _ (p : ℕ) (d : data_property v p ≡ true) where
       has : (e : Side) (u : Triple) → Mem u ts → u.property ≡ p → Plain roster (end e u) → Has v roster (In ts) e (end e u) p
-      has e u m q pl = record { by = u; held = m; is_data_lem = data_of u p q ∙ d; is_end = refl; plain = pl; property = q }
+      has e u m q pl = record { by = u; held = m; data_triple = data_of u p q ∙ d; is_end = refl; plain = pl; property = q }
 
       abbrev plain_end : Side → Triple → Bool
       plain_end e u = with_property p u && unmarked roster (end e u)

@@ -57,7 +57,7 @@ module _ (v : Vocabulary) (roster : List ℕ) (H : Graph) (f : ℕ → ℕ) wher
         record {
           by = moved f h.by;
           held = (h.by, h.held, refl);
-          is_data_lem = moved_data v f h.by ∙ h.is_data_lem;
+          data_triple = moved_data v f h.by ∙ h.data_triple;
           is_end = moved-end f e h.by ∙ ap f h.is_end;
           plain = keeps n (has-node v roster h);
           property = h.property;
@@ -68,7 +68,7 @@ module _ (v : Vocabulary) (roster : List ℕ) (H : Graph) (f : ℕ → ℕ) wher
         record {
           by = moved f h.by;
           held = (h.by, h.held, refl);
-          is_data_lem = moved_data v f h.by ∙ h.is_data_lem;
+          data_triple = moved_data v f h.by ∙ h.data_triple;
           side = h.side;
           is_end = moved-end f h.side h.by ∙ ap f h.is_end;
         }
@@ -90,7 +90,7 @@ module _ (v : Vocabulary) (roster : List ℕ) (H : Graph) (f : ℕ → ℕ) wher
           has = record {
             by = w.0;
             held = w.1;
-            is_data_lem = sym (moved_data v f w.0) ∙ ap (is_data v) (sym w.2) ∙ h.is_data_lem;
+            data_triple = sym (moved_data v f w.0) ∙ ap (is_data v) (sym w.2) ∙ h.data_triple;
             is_end = refl;
             plain = y.plain;
             property = ap (λ (z : Triple). z.property) (sym w.2) ∙ h.property;

@@ -81,7 +81,7 @@ module _ (v : Vocabulary) (roster : List ℕ) where
               record {
                 by = h.by;
                 held = (f h.by).1 h.held;
-                is_data_lem = h.is_data_lem;
+                data_triple = h.data_triple;
                 is_end = h.is_end;
                 plain = h.plain;
                 property = h.property;
@@ -110,12 +110,12 @@ module _ (v : Vocabulary) (roster : List ℕ) where
       data_rep : (n : ℕ) → DataNode v roster H n → h (f n) ≡ g n
       data_rep n x =
           let d = data_node_up v roster H f own keeps x in
-          let wh = S.of_data_lem (f n) d in
+          let wh = S.of_plain (f n) d in
           let k = image-node f (K.nodes wh).1.node in
           let y = plain_down v roster H f own keeps k.1 (subst (Plain roster) (sym k.2) (K.nodes wh).1.plain) in
           let wk = K.under f own finer wh n k.0 x.node k.1 refl k.2 in
           let up : g n ≤ f k.0 = R.least n (f k.0) x (K.through wk (finer k.0 y)) in
-          let wg = R.of_data_lem n x in
+          let wg = R.of_plain n x in
           let low : h (f n) ≤ f (g n) = S.least (f n) (f (g n)) d (K.image f own finer wg) in
           le_antisymm (le_trans low (falls (g n) (K.nodes wg).1)) (subst (λ (z : ℕ). g n ≤ z) k.2 up)
 
@@ -157,7 +157,7 @@ module _ (v : Vocabulary) (roster : List ℕ) where
       kept : (c : ℕ) → Node (In ts) c → Node (In ts) (f c)
       kept c x =
           ⊎_elim (λ (t : Marked roster c). subst (Node (In ts)) (sym (F.of_marked c x t)) x)
-          (λ (a : Plain roster c). (K.nodes (F.of_data_lem c (record { node = x; plain = a }))).1.node) (by-mark roster c)
+          (λ (a : Plain roster c). (K.nodes (F.of_plain c (record { node = x; plain = a }))).1.node) (by-mark roster c)
 
       pub sum-right : Right v roster (sum ts)
       sum-right = condensed-right v roster ts R (K.map_of_lem ts) F.of_marked kept
@@ -199,7 +199,7 @@ module _ (v : Vocabulary) (roster : List ℕ) where
       own n x t = F.of_marked n (node-down v roster (In ts) (covered v roster ts R) x) t
 
       finer : (n : ℕ) → DataNode v roster (Derives v (In ts)) n → K.E (Derives v (In ts)) n (f n)
-      finer n x = K.up (covered v roster ts R) (F.of_data_lem n (data_down x))
+      finer n x = K.up (covered v roster ts R) (F.of_plain n (data_down x))
 
       falls : (n : ℕ) → DataNode v roster (Derives v (In ts)) n → f n ≤ n
       falls n x = falls_in n (data_down x)
@@ -249,7 +249,7 @@ module _ (v : Vocabulary) (roster : List ℕ) where
 
       -- the second map after the first is the first
       pub rest-carried : (c : ℕ) → k (f c) ≡ f c
-      rest-carried c = ⊎_elim (quotient_map (In ts) f F.of_marked F.of_data_lem falls_in f k F again c) none-at (node_or ts c)
+      rest-carried c = ⊎_elim (quotient_map (In ts) f F.of_marked F.of_plain falls_in f k F again c) none-at (node_or ts c)
         where
           none-at : (Node (In ts) c → ⊥) → k (f c) ≡ f c
           none-at x =
@@ -304,7 +304,7 @@ module _ (v : Vocabulary) (roster : List ℕ) where
         same-grouped weakly (condensed-exact (strong_map_of v roster ts) ts) (map-reps v roster (sum strongly ts) (below v roster (sum strongly ts) Q) (room v roster ts R))
 
     weak_finer : (n : ℕ) → DataNode v roster (In ts) n → Weak v roster (In ts) n (s n)
-    weak_finer n x = strong_weak v roster (data_or v ts n) (S.of_data_lem n x)
+    weak_finer n x = strong_weak v roster (data_or v ts n) (S.of_plain n x)
 
     falls-strong : (n : ℕ) → DataNode v roster (In ts) n → s n ≤ n
     falls-strong n x = S.least n n x (strong-self v roster x)

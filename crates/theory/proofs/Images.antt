@@ -55,12 +55,12 @@ module _ (v : Vocabulary) (roster : List ℕ) where
               (derives_ends x) (derives_ends y) ((laws v roster r k).object_end a b);
         })
 
-    at_side_lem : {t : Triple} → Ends t → (e : Side) → Node G (end e t)
-    at_side_lem x source = x.subject
-    at_side_lem x target = x.object
+    each_side : {t : Triple} → Ends t → (e : Side) → Node G (end e t)
+    each_side x source = x.subject
+    each_side x target = x.object
 
     pub node-down : {n : ℕ} → Node (Derives v G) n → Node G n
-    node-down x = subst (Node G) x.is_end (at_side_lem (derives_ends x.held) x.side)
+    node-down x = subst (Node G) x.is_end (each_side (derives_ends x.held) x.side)
 
     pub node-up : {n : ℕ} → Node G n → Node (Derives v G) n
     node-up x = node-map (λ t y. given y) x
@@ -73,12 +73,12 @@ module _ (v : Vocabulary) (roster : List ℕ) where
     data_ends : {t : Triple} → Derives v G t → 5 ≤ kind v t.property → DataEnds t
     data_ends (given {t} x) h =
         record {
-          subject = record { by = t; held = x; is_data_lem = kind_data v t h; side = source; is_end = refl };
-          object = record { by = t; held = x; is_data_lem = kind_data v t h; side = target; is_end = refl };
+          subject = record { by = t; held = x; data_triple = kind_data v t h; side = source; is_end = refl };
+          object = record { by = t; held = x; data_triple = kind_data v t h; side = target; is_end = refl };
         }
     data_ends (by_rule r a b k e g x y) h =
         let d = (laws v roster r k).from_data a b e (derives_covered x) (derives_covered y) (subst (λ (z : Triple). 5 ≤ kind v z.property) g h) in
-        let z = data_ends y d.is_data_lem in
+        let z = data_ends y d.data_triple in
         subst DataEnds (sym g) (record { subject = subst (HasData v G) (sym d.subject) z.subject; object = subst (HasData v G) (sym d.object) z.object })
 
     data_at_lem : {t : Triple} → DataEnds t → (e : Side) → HasData v G (end e t)
@@ -86,7 +86,7 @@ module _ (v : Vocabulary) (roster : List ℕ) where
     data_at_lem x target = x.object
 
     pub data_down : {n : ℕ} → HasData v (Derives v G) n → HasData v G n
-    data_down x = subst (HasData v G) x.is_end (data_at_lem (data_ends x.held (data_kind v x.by x.is_data_lem)) x.side)
+    data_down x = subst (HasData v G) x.is_end (data_at_lem (data_ends x.held (data_kind v x.by x.data_triple)) x.side)
 
     -- what is equivalent stays so
     pub weak_up : {n m : ℕ} → Weak v roster G n m → Weak v roster (Derives v G) n m

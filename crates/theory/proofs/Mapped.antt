@@ -70,11 +70,11 @@ data_or v ts c = ⊎_elim (λ e. inl (found e)) (λ e. inr (λ x. true≢false (
     found h =
         let y = any_found (data_at v c) ts h in
         let z = and_true (is_data v y.0) _ y.2 in
-        ⊎_elim (λ e. record { by = y.0; held = y.1; is_data_lem = z.0; side = source; is_end = sym (eqb-true c y.0.subject e) })
-        (λ e. record { by = y.0; held = y.1; is_data_lem = z.0; side = target; is_end = sym (eqb-true c y.0.object e) }) (or_true (eqb c y.0.subject) _ z.1)
+        ⊎_elim (λ e. record { by = y.0; held = y.1; data_triple = z.0; side = source; is_end = sym (eqb-true c y.0.subject e) })
+        (λ e. record { by = y.0; held = y.1; data_triple = z.0; side = target; is_end = sym (eqb-true c y.0.object e) }) (or_true (eqb c y.0.subject) _ z.1)
 
     holds : HasData v (In ts) c → any (data_at v c) ts ≡ true
-    holds x = any-holds (data_at v c) ts x.by x.held (and_both (is_data v x.by) _ x.is_data_lem (at x.side x.is_end))
+    holds x = any-holds (data_at v c) ts x.by x.held (and_both (is_data v x.by) _ x.data_triple (at x.side x.is_end))
       where
         at : (e : Side) → end e x.by ≡ c → (eqb c x.by.subject || eqb c x.by.object) ≡ true
         at source q = or_left (eqb c x.by.subject) _ (eq-eqb c x.by.subject (sym q))
@@ -92,11 +92,11 @@ module _ (v : Vocabulary) (roster : List ℕ) (ts : List Triple) (below : AllBel
 
   links-has : (e : Side) (t : Triple) → Mem t ts → links v roster e t ≡ true → Has v roster G e (end e t) t.property
   unfolding links
-  links-has e t m h = let x = and_true (is_data v t) _ h in record { by = t; held = m; is_data_lem = x.0; is_end = refl; plain = x.1; property = refl }
+  links-has e t m h = let x = and_true (is_data v t) _ h in record { by = t; held = m; data_triple = x.0; is_end = refl; plain = x.1; property = refl }
 
   has-links : (e : Side) {n p : ℕ} (h : Has v roster G e n p) → links v roster e h.by ≡ true
   unfolding links
-  has-links e h = and_both (is_data v h.by) _ h.is_data_lem (subst (λ (z : ℕ). unmarked roster z ≡ true) (sym h.is_end) h.plain)
+  has-links e h = and_both (is_data v h.by) _ h.data_triple (subst (λ (z : ℕ). unmarked roster z ≡ true) (sym h.is_end) h.plain)
 
   test_clique : (e : Side) (p : ℕ) → has_clique v roster e ts p ≡ true → Cliqued e p
   unfolding has_clique
@@ -195,9 +195,9 @@ module _ (v : Vocabulary) (roster : List ℕ) (ts : List Triple) (below : AllBel
   has-label e {c} {p} h = go (found e c ts)
     where
       go : Found e c ts (clique_at e c) → clique_at e c ≡ label (cliques v roster e ts) p
-      go (inl (q, f)) = absurd (f h.by h.held h.is_data_lem h.is_end)
+      go (inl (q, f)) = absurd (f h.by h.held h.data_triple h.is_end)
       go (inr (t, m, d, k, q)) =
-          q ∙ clique-agrees e (shared (record { node = c; one = record { by = t; held = m; is_data_lem = d; is_end = k; plain = h.plain; property = refl }; two = h }))
+          q ∙ clique-agrees e (shared (record { node = c; one = record { by = t; held = m; data_triple = d; is_end = k; plain = h.plain; property = refl }; two = h }))
 
   pub has_named : (e : Side) {c p : ℕ} → Has v roster G e c p → clique_at e c ≡ absent → ⊥
   has_named e {c} {p} h q =
@@ -208,14 +208,14 @@ module _ (v : Vocabulary) (roster : List ℕ) (ts : List Triple) (below : AllBel
     where
       go : Found e c ts (clique_at e c) → clique_at e c ≡ absent
       go (inl (q, g)) = q
-      go (inr (t, m, d, k, q)) = absurd (f t.property (record { by = t; held = m; is_data_lem = d; is_end = k; plain = a; property = refl }))
+      go (inr (t, m, d, k, q)) = absurd (f t.property (record { by = t; held = m; data_triple = d; is_end = k; plain = a; property = refl }))
 
   some-has : (e : Side) (c : ℕ) → Plain roster c → (clique_at e c ≡ absent → ⊥) → (p : ℕ) × Has v roster G e c p
   some-has e c a f = go (found e c ts)
     where
       go : Found e c ts (clique_at e c) → (p : ℕ) × Has v roster G e c p
       go (inl (q, g)) = absurd (f q)
-      go (inr (t, m, d, k, q)) = (t.property, record { by = t; held = m; is_data_lem = d; is_end = k; plain = a; property = refl })
+      go (inr (t, m, d, k, q)) = (t.property, record { by = t; held = m; data_triple = d; is_end = k; plain = a; property = refl })
 
   -- two data nodes with one clique that is not absent
   one_clique : (e : Side) (c d : ℕ) → Plain roster c → Plain roster d → (clique_at e c ≡ absent → ⊥) → clique_at e c ≡ clique_at e d → Weak v roster G c d
@@ -334,7 +334,7 @@ module _ (v : Vocabulary) (roster : List ℕ) (ts : List Triple) (below : AllBel
         record {
           of_marked = λ c x t. ⊎_elim (λ (e : c ≡ label (map_by v roster test ts) c). sym e)
               (λ (w : E c (label (map_by v roster test ts) c)). absurd (true≢false (sym (nodes _ _ w).0.plain ∙ t))) (labels-by.related c x);
-          of_data_lem = λ c x. ⊎_elim (λ (e : c ≡ label (map_by v roster test ts) c). subst (E c) e (self c x)) (λ (w : E c (label (map_by v roster test ts) c)). w) (labels-by.related c x.node);
+          of_plain = λ c x. ⊎_elim (λ (e : c ≡ label (map_by v roster test ts) c). subst (E c) e (self c x)) (λ (w : E c (label (map_by v roster test ts) c)). w) (labels-by.related c x.node);
           least = λ c d x w. subst (λ (z : ℕ). z ≤ d) (sym (agrees c d w)) (labels-by.low d (nodes _ _ w).1.node);
         }
 

@@ -65,14 +65,14 @@ module _ (v : Vocabulary) (roster : List ℕ) (H : List Triple) (t : Triple) (be
     data_down {n} a h = ⊎_elim
         (λ (q : h.by ≡ t).
         let e : end h.side t ≡ n = ap (end h.side) (sym q) ∙ h.is_end in
-        subst (HasData v K) e ((others h.side).still (subst (λ (z : Triple). is_data v z ≡ true) q h.is_data_lem) (subst (Plain roster) (sym e) a)))
-        (λ m. record { by = h.by; held = m; is_data_lem = h.is_data_lem; side = h.side; is_end = h.is_end }) (split h.by h.held)
+        subst (HasData v K) e ((others h.side).still (subst (λ (z : Triple). is_data v z ≡ true) q h.data_triple) (subst (Plain roster) (sym e) a)))
+        (λ m. record { by = h.by; held = m; data_triple = h.data_triple; side = h.side; is_end = h.is_end }) (split h.by h.held)
 
     -- a node at a side of a property is still there, or is t's end
     has_cases : {e : Side} {n p : ℕ} → Has v roster G e n p → Has v roster K e n p ⊎ ((end e t ≡ n) × (t.property ≡ p) × (is_data v t ≡ true))
     has_cases {e} {n} {p} x = ⊎_elim
-        (λ (q : x.by ≡ t). inr (ap (end e) (sym q) ∙ x.is_end, ap (λ (z : Triple). z.property) (sym q) ∙ x.property, subst (λ (z : Triple). is_data v z ≡ true) q x.is_data_lem))
-        (λ m. inl (record { by = x.by; held = m; is_data_lem = x.is_data_lem; is_end = x.is_end; plain = x.plain; property = x.property })) (split x.by x.held)
+        (λ (q : x.by ≡ t). inr (ap (end e) (sym q) ∙ x.is_end, ap (λ (z : Triple). z.property) (sym q) ∙ x.property, subst (λ (z : Triple). is_data v z ≡ true) q x.data_triple))
+        (λ m. inl (record { by = x.by; held = m; data_triple = x.data_triple; is_end = x.is_end; plain = x.plain; property = x.property })) (split x.by x.held)
 
     side-down : {e : Side} {n m p : ℕ} → Has v roster G e n p → Has v roster G e m p → Weak v roster K n m
     side-down {e} {n} {m} {p} x y = go (has_cases x) (has_cases y)
@@ -105,7 +105,7 @@ module _ (v : Vocabulary) (roster : List ℕ) (H : List Triple) (t : Triple) (be
         let R = map-reps v roster H below room in
         record {
           of_marked = λ n x a. R.of_marked n (node-map kept x) a;
-          of_data_lem = λ n x. weak_down (R.of_data_lem n (data_node_up x));
+          of_plain = λ n x. weak_down (R.of_plain n (data_node_up x));
           least = λ n m x w. R.least n m (data_node_up x) (weak_up w);
         }
 

@@ -34,7 +34,7 @@ module _ (v : Vocabulary) (roster : List ℕ) where
 
   -- the conclusion is a data triple: then it has the ends of the second premise, a data triple too
   pub record FromData (t b : Triple) : Type 0 where
-    pub is_data_lem : 5 ≤ kind v b.property
+    pub data_triple : 5 ≤ kind v b.property
     pub subject : t.subject ≡ b.subject
     pub object : t.object ≡ b.object
 
@@ -120,7 +120,7 @@ module _ (v : Vocabulary) (roster : List ℕ) where
             (λ c m. absurd (no-mem m))
             (λ c m. one_of (λ q. subst (Property roster) (sym q) (property-at roster v a 2 (any-parts a b 2 h).0 x a.object (there (here refl)))) m);
         from_data = λ a b h x y d.
-            record { is_data_lem = subst (λ (z : ℕ). 5 ≤ kind v z) (any-parts a b 2 h).1 x.subject_free; subject = refl; object = refl };
+            record { data_triple = subst (λ (z : ℕ). 5 ≤ kind v z) (any-parts a b 2 h).1 x.subject_free; subject = refl; object = refl };
         along = λ f a b h p q. (h, refl);
         back = λ f a b x y h. h;
       }

@@ -93,16 +93,16 @@ module _ (v : Vocabulary) (roster : List ℕ) where
   record Ground (G : Graph) (t : Triple) : Type 0 where
     from : Triple
     held : G from
-    is_data_lem : is_data v from ≡ true
+    data_triple : is_data v from ≡ true
     subject : t.subject ≡ from.subject
     object : t.object ≡ from.object
 
   ground : (G : Graph) → Covers v roster G → {t : Triple} → Derives v G t → 5 ≤ kind v t.property → Ground G t
-  ground G c (given {t} x) h = record { from = t; held = x; is_data_lem = kind_data v t h; subject = refl; object = refl }
+  ground G c (given {t} x) h = record { from = t; held = x; data_triple = kind_data v t h; subject = refl; object = refl }
   ground G c (by_rule r a b k e g x y) h =
       let d = (laws v roster r k).from_data a b e (derives_covered v roster G c x) (derives_covered v roster G c y) (subst (λ (z : Triple). 5 ≤ kind v z.property) g h) in
-      let w = ground G c y d.is_data_lem in
-      subst (Ground G) (sym g) (record { from = w.from; held = w.held; is_data_lem = w.is_data_lem; subject = d.subject ∙ w.subject; object = d.object ∙ w.object })
+      let w = ground G c y d.data_triple in
+      subst (Ground G) (sym g) (record { from = w.from; held = w.held; data_triple = w.data_triple; subject = d.subject ∙ w.subject; object = d.object ∙ w.object })
 
   ground-end : {G : Graph} {t : Triple} (e : Side) (w : Ground G t) → end e t ≡ end e w.from
   ground-end source w = w.subject
@@ -110,8 +110,8 @@ module _ (v : Vocabulary) (roster : List ℕ) where
 
   pub side-down : (G : Graph) → Covers v roster G → (e : Side) (n p : ℕ) → Has v roster (Derives v G) e n p → (q : ℕ) × Has v roster G e n q
   side-down G c e n p h =
-      let w = ground G c h.held (data_kind v h.by h.is_data_lem) in
-      (w.from.property, record { by = w.from; held = w.held; is_data_lem = w.is_data_lem; is_end = sym (ground-end e w) ∙ h.is_end; plain = h.plain; property = refl })
+      let w = ground G c h.held (data_kind v h.by h.data_triple) in
+      (w.from.property, record { by = w.from; held = w.held; data_triple = w.data_triple; is_end = sym (ground-end e w) ∙ h.is_end; plain = h.plain; property = refl })
 
   pub strong-up : {G : Graph} → Covers v roster G → {n m : ℕ} → Strong G n m → Strong (Derives v G) n m
   strong-up {G} c s = strong-map (λ t x. given x) (side-down G c) s
@@ -128,7 +128,7 @@ module _ (v : Vocabulary) (roster : List ℕ) where
 
   -- ── it is 02's ──
   pub strongly-strong : {G : Graph} {n m : ℕ} → Strongly v roster G n m → Strong G n m
-  strongly-strong {G} {n} {m} s = record { one = s.one; two = s.two; alike = λ e. go e (s.at_side_lem e) }
+  strongly-strong {G} {n} {m} s = record { one = s.one; two = s.two; alike = λ e. go e (s.each_side e) }
     where
       -- all properties of a node at a side are in one clique
       own : (e : Side) {a p q : ℕ} → Has v roster G e a p → Has v roster G e a q → Clique v roster G e p q
@@ -145,7 +145,7 @@ module _ (v : Vocabulary) (roster : List ℕ) where
   -- where it can be told whether a node has a property at a side
   pub strong-strongly : {G : Graph} → ((e : Side) (n : ℕ) → Plain roster n → ((p : ℕ) × Has v roster G e n p) ⊎ ((p : ℕ) → Has v roster G e n p → ⊥))
       → {n m : ℕ} → Strong G n m → Strongly v roster G n m
-  strong-strongly {G} d {n} {m} s = record { one = s.one; two = s.two; at_side_lem = λ e. go e (d e n s.one.plain) }
+  strong-strongly {G} d {n} {m} s = record { one = s.one; two = s.two; each_side = λ e. go e (d e n s.one.plain) }
     where
       go : (e : Side) → ((p : ℕ) × Has v roster G e n p) ⊎ ((p : ℕ) → Has v roster G e n p → ⊥) → SameClique v roster G e n m
       go e (inl (p, h)) = let x = (s.alike e).forth p h in in_one h x.has x.clique

@@ -82,7 +82,7 @@ module _ (v : Vocabulary) (roster : List ℕ) where
   same-reps f e R =
       record {
         of_marked = λ n x t. R.of_marked n (same-node (same_sym f) x) t;
-        of_data_lem = λ n x. (e n _).0 (R.of_data_lem n (data_node_map v roster (λ t y. (f t).1 y) x));
+        of_plain = λ n x. (e n _).0 (R.of_plain n (data_node_map v roster (λ t y. (f t).1 y) x));
         least = λ n m x w. R.least n m (data_node_map v roster (λ t y. (f t).1 y) x) ((e n m).1 w);
       }
 
@@ -91,7 +91,7 @@ module _ (v : Vocabulary) (roster : List ℕ) where
       ⊎_elim (λ (t : Marked roster n). F.of_marked n x t ∙ sym (H.of_marked n x t))
       (λ (a : Plain roster n).
       let d : DataNode v roster G n = record { node = x; plain = a } in
-      le_antisymm (F.least n (g n) d (H.of_data_lem n d)) (H.least n (f n) d (F.of_data_lem n d))) (by-mark roster n)
+      le_antisymm (F.least n (g n) d (H.of_plain n d)) (H.least n (f n) d (F.of_plain n d))) (by-mark roster n)
 
   -- two lists of one length that give the representatives, and absent for no node, are one
   pub labels_unique : {E : ℕ → ℕ → Type 0} (ts : List Triple) (m k : List ℕ) → length m ≡ length k → RepresentsBy v roster E (In ts) (label m) → RepresentsBy v roster E (In ts) (label k)

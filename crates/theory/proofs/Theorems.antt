@@ -157,7 +157,7 @@ module _ (v : Vocabulary) where
       let d = mapped.data_or v (triples table) in
       record {
         shared = λ c k x y. (
-          λ e. weak_weakly v roster d (chained (F.of_data_lem c x) (turned (subst (Weak v roster (In (triples table)) k) (sym e) (F.of_data_lem k y)))),
+          λ e. weak_weakly v roster d (chained (F.of_plain c x) (turned (subst (Weak v roster (In (triples table)) k) (sym e) (F.of_plain k y)))),
           λ w. mapped.map-agrees v roster (triples table) b l (weakly_weak v roster w),
         );
         represents = reps-represents v roster d F;
@@ -186,12 +186,12 @@ module _ (v : Vocabulary) where
       let d = mapped.has_or v roster (triples table) b l in
       record {
         shared = λ c k x y. (
-          λ e. strong-strongly v roster d (strong-through v roster (F.of_data_lem c x) (strong-flip v roster (subst (Strong v roster (In (triples table)) k) (sym e) (F.of_data_lem k y)))),
+          λ e. strong-strongly v roster d (strong-through v roster (F.of_plain c x) (strong-flip v roster (subst (Strong v roster (In (triples table)) k) (sym e) (F.of_plain k y)))),
           λ w. mapped.strong-agrees v roster (triples table) b l (strongly-strong v roster w),
         );
         represents = record {
           of_marked = F.of_marked;
-          of_data_lem = λ n x. strong-strongly v roster d (F.of_data_lem n x);
+          of_plain = λ n x. strong-strongly v roster d (F.of_plain n x);
           least = λ n m x w. F.least n m x (strongly-strong v roster w);
         };
         no_node = mapped.strong-absent v roster (triples table) b l;

@@ -30,20 +30,20 @@ module _ (v : Vocabulary) where
   kind_data t h = le-leb 5 (kind v t.property) h
 
   pub data_map : {G H : Graph} → ((t : Triple) → G t → H t) → {n : ℕ} → HasData v G n → HasData v H n
-  data_map f x = record { by = x.by; held = f x.by x.held; is_data_lem = x.is_data_lem; side = x.side; is_end = x.is_end }
+  data_map f x = record { by = x.by; held = f x.by x.held; data_triple = x.data_triple; side = x.side; is_end = x.is_end }
 
   module _ (roster : List ℕ) where
     pub has_data : {G : Graph} {e : Side} {n p : ℕ} → Has v roster G e n p → HasData v G n
-    has_data {e = e} h = record { by = h.by; held = h.held; is_data_lem = h.is_data_lem; side = e; is_end = h.is_end }
+    has_data {e = e} h = record { by = h.by; held = h.held; data_triple = h.data_triple; side = e; is_end = h.is_end }
 
     pub data_has : {G : Graph} {n : ℕ} → Plain roster n → (h : HasData v G n) → Has v roster G h.side n h.by.property
-    data_has a h = record { by = h.by; held = h.held; is_data_lem = h.is_data_lem; is_end = h.is_end; plain = a; property = refl }
+    data_has a h = record { by = h.by; held = h.held; data_triple = h.data_triple; is_end = h.is_end; plain = a; property = refl }
 
     pub has-node : {G : Graph} {e : Side} {n p : ℕ} → Has v roster G e n p → DataNode v roster G n
     has-node {e = e} h = record { node = record { by = h.by; held = h.held; side = e; is_end = h.is_end }; plain = h.plain }
 
     pub has-map : {G H : Graph} → ((t : Triple) → G t → H t) → {e : Side} {n p : ℕ} → Has v roster G e n p → Has v roster H e n p
-    has-map f h = record { by = h.by; held = f h.by h.held; is_data_lem = h.is_data_lem; is_end = h.is_end; plain = h.plain; property = h.property }
+    has-map f h = record { by = h.by; held = f h.by h.held; data_triple = h.data_triple; is_end = h.is_end; plain = h.plain; property = h.property }
 
     pub data_node_map : {G H : Graph} → ((t : Triple) → G t → H t) → {n : ℕ} → DataNode v roster G n → DataNode v roster H n
     data_node_map f x = record { node = node-map f x.node; plain = x.plain }
@@ -118,4 +118,4 @@ module _ (v : Vocabulary) where
 
     pub reps-represents : {G : Graph} {f : ℕ → ℕ} → ((n : ℕ) → HasData v G n ⊎ (HasData v G n → ⊥)) → Reps G f → RepresentsBy v roster (Weakly v roster G) G f
     reps-represents d R =
-        record { of_marked = R.of_marked; of_data_lem = λ n x. weak_weakly d (R.of_data_lem n x); least = λ n m x w. R.least n m x (weakly_weak w) }
+        record { of_marked = R.of_marked; of_plain = λ n x. weak_weakly d (R.of_plain n x); least = λ n m x w. R.least n m x (weakly_weak w) }

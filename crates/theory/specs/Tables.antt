@@ -39,7 +39,7 @@ module _ (v : Vocabulary) where
   pub record HasData (G : Graph) (n : ℕ) : Type 0 where
     pub by : Triple
     pub held : G by
-    pub is_data_lem : is_data v by ≡ true
+    pub data_triple : is_data v by ≡ true
     pub side : Side
     pub is_end : end side by ≡ n
 

@@ -57,7 +57,7 @@ module _ (v : Vocabulary) where
     reps : Reps v roster (In ts) (label l₁)
     reps = record {
       of_marked = λ n x m. ⊎_elim (λ e. sym e) (λ w. absurd (not_both (weak_nodes v roster w).0.plain m)) (alike n x);
-      of_data_lem = λ n x. ⊎_elim (λ e. subst (Weak v roster (In ts) n) e (itself x)) (λ w. w) (alike n x.node);
+      of_plain = λ n x. ⊎_elim (λ e. subst (Weak v roster (In ts) n) e (itself x)) (λ w. w) (alike n x.node);
       least = λ n m x w. omega (arith, final n x.node, one-root n m w, root-le l m);
     }
 
