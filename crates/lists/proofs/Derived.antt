@@ -1,7 +1,6 @@
 -- The derived comparisons of triples are those of the definitions.
 -- Assumes nothing.
 use mathlib.Core.Path.{◌≡◌, refl}
-use mathlib.Core.Bool.{Bool}
 use Rattle.std.proofs.Common.{rules}
 use Rattle.std.specs.Ordering.{partial_lt}
 use Rattle.std.specs.Cmp.Rules.{comparing}
