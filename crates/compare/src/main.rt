@@ -9,13 +9,12 @@ mod rosters;
 mod sites;
 mod sizes;
 
-use comparison_report::report;
-use comparison_report::report::TALLY;
+use comparison_report::report::Tally;
 use read_full::read_full;
 use std::io;
 
 fn main(rt: HostRuntime) -> io::Result<()> {
-    let mut tally = [0u64; TALLY];
+    let mut tally = Tally::new();
     let mut text = [0u8; 16384];
     let n = read_full(&mut rt.stdin(), &mut text)?;
     cases::all(&rt, &mut tally, &text[0..n])?;
@@ -23,5 +22,5 @@ fn main(rt: HostRuntime) -> io::Result<()> {
     rosters::all(&rt, &mut tally)?;
     sites::all(&rt, &mut tally)?;
     queries::all(&rt, &mut tally)?;
-    report::counts(&rt, &tally)
+    tally.print(&rt)
 }

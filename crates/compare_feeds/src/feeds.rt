@@ -1,19 +1,19 @@
 // Random lists of feeds to random sites; what random chains of calls share with them.
 ghost use Rattle.std.specs.Prelude.{◌≤◌};
 
-use comparison_report::report::TALLY;
+use comparison_report::report::Tally;
 use fed_intakes::both::{compare, record_calls, record_open};
-use fed_intakes::inputs::{Call, Case, put_call};
-use lists::word_of;
+use fed_intakes::inputs::{Call, Case, Input};
+use lists::{rdfs_words, word_of};
 use model::Vocabulary;
-use random_sites::random::{at_most, chance, get, mix, pick, set_mark};
+use random_sites::random::{chance, get, mix, pick, set};
 use random_sites::{sites, words};
 use std::io;
 
 fn damage(seed: u64, words: Vocabulary, table: &mut [u32], n: usize) {
-    sites::damage_table(words, table, mix(seed, 71), n);
-    sites::damage_table(words, table, mix(seed, 72), n);
-    sites::damage_table(words, table, mix(seed, 73), n);
+    for place in 71..74 {
+        sites::damage_table(words, table, mix(seed, place), n);
+    }
 }
 
 // A table to be fed, and a roster that may leave a triple uncovered.
@@ -23,34 +23,16 @@ pub fn make(seed: u64, table: &mut [u32], roster: &mut [u8]) {
     damage(seed, words::right(seed, n), table, n);
 }
 
-fn copy(from: &[u8], to: &mut [u8]) {
-    let mut i = 0;
-    while i < from.len() {
-        set_mark(to, i, from[i]);
-        i += 1;
-    }
-}
-
-// What makes a roster wrong: a value over 3 at any place, or a mark at a reserved code.
-fn spoilt_place(seed: u64, words: Vocabulary, n: usize) -> usize {
-    if chance(seed, 76, 2) {
-        return pick(seed, 77, at_most(n, 24) as u32) as usize;
-    }
-    word_of(words, pick(seed, 77, 5)) as usize
-}
-
-fn spoilt_mark(seed: u64) -> u8 {
-    if chance(seed, 76, 2) {
-        return at_most(4 + pick(seed, 78, 252) as usize, 255) as u8;
-    }
-    at_most(1 + pick(seed, 78, 3) as usize, 3) as u8
-}
-
-// A copy of a roster that is wrong.
-pub fn spoil(seed: u64, words: Vocabulary, roster: &[u8], spoilt: &mut [u8]) {
-    copy(roster, spoilt);
-    let place = spoilt_place(seed, words, roster.len());
-    set_mark(spoilt, place, spoilt_mark(seed));
+// Makes a roster wrong: a value over 3 at any place, or a mark at a reserved code.
+pub fn spoil(seed: u64, words: Vocabulary, roster: &mut [u8]) {
+    let (place, mark) = if chance(seed, 76, 2) {
+        let place = pick(seed, 77, roster.len().min(24) as u32);
+        (place, (4 + pick(seed, 78, 252)).min(255))
+    } else {
+        let place = word_of(words, pick(seed, 77, 5));
+        (place, (1 + pick(seed, 78, 3)).min(3))
+    };
+    set(roster, place as usize, mark as u8);
 }
 
 // The words of the opening, now and then spoilt.
@@ -61,35 +43,32 @@ fn words_fed(words: Vocabulary, seed: u64, n: usize) -> Vocabulary {
     words
 }
 
-// A feed of the triple at a place of a table, the call at place i; now and then with wrong words, a work list of a wrong length, or the
-// spoilt roster.
-pub fn random_feed(
-    seed: u64,
-    words: Vocabulary,
-    table: &[u32],
-    n: usize,
-    place: usize,
-    i: usize,
-) -> Call {
-    let k = 3 * at_most(place, 1000);
-    let x = (3 * at_most(i, 1000)) as u64;
-    Call {
-        work: sites::near(mix(seed, 70), x, 2 * at_most(n, 24)),
-        subject: get(table, k),
-        property: get(table, k + 1),
-        object: get(table, k + 2),
-        words: words_fed(words, mix(mix(seed, 74), x), n),
-        spoilt: chance(mix(seed, 75), x, 48),
-        removes: false,
-    }
+// What feeds are drawn from: a seed, the words of the opening, and a table for n codes.
+#[derive(Clone, Copy)]
+pub struct Source<'a> {
+    pub seed: u64,
+    pub words: Vocabulary,
+    pub table: &'a [u32],
+    pub n: usize,
 }
 
-// The 30 triples of a table, one after the other.
-fn fill_feeds(seed: u64, words: Vocabulary, table: &[u32], n: usize, calls: &mut [u32]) {
-    let mut i = 0;
-    while i < 30 {
-        put_call(calls, i, random_feed(seed, words, table, n, i, i));
-        i += 1;
+impl Source<'_> {
+    // A feed of the triple at a place of the table, the call at place i; now and then with wrong words, a work list of a wrong length, or
+    // the spoilt roster.
+    pub fn feed(&self, place: usize, i: usize) -> Call {
+        let seed = self.seed;
+        let n = self.n;
+        let k = 3 * place.min(1000);
+        let x = 3 * i.min(1000) as u64;
+        Call {
+            work: sites::near(mix(seed, 70), x, 2 * n.min(24)),
+            subject: get(self.table, k),
+            property: get(self.table, k + 1),
+            object: get(self.table, k + 2),
+            words: words_fed(self.words, mix(mix(seed, 74), x), n),
+            spoilt: chance(mix(seed, 75), x, 48),
+            removes: false,
+        }
     }
 }
 
@@ -97,40 +76,34 @@ fn fill_feeds(seed: u64, words: Vocabulary, table: &[u32], n: usize, calls: &mut
 pub fn room(seed: u64) -> usize
     ensures { result ≤ 97 }
 {
-    if chance(seed, 80, 2) {
-        return at_most(pick(seed, 81, 46) as usize, 97);
-    }
-    at_most(90 + pick(seed, 81, 6) as usize, 97)
+    let numbers = if chance(seed, 80, 2) {
+        pick(seed, 81, 46)
+    } else {
+        90 + pick(seed, 81, 6)
+    };
+    numbers.min(97) as usize
 }
 
 // The length of the summary list: as many slots, now and then half as long.
 fn summary_room(seed: u64, r: usize) -> usize {
-    let whole = at_most(r / 3 * 3, 97);
-    if chance(seed, 82, 24) {
-        return at_most(r / 2, 100);
-    }
-    at_most(whole + pick(seed, 83, 3) as usize, 100)
+    let numbers = if chance(seed, 82, 24) {
+        r / 2
+    } else {
+        (r / 3 * 3).min(97) + pick(seed, 83, 3) as usize
+    };
+    numbers.min(100)
 }
 
 // The length of the weights: the slots; now and then one more, one less, three times as many, or none.
 fn weights_room(seed: u64, r: usize) -> usize {
-    let slots = at_most(r / 3, 33);
-    let x = pick(seed, 85, 96);
-    if x == 0 {
-        return slots + 1;
+    let slots = (r / 3).min(33);
+    match pick(seed, 85, 96) {
+        0 => slots + 1,
+        1 => slots.saturating_sub(1),
+        2 => 3 * slots,
+        3 => 0,
+        _ => slots,
     }
-    if x == 1 {
-        if 0 < slots {
-            return slots - 1;
-        }
-    }
-    if x == 2 {
-        return 3 * slots;
-    }
-    if x == 3 {
-        return 0;
-    }
-    slots
 }
 
 fn case_of(seed: u64, n: usize, calls: usize) -> Case {
@@ -138,7 +111,7 @@ fn case_of(seed: u64, n: usize, calls: usize) -> Case {
     Case {
         words: words::given(seed, n),
         opens: true,
-        calls: calls,
+        calls,
         triples: r,
         summary: summary_room(seed, r),
         weights: weights_room(seed, r),
@@ -146,67 +119,55 @@ fn case_of(seed: u64, n: usize, calls: usize) -> Case {
     }
 }
 
-// Draws a site, the spoilt roster and the feeds.
-fn draw(seed: u64, table: &mut [u32], roster: &mut [u8], spoilt: &mut [u8], calls: &mut [u32]) {
-    make(seed, table, roster);
-    let n = roster.len();
-    let given = words::given(seed, n);
-    spoil(seed, given, roster, spoilt);
-    fill_feeds(seed, given, table, n, calls);
-}
-
-// The first `last` calls of a list on both engines.
-pub fn play<'a>(
+// A site that is drawn, with its calls: how many, and how they are filled in from a source.
+pub fn play<const CALLS: usize, F: Fn(Source<'_>, &mut [Call; CALLS])>(
     rt: &impl Print,
-    tally: &mut [u64; TALLY],
+    tally: &mut Tally,
     seed: u64,
-    last: usize,
-    roster: &'a [u8],
-    spoilt: &'a [u8],
-    calls: &[u32],
-) -> io::Result<()> {
-    let case = case_of(seed, roster.len(), last);
-    let state = compare(rt, tally, seed, case, calls, roster, spoilt)?;
+    fill: F,
+) -> io::Result<()>
+    requires { (CALLS ≤ 60) × F.IsAlwaysCallable fill }
+{
+    let mut table = [0u32; 90];
+    let mut roster = [0u8; 24];
+    let mut spoilt = [0u8; 24];
+    let mut calls = [Call::feed(rdfs_words(), 0, 0, 0, 0); CALLS];
+    let n = sites::size(seed);
+    let roster = &mut roster[..n];
+    let spoilt = &mut spoilt[..n];
+    make(seed, &mut table, roster);
+    let given = words::given(seed, n);
+    spoilt.copy_from_slice(roster);
+    spoil(seed, given, spoilt);
+    let source = Source {
+        seed,
+        words: given,
+        table: &table,
+        n,
+    };
+    fill(source, &mut calls);
+    let input = Input {
+        case: case_of(seed, n, CALLS),
+        calls: &calls,
+        roster,
+        spoilt,
+    };
+    let state = compare(rt, tally, seed, input)?;
     record_open(tally, state);
     record_calls(tally, state);
     Ok(())
 }
 
-fn fed_of(
-    rt: &impl Print,
-    tally: &mut [u64; TALLY],
-    seed: u64,
-    table: &mut [u32],
-    roster: &mut [u8],
-    spoilt: &mut [u8],
-    calls: &mut [u32],
-) -> io::Result<()> {
-    draw(seed, table, roster, spoilt, calls);
-    play(rt, tally, seed, 30, roster, spoilt, calls)
+// The 30 triples of a table, one after the other.
+fn fill_feeds(source: Source<'_>, calls: &mut [Call; 30]) {
+    for i in 0..30 {
+        calls[i] = source.feed(i, i);
+    }
 }
 
-fn fed_case(rt: &impl Print, tally: &mut [u64; TALLY], seed: u64) -> io::Result<()> {
-    let mut table = [0u32; 90];
-    let mut roster = [0u8; 24];
-    let mut spoilt = [0u8; 24];
-    let mut calls = [0u32; 330];
-    let n = sites::size(seed);
-    fed_of(
-        rt,
-        tally,
-        seed,
-        &mut table,
-        &mut roster[0..n],
-        &mut spoilt[0..n],
-        &mut calls,
-    )
-}
-
-pub fn all(rt: &impl Print, tally: &mut [u64; TALLY]) -> io::Result<()> {
-    let mut seed = 2000000;
-    while seed < 2030000 {
-        fed_case(rt, tally, seed)?;
-        seed += 1;
+pub fn all(rt: &impl Print, tally: &mut Tally) -> io::Result<()> {
+    for seed in 2000000..2030000 {
+        play(rt, tally, seed, fill_feeds)?;
     }
     Ok(())
 }

@@ -8,13 +8,12 @@ mod rework;
 mod sites;
 mod small;
 
-use comparison_report::report;
-use comparison_report::report::TALLY;
+use comparison_report::report::Tally;
 use std::io;
 
 fn main(rt: HostRuntime) -> io::Result<()> {
-    let mut tally = [0u64; TALLY];
+    let mut tally = Tally::new();
     small::all(&rt, &mut tally)?;
     sites::all(&rt, &mut tally)?;
-    report::counts(&rt, &tally)
+    tally.print(&rt)
 }

@@ -2,14 +2,20 @@
 ghost use Rattle.std.specs.Prelude.{◌≡◌, ◌≤◌, IfOk, OnErr, length};
 
 use super::maps::{carries, own_map};
-use comparison::answers::{answer, of_counted};
+use comparison::answers::Answer;
 use comparison::calls::table_call;
-use comparison::engines::{junk_marks, left, of_lengths};
-use comparison_report::digest::{Run, Seen, same};
-use comparison_report::report::{SATURATE, STRONG, TALLY, check};
+use comparison::engines::{Lengths, Lists, Site, left};
+use comparison_report::digest::{Engine, Run, Seen};
+use comparison_report::report::{Call, Tally};
 use model::{Refusal, Vocabulary};
-use random_sites::random::{at_most, triples_end};
+use random_sites::random::triples_end;
 use std::io;
+
+// The engine, which prints nothing.
+pub const QUIET: Run = Run {
+    engine: Engine::Proved,
+    show: false,
+};
 
 // What a call leaves that is accepted with a summary of a site of n codes as its result, and those two lists.
 fn left_with(
@@ -19,70 +25,66 @@ fn left_with(
     first: &[u32],
     second: &[u32],
 ) -> io::Result<Seen> {
-    let mut space = [0u8; 24];
-    let m = at_most(n, 24);
-    let marks: &mut [u8] = &mut space[0..m];
-    let run = Run {
-        plain: false,
-        show: false,
-    };
-    junk_marks(marks);
-    left(
-        rt,
-        run,
-        answer(0, summary.len() / 3),
-        marks,
-        summary,
+    let marks = [77u8; 24];
+    let lists = Lists {
+        marks: &marks[..n.min(24)],
+        result: summary,
         first,
         second,
-    )
+    };
+    left(rt, QUIET, Answer::accepted(summary.len() / 3, 0), lists)
 }
 
 // The same of summarising, with a cleared work list.
 pub fn left_condensed(rt: &impl Print, summary: &[u32], map: &[u32]) -> io::Result<Seen> {
     let work = [0u32; 48];
-    let n = at_most(map.len(), 24);
-    left_with(rt, n, summary, map, &work[0..2 * n])
+    let n = map.len().min(24);
+    left_with(rt, n, summary, map, &work[..2 * n])
 }
 
+// Saturates a site whose table is a summary.
 fn saturate_again(
     rt: &impl Print,
-    tally: &mut [u64; TALLY],
-    call: usize,
+    tally: &mut Tally,
+    call: Call,
     seed: u64,
-    words: Vocabulary,
-    summary: &[u32],
-    roster: &[u8],
+    site: Site<'_>,
 ) -> io::Result<()> {
-    let wanted = of_lengths(summary.len(), 0, 0);
-    let got = table_call(rt, tally, SATURATE, seed, words, summary, roster, wanted)?;
-    let kept = left_with(rt, roster.len(), summary, &[], &[])?;
-    check(rt, tally, call, seed, b"saturated", same(got, kept))
+    let wanted = Lengths {
+        result: site.table.len(),
+        first: 0,
+        second: 0,
+    };
+    let got = table_call(rt, tally, Call::Saturate, seed, site, wanted)?;
+    let kept = left_with(rt, site.roster.len(), site.table, &[], &[])?;
+    tally.check(rt, call, seed, "saturated", got == kept)
 }
 
-// Reworks a summary that came with a map. `second` is the map that it has at rest.
+// Reworks a site whose table is a summary that came with a map. `second` is the map that it has at rest.
 fn rework(
     rt: &impl Print,
-    tally: &mut [u64; TALLY],
-    call: usize,
+    tally: &mut Tally,
+    call: Call,
     seed: u64,
-    words: Vocabulary,
-    summary: &[u32],
-    roster: &[u8],
+    site: Site<'_>,
     first: &[u32],
     second: &[u32],
 ) -> io::Result<()> {
-    let n = at_most(roster.len(), 24);
-    let wanted = of_lengths(summary.len(), n, 2 * n);
-    saturate_again(rt, tally, call, seed, words, summary, roster)?;
-    let got = table_call(rt, tally, call, seed, words, summary, roster, wanted)?;
-    let kept = left_condensed(rt, summary, second)?;
-    check(rt, tally, call, seed, b"again", same(got, kept))?;
-    check(rt, tally, call, seed, b"carried", carries(first, second))
+    let n = site.roster.len().min(24);
+    let wanted = Lengths {
+        result: site.table.len(),
+        first: n,
+        second: 2 * n,
+    };
+    saturate_again(rt, tally, call, seed, site)?;
+    let got = table_call(rt, tally, call, seed, site, wanted)?;
+    let kept = left_condensed(rt, site.table, second)?;
+    tally.check(rt, call, seed, "again", got == kept)?;
+    tally.check(rt, call, seed, "carried", carries(first, second))
 }
 
 fn condense(
-    call: usize,
+    call: Call,
     words: Vocabulary,
     table: &[u32],
     roster: &[u8],
@@ -90,70 +92,48 @@ fn condense(
     map: &mut [u32],
     work: &mut [u32],
 ) -> Result<usize, Refusal> {
-    if call == STRONG {
+    if call == Call::Strong {
         return summarise_strong::summarise_strong(words, table, roster, res, map, work);
     }
     summarise::summarise(words, table, roster, res, map, work)
 }
 
 // The engine's summary and map; how many numbers the summary's triples take.
-fn summary_of(
-    call: usize,
-    words: Vocabulary,
-    table: &[u32],
-    roster: &[u8],
-    res: &mut [u32],
-    map: &mut [u32],
-) -> usize
+fn summary_of(call: Call, site: Site<'_>, res: &mut [u32], map: &mut [u32]) -> usize
     ensures { result ≤ length res.new }
 {
+    let Site {
+        words,
+        table,
+        roster,
+    } = site;
     let mut work = [0u32; 48];
-    let w = 2 * at_most(roster.len(), 24);
-    let got = of_counted(condense(call, words, table, roster, res, map, &mut work[0..w]));
+    let w = 2 * roster.len().min(24);
+    let got = condense(call, words, table, roster, res, map, &mut work[0..w]).into();
     triples_end(got.count, res.len())
 }
 
 // The engine's saturation; how many numbers its triples take.
-pub fn closure(words: Vocabulary, table: &[u32], roster: &[u8], closed: &mut [u32]) -> usize
+pub fn closure(site: Site<'_>, closed: &mut [u32]) -> usize
     ensures { result ≤ length closed.new }
 {
-    let got = of_counted(saturate::saturate(words, table, roster, closed));
+    let Site {
+        words,
+        table,
+        roster,
+    } = site;
+    let got = saturate::saturate(words, table, roster, closed).into();
     triples_end(got.count, closed.len())
-}
-
-fn ship_into(
-    rt: &impl Print,
-    tally: &mut [u64; TALLY],
-    call: usize,
-    seed: u64,
-    words: Vocabulary,
-    table: &[u32],
-    roster: &[u8],
-    res: &mut [u32],
-    first: &mut [u32],
-    second: &mut [u32],
-) -> io::Result<usize>
-    ensures ok { IfOk result (λ n. n ≤ length res.new) }
-    // a failed print is the only error; the list keeps its length
-    ensures err { OnErr result (length res.new ≡ length res.old) }
-{
-    let end = summary_of(call, words, table, roster, res, first);
-    let summary = &res[0..end];
-    own_map(summary, second);
-    rework(rt, tally, call, seed, words, summary, roster, first, second)?;
-    Ok(end)
 }
 
 // Summarises a saturated table into a result list and reworks what that leaves. Answers how many numbers the summary's triples
 // take.
 pub fn ship(
     rt: &impl Print,
-    tally: &mut [u64; TALLY],
-    call: usize,
+    tally: &mut Tally,
+    call: Call,
     seed: u64,
-    words: Vocabulary,
-    table: &[u32],
-    roster: &[u8],
+    site: Site<'_>,
     res: &mut [u32],
 ) -> io::Result<usize>
     ensures ok { IfOk result (λ n. n ≤ length res.new) }
@@ -162,20 +142,22 @@ pub fn ship(
 {
     let mut first = [0u32; 24];
     let mut second = [0u32; 24];
-    let n = at_most(roster.len(), 24);
-    let wanted = of_lengths(res.len(), n, 2 * n);
-    let got = table_call(rt, tally, call, seed, words, table, roster, wanted)?;
-    check(rt, tally, call, seed, b"accepted", got.refused == 0)?;
-    ship_into(
-        rt,
-        tally,
-        call,
-        seed,
-        words,
-        table,
-        roster,
-        res,
-        &mut first[0..n],
-        &mut second[0..n],
-    )
+    let n = site.roster.len().min(24);
+    let first = &mut first[..n];
+    let second = &mut second[..n];
+    let wanted = Lengths {
+        result: res.len(),
+        first: n,
+        second: 2 * n,
+    };
+    let got = table_call(rt, tally, call, seed, site, wanted)?;
+    tally.check(rt, call, seed, "accepted", got.refused == 0)?;
+    let end = summary_of(call, site, res, first);
+    let summary = Site {
+        table: &res[..end],
+        ..site
+    };
+    own_map(summary.table, second);
+    rework(rt, tally, call, seed, summary, first, second)?;
+    Ok(end)
 }

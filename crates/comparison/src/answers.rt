@@ -20,7 +20,7 @@ impl Answer {
     }
 
     // Yes or no is a count of 1 or 0; a count of 2 stands for removed.
-    fn accepted(count: usize, place: usize) -> Self {
+    pub fn accepted(count: usize, place: usize) -> Self {
         Self {
             refused: 0,
             count,
@@ -29,7 +29,7 @@ impl Answer {
     }
 }
 
-// What the naive engine answers: nothing, a count, yes or no, or that with a place.
+// What an engine answers: nothing, a count, yes or no, or that with a place; then that or a refusal.
 impl From<()> for Answer {
     fn from(_nothing: ()) -> Answer {
         Answer::accepted(0, 0)
@@ -63,8 +63,34 @@ impl<T: Into<Answer>> From<Result<T, naive_lists::Refusal>> for Answer {
     }
 }
 
-fn refused(r: Refusal) -> Answer {
-    Answer::refused(match r {
+impl From<Found> for Answer {
+    fn from(found: Found) -> Answer {
+        match found {
+            Found::Yes(place) => Answer::accepted(1, place),
+            Found::No(place) => Answer::accepted(0, place),
+        }
+    }
+}
+
+impl From<Reply> for Answer {
+    fn from(reply: Reply) -> Answer {
+        match reply {
+            Reply::New(place) => Answer::accepted(1, place),
+            Reply::NotNew(place) => Answer::accepted(0, place),
+            Reply::Removed(place) => Answer::accepted(2, place),
+        }
+    }
+}
+
+impl From<Asked> for Answer {
+    fn from(asked: Asked) -> Answer {
+        (asked == Asked::Maybe).into()
+    }
+}
+
+// The numbers once more, so that a wrong one in the engine shows.
+fn number(refusal: Refusal) -> u32 {
+    match refusal {
         Refusal::Length => 1,
         Refusal::Roster => 2,
         Refusal::Code => 3,
@@ -76,44 +102,14 @@ fn refused(r: Refusal) -> Answer {
         Refusal::Missing => 9,
         Refusal::Words => 10,
         Refusal::Retired => 12,
-    })
-}
-
-pub fn of_done(d: Result<(), Refusal>) -> Answer {
-    match d {
-        Ok(()) => Answer::accepted(0, 0),
-        Err(r) => refused(r),
     }
 }
 
-pub fn of_counted(c: Result<usize, Refusal>) -> Answer {
-    match c {
-        Ok(k) => Answer::accepted(k, 0),
-        Err(r) => refused(r),
-    }
-}
-
-pub fn of_found(f: Result<Found, Refusal>) -> Answer {
-    match f {
-        Ok(Found::Yes(place)) => Answer::accepted(1, place),
-        Ok(Found::No(place)) => Answer::accepted(0, place),
-        Err(r) => refused(r),
-    }
-}
-
-pub fn of_reply(reply: Result<Reply, Refusal>) -> Answer {
-    match reply {
-        Ok(Reply::New(place)) => Answer::accepted(1, place),
-        Ok(Reply::NotNew(place)) => Answer::accepted(0, place),
-        Ok(Reply::Removed(place)) => Answer::accepted(2, place),
-        Err(r) => refused(r),
-    }
-}
-
-pub fn of_asked(a: Result<Asked, Refusal>) -> Answer {
-    match a {
-        Ok(Asked::Maybe) => Answer::accepted(1, 0),
-        Ok(Asked::None) => Answer::accepted(0, 0),
-        Err(r) => refused(r),
+impl<T: Into<Answer>> From<Result<T, Refusal>> for Answer {
+    fn from(answered: Result<T, Refusal>) -> Answer {
+        match answered {
+            Ok(accepted) => accepted.into(),
+            Err(refusal) => Answer::refused(number(refusal)),
+        }
     }
 }

@@ -1,71 +1,54 @@
 // Each call, made on both engines with the same input: what they leave is compared and counted.
-use super::answers::{Answer, of_asked, of_found};
-use super::engines::{Lengths, after};
-use comparison_report::digest::{Run, Seen, answered, fold_place, same};
-use comparison_report::report::{ASK, LOOK_UP, TALLY, YES, differs, record};
+use super::answers::Answer;
+use super::engines::{Lengths, Site, after};
+use comparison_report::digest::{Engine, Run, Seen, answered, fold_place};
+use comparison_report::report::{Call, Tally, YES};
 use model::{Triple, Vocabulary};
-use query::{End, Pattern, Query};
-use random_sites::random::{at_most, get};
+use query::{End, Pattern, Query, blank_pattern};
+use random_sites::random::get;
 use random_sites::words::plain_words;
 use std::io;
 
-fn engine(show: bool) -> Run {
-    Run {
-        plain: false,
-        show: show,
-    }
-}
-
-fn plain(show: bool) -> Run {
-    Run {
-        plain: true,
-        show: show,
-    }
-}
-
-// Counts an answer, and a difference if there is one; whether the lists are to be printed.
-fn settle(
+// Makes a call on one engine and on the other, and counts a difference if there is one; both are made again where their lists are to be
+// printed. What the first one leaves.
+fn on_both<F: Fn(Run) -> io::Result<Seen>>(
     rt: &impl Print,
-    tally: &mut [u64; TALLY],
-    call: usize,
+    tally: &mut Tally,
+    call: Call,
     seed: u64,
-    column: u32,
-    got: Seen,
-    want: Seen,
-) -> io::Result<bool> {
-    record(tally, call, column);
-    if same(got, want) {
-        return Ok(false);
+    make: F,
+) -> io::Result<Seen>
+    requires { F.IsAlwaysCallable make }
+{
+    let run = |engine, show| Run { engine, show };
+    let got = make(run(Engine::Proved, false))?;
+    let want = make(run(Engine::Plain, false))?;
+    if got != want && tally.differs(rt, call, seed)? {
+        make(run(Engine::Proved, true))?;
+        make(run(Engine::Plain, true))?;
     }
-    differs(rt, tally, call, seed)
+    Ok(got)
 }
 
-// A call on a table with a roster, with lists of those lengths. The own roster is as long as the roster.
+// A call on a site, with lists of those lengths.
 pub fn table_call(
     rt: &impl Print,
-    tally: &mut [u64; TALLY],
-    call: usize,
+    tally: &mut Tally,
+    call: Call,
     seed: u64,
-    words: Vocabulary,
-    table: &[u32],
-    roster: &[u8],
+    site: Site<'_>,
     wanted: Lengths,
 ) -> io::Result<Seen> {
-    let got = after(rt, engine(false), call, words, table, roster, wanted)?;
-    let want = after(rt, plain(false), call, words, table, roster, wanted)?;
-    if settle(rt, tally, call, seed, got.refused, got, want)? {
-        after(rt, engine(true), call, words, table, roster, wanted)?;
-        after(rt, plain(true), call, words, table, roster, wanted)?;
-    }
+    let got = on_both(rt, tally, call, seed, |run| {
+        after(rt, run, call, site, wanted)
+    })?;
+    tally.record(call, got.refused);
     Ok(got)
 }
 
 // The column of a yes or no answer.
 pub fn column(a: Answer) -> u32 {
-    if a.count == 1 {
-        return YES;
-    }
-    a.refused
+    if a.count == 1 { YES } else { a.refused }
 }
 
 // An answer and its place, folded.
@@ -76,51 +59,50 @@ fn placed(rt: &impl Print, run: Run, a: Answer) -> io::Result<Seen> {
 // Counts the answers of a call that leaves no lists.
 fn settle_answers(
     rt: &impl Print,
-    tally: &mut [u64; TALLY],
-    call: usize,
+    tally: &mut Tally,
+    call: Call,
     seed: u64,
     got: Answer,
     want: Answer,
 ) -> io::Result<()> {
-    let a = placed(rt, engine(false), got)?;
-    let b = placed(rt, plain(false), want)?;
-    if settle(rt, tally, call, seed, column(got), a, b)? {
-        placed(rt, engine(true), got)?;
-        placed(rt, plain(true), want)?;
-    }
+    on_both(rt, tally, call, seed, |run| match run.engine {
+        Engine::Proved => placed(rt, run, got),
+        Engine::Plain => placed(rt, run, want),
+    })?;
+    tally.record(call, column(got));
     Ok(())
 }
 
 // What the engine answers.
 pub fn look_up(
     rt: &impl Print,
-    tally: &mut [u64; TALLY],
+    tally: &mut Tally,
     seed: u64,
     list: &[u32],
-    s: u32,
-    p: u32,
-    o: u32,
+    t: Triple,
 ) -> io::Result<Answer> {
-    let t = Triple {
+    let Triple {
         subject: s,
         property: p,
         object: o,
-    };
-    let got = of_found(look_up::look_up(list, t));
+    } = t;
+    let got = look_up::look_up(list, t).into();
     let want = naive_ask::look_up(list, naive_lists::Triple::new(s, p, o)).into();
-    settle_answers(rt, tally, LOOK_UP, seed, got, want)?;
+    settle_answers(rt, tally, Call::LookUp, seed, got, want)?;
     Ok(got)
 }
 
 fn end_of(kind: u32, value: u32) -> End {
     if kind == 0 {
-        return End::Var(value);
+        End::Var(value)
+    } else {
+        End::Code(value)
     }
-    End::Code(value)
 }
 
+// The pattern whose five numbers begin at a place.
 fn pattern_of(query: &[u32], from: usize) -> Pattern {
-    let k = at_most(from, 36);
+    let k = from.min(36);
     Pattern {
         subject: end_of(get(query, k), get(query, k + 1)),
         property: get(query, k + 2),
@@ -130,17 +112,12 @@ fn pattern_of(query: &[u32], from: usize) -> Pattern {
 
 // The engine's query of the 41 numbers of a plain one.
 fn query_of(query: &[u32]) -> Query {
+    let mut patterns = [blank_pattern(); 8];
+    for k in 0..8 {
+        patterns[k] = pattern_of(query, 1 + 5 * k);
+    }
     Query {
-        patterns: [
-            pattern_of(query, 1),
-            pattern_of(query, 6),
-            pattern_of(query, 11),
-            pattern_of(query, 16),
-            pattern_of(query, 21),
-            pattern_of(query, 26),
-            pattern_of(query, 31),
-            pattern_of(query, 36),
-        ],
+        patterns,
         count: get(query, 0),
     }
 }
@@ -148,15 +125,15 @@ fn query_of(query: &[u32]) -> Query {
 // The column of what the engine answers.
 pub fn ask(
     rt: &impl Print,
-    tally: &mut [u64; TALLY],
+    tally: &mut Tally,
     seed: u64,
     words: Vocabulary,
     table: &[u32],
     map: &[u32],
     query: &[u32],
 ) -> io::Result<u32> {
-    let got = of_asked(ask::ask(words, table, map, query_of(query)));
+    let got = ask::ask(words, table, map, query_of(query)).into();
     let want = naive_ask::ask(plain_words(words), table, map, query).into();
-    settle_answers(rt, tally, ASK, seed, got, want)?;
+    settle_answers(rt, tally, Call::Ask, seed, got, want)?;
     Ok(column(got))
 }

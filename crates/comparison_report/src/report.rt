@@ -62,6 +62,7 @@ impl fmt::Display for Call {
     }
 }
 
+#[derive(Drop)]
 pub struct Tally {
     answers: [[u64; COLUMNS]; CALLS],
     differences: u64,

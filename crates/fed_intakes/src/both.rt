@@ -1,160 +1,102 @@
 // The same case on both engines.
-use super::inputs::{Case, MOST_CALLS, call_at, with_calls};
-use super::intakes::{State, all_calls, seen_of};
-use comparison_report::digest::{Run, same};
-use comparison_report::report::{COLUMNS, FEED, OPEN, REMOVE, TALLY, check, differs, record};
-use random_sites::random::at_most;
+use super::inputs::{Call, Input, MOST_CALLS};
+use super::intakes::{State, all_calls};
+use comparison_report::digest::{Engine, Run};
+use comparison_report::report;
+use comparison_report::report::{COLUMNS, Tally};
 use std::io;
 
-fn run_of(plain: bool, show: bool) -> Run {
-    Run {
-        plain: plain,
-        show: show,
-    }
-}
-
-fn agree<'a>(
-    rt: &impl Print,
-    case: Case,
-    calls: &[u32],
-    roster: &'a [u8],
-    spoilt: &'a [u8],
-) -> io::Result<bool> {
-    let got = all_calls(rt, run_of(false, false), case, calls, roster, spoilt)?;
-    let want = all_calls(rt, run_of(true, false), case, calls, roster, spoilt)?;
-    Ok(same(seen_of(got), seen_of(want)))
+// What the engine and the plain intake leave.
+fn both(rt: &impl Print, show: bool, input: Input<'_>) -> io::Result<(State, State)> {
+    let engine = Run {
+        engine: Engine::Proved,
+        show,
+    };
+    let plain = Run {
+        engine: Engine::Plain,
+        show,
+    };
+    let got = all_calls(rt, engine, input)?;
+    Ok((got, all_calls(rt, plain, input)?))
 }
 
 // The smallest number of calls after which the engines differ.
-fn first_difference<'a>(
-    rt: &impl Print,
-    case: Case,
-    calls: &[u32],
-    roster: &'a [u8],
-    spoilt: &'a [u8],
-) -> io::Result<usize> {
-    let last = at_most(case.calls, MOST_CALLS);
-    let mut k = 0;
-    while k < last {
-        if !agree(rt, with_calls(case, k), calls, roster, spoilt)? {
+fn first_difference(rt: &impl Print, input: Input<'_>) -> io::Result<usize> {
+    let last = input.case.calls.min(MOST_CALLS);
+    for k in 0..last {
+        let (got, want) = both(rt, false, input.with_calls(k))?;
+        if got.seen != want.seen {
             return Ok(k);
         }
-        k += 1;
     }
     Ok(last)
 }
 
-fn print_place(rt: &impl Print, calls: usize) -> io::Result<()> {
-    println!(rt; "(call at place {calls})")
-}
-
-// The row of the call at place i of a list of calls.
-fn row_at(calls: &[u32], i: usize) -> usize {
-    let call = call_at(calls, i);
-    if call.removes {
-        return REMOVE;
-    }
-    FEED
-}
-
-// Reports the last of the first k calls; whether its lists are to be printed.
+// Reports the last of some calls, or the opening where there are none; whether its lists are to be printed.
 fn report_difference(
     rt: &impl Print,
-    tally: &mut [u64; TALLY],
+    tally: &mut Tally,
     seed: u64,
-    calls: &[u32],
-    k: usize,
+    calls: &[Call],
 ) -> io::Result<bool> {
-    if k == 0 {
-        return differs(rt, tally, OPEN, seed);
-    }
-    let shown = differs(rt, tally, row_at(calls, k - 1), seed)?;
-    print_place(rt, k)?;
+    let Some(call) = calls.last() else {
+        return tally.differs(rt, report::Call::Open, seed);
+    };
+    let row = if call.removes {
+        report::Call::Remove
+    } else {
+        report::Call::Feed
+    };
+    let shown = tally.differs(rt, row, seed)?;
+    println!(rt; "(call at place {})", calls.len())?;
     Ok(shown)
 }
 
 // Finds the first call that differs, and prints its lists.
-fn explain<'a>(
-    rt: &impl Print,
-    tally: &mut [u64; TALLY],
-    seed: u64,
-    case: Case,
-    calls: &[u32],
-    roster: &'a [u8],
-    spoilt: &'a [u8],
-) -> io::Result<()> {
-    let k = first_difference(rt, case, calls, roster, spoilt)?;
-    if report_difference(rt, tally, seed, calls, k)? {
-        let short = with_calls(case, k);
-        all_calls(rt, run_of(false, true), short, calls, roster, spoilt)?;
-        all_calls(rt, run_of(true, true), short, calls, roster, spoilt)?;
+fn explain(rt: &impl Print, tally: &mut Tally, seed: u64, input: Input<'_>) -> io::Result<()> {
+    let k = first_difference(rt, input)?;
+    let calls = &input.calls[..k.min(input.calls.len())];
+    if report_difference(rt, tally, seed, calls)? {
+        both(rt, true, input.with_calls(k))?;
     }
     Ok(())
 }
 
 // Whether the weights of an opened intake add up to the number of feeds that were new less that of the accepted removals.
 fn adds_up(opens: bool, state: State) -> bool {
-    if !opens {
-        return true;
-    }
-    if state.opened != 0 {
-        return true;
-    }
-    let removed = std::num::wrapping_add_u64(state.answers[16], state.answers[31]);
-    std::num::wrapping_add_u64(state.weight_sum, removed) == state.answers[15]
+    let removed = state.removals[0].wrapping_add(state.removals[15]);
+    !opens || state.opened != 0 || state.weighed.sum.wrapping_add(removed) == state.feeds[15]
 }
 
 // Runs both engines and compares their digests, and the engine's weights with its answers; what the engine left.
-pub fn compare<'a>(
+pub fn compare(
     rt: &impl Print,
-    tally: &mut [u64; TALLY],
+    tally: &mut Tally,
     seed: u64,
-    case: Case,
-    calls: &[u32],
-    roster: &'a [u8],
-    spoilt: &'a [u8],
+    input: Input<'_>,
 ) -> io::Result<State> {
-    let got = all_calls(rt, run_of(false, false), case, calls, roster, spoilt)?;
-    let want = all_calls(rt, run_of(true, false), case, calls, roster, spoilt)?;
-    let ok = adds_up(case.opens, got);
-    check(rt, tally, FEED, seed, b"sum of the weights", ok)?;
-    if !same(seen_of(got), seen_of(want)) {
-        explain(rt, tally, seed, case, calls, roster, spoilt)?;
+    let (got, want) = both(rt, false, input)?;
+    let ok = adds_up(input.case.opens, got);
+    tally.check(rt, report::Call::Feed, seed, "sum of the weights", ok)?;
+    if got.seen != want.seen {
+        explain(rt, tally, seed, input)?;
     }
     Ok(got)
 }
 
-// The same of a small case, all of whose calls lend the roster of the opening.
-pub fn compare_small(
-    rt: &impl Print,
-    tally: &mut [u64; TALLY],
-    case: Case,
-    calls: &[u32],
-    roster: &[u8],
-) -> io::Result<State> {
-    compare(rt, tally, 0, case, calls, roster, roster)
-}
-
-pub fn record_open(tally: &mut [u64; TALLY], state: State) {
-    record(tally, OPEN, state.opened);
+pub fn record_open(tally: &mut Tally, state: State) {
+    tally.record(report::Call::Open, state.opened);
 }
 
 // Counts the answer of the last call.
-pub fn record_last(tally: &mut [u64; TALLY], state: State) {
-    let column = state.column;
-    if column < COLUMNS {
-        record(tally, FEED, column as u32);
-        return;
-    }
-    record(tally, REMOVE, at_most(column - COLUMNS, COLUMNS) as u32);
+pub fn record_last(tally: &mut Tally, state: State) {
+    tally.record(state.call, state.column);
 }
 
-// Counts the answers of all calls; the row of removals stands behind that of feeds.
-pub fn record_calls(tally: &mut [u64; TALLY], state: State) {
-    let mut column = 0;
-    while column < 32 {
-        let i = FEED * COLUMNS + column;
-        tally[i] = std::num::wrapping_add_u64(tally[i], state.answers[column]);
-        column += 1;
+// Counts the answers of all calls.
+pub fn record_calls(tally: &mut Tally, state: State) {
+    for column in 0..COLUMNS {
+        tally.record_all(report::Call::Feed, column, state.feeds[column]);
+        tally.record_all(report::Call::Remove, column, state.removals[column]);
     }
 }

@@ -1,17 +1,17 @@
 // An intake of one engine over lent lists: opened, fed and removed from, and everything that each call leaves folded into a digest.
 ghost use Rattle.std.specs.Prelude.{◌≤◌};
 
-use super::inputs::{Call, Case, MOST_CALLS, call_at};
-use comparison::answers::{of_done, of_reply};
+use super::inputs::{Call, Case, Input, MOST_CALLS};
+use comparison::answers::Answer;
 use comparison::engines::junk;
-use comparison_report::digest::{Run, Seen, fold, fold_count, fold_list, fold_place};
-use comparison_report::report::{show_answer, show_list, wide};
+use comparison_report::digest::{Engine, Run, Seen, fold_list, fold_place};
+use comparison_report::report;
+use comparison_report::report::{COLUMNS, YES, show_answer, show_list};
 use intake_calls::CalledCounts;
 use intake_opening::{Counts, OpenedCounts};
 use model::Vocabulary;
 use naive_intake::{Lists, Reply, ends_kept};
 use naive_lists::Refusal;
-use random_sites::random::at_most;
 use random_sites::words::plain_words;
 use std::io;
 
@@ -28,44 +28,30 @@ struct Step {
 
 // Of a list of weights: the sum, and a number that has the last twelve as its digits; in a small case none is over 9.
 #[derive(Clone, Copy)]
-struct Weighed {
-    sum: u64,
-    digits: u64,
+pub struct Weighed {
+    pub sum: u64,
+    pub digits: u64,
 }
 
-// The last call's answer and place; the two sums of the digest of all calls so far; the last weights' sum and digits, and the last map's
-// digits; the answer of the opening; the record's two counts; how many calls had each answer, and the last one's column there: a refusal's
-// number, 0 or 15 for a feed, and 16 more for a removal.
+// The last call's answer with the digest of all calls so far, and its place; what the last weights and the last map were; the answer of the
+// opening; the record's two counts; how many feeds and removals had each answer, and the last one's call and column there: a refusal's
+// number, 0 or 15.
 #[derive(Clone, Copy)]
 pub struct State {
-    pub refused: u32,
-    pub count: usize,
+    pub seen: Seen,
     pub place: usize,
-    pub one: u64,
-    pub two: u64,
-    pub weight_sum: u64,
-    pub weight_digits: u64,
+    pub weighed: Weighed,
     pub map_digits: u64,
     pub opened: u32,
-    pub held: usize,
-    pub summarised: usize,
-    pub answers: [u64; 32],
-    pub column: usize,
-}
-
-// The last answer with the digest.
-pub fn seen_of(state: State) -> Seen {
-    Seen {
-        refused: state.refused,
-        count: state.count,
-        one: state.one,
-        two: state.two,
-    }
+    pub counts: Counts,
+    pub feeds: [u64; COLUMNS],
+    pub removals: [u64; COLUMNS],
+    pub call: report::Call,
+    pub column: u32,
 }
 
 fn engine_opened(left: OpenedCounts) -> Step {
-    let done = left.answer;
-    let answer = of_done(done);
+    let answer = Answer::from(left.answer);
     Step {
         refused: answer.refused,
         count: 0,
@@ -97,7 +83,7 @@ fn plain_opened(answer: Result<naive_intake::Counts, Refusal>) -> Step {
 }
 
 fn open(
-    run: Run,
+    engine: Engine,
     words: Vocabulary,
     roster: &[u8],
     triples: &mut [u32],
@@ -105,7 +91,7 @@ fn open(
     weights: &mut [u32],
     map: &mut [u32],
 ) -> Step {
-    if run.plain {
+    if engine == Engine::Plain {
         let lists = Lists {
             triples,
             summary,
@@ -124,8 +110,7 @@ fn open(
 }
 
 fn engine_called(left: CalledCounts) -> Step {
-    let reply = left.answer;
-    let answer = of_reply(reply);
+    let answer = Answer::from(left.answer);
     Step {
         refused: answer.refused,
         count: answer.count,
@@ -270,7 +255,7 @@ fn remove_engine(
 
 // A call with a work list of junk.
 fn call_one(
-    plain: bool,
+    engine: Engine,
     counts: Counts,
     call: Call,
     roster: &[u8],
@@ -281,277 +266,160 @@ fn call_one(
     work: &mut [u32],
 ) -> Step {
     junk(work);
-    if plain {
-        if call.removes {
-            return remove_plain(counts, call, roster, triples, summary, weights, map, work);
+    match (engine, call.removes) {
+        (Engine::Plain, true) => {
+            remove_plain(counts, call, roster, triples, summary, weights, map, work)
         }
-        return feed_plain(counts, call, roster, triples, summary, weights, map, work);
+        (Engine::Plain, false) => {
+            feed_plain(counts, call, roster, triples, summary, weights, map, work)
+        }
+        (Engine::Proved, true) => {
+            remove_engine(counts, call, roster, triples, summary, weights, map, work)
+        }
+        (Engine::Proved, false) => {
+            feed_engine(counts, call, roster, triples, summary, weights, map, work)
+        }
     }
-    if call.removes {
-        return remove_engine(counts, call, roster, triples, summary, weights, map, work);
-    }
-    feed_engine(counts, call, roster, triples, summary, weights, map, work)
 }
 
-fn shown(count: usize) -> u32 {
-    at_most(count, 4294967295) as u32
+// What a call leaves in the lists that an intake is lent.
+#[derive(Clone, Copy)]
+struct Left<'a> {
+    triples: &'a [u32],
+    summary: &'a [u32],
+    weights: &'a [u32],
+    map: &'a [u32],
 }
 
-fn show_counts(rt: &impl Print, plain: bool, held: usize, summarised: usize) -> io::Result<()> {
-    let counts = [shown(held), shown(summarised)];
-    show_list(rt, plain, b"counts", &counts)
+impl Left<'_> {
+    fn fold(&self, rt: &impl Print, run: Run, seen: Seen) -> io::Result<Seen> {
+        let a = fold_list(rt, run, seen, "triples", self.triples)?;
+        let b = fold_list(rt, run, a, "summary", self.summary)?;
+        let c = fold_list(rt, run, b, "weights", self.weights)?;
+        fold_list(rt, run, c, "map", self.map)
+    }
 }
 
 // Folds an answer, its place and both counts.
 fn fold_step(rt: &impl Print, run: Run, seen: Seen, step: Step) -> io::Result<Seen> {
     if run.show {
-        show_answer(rt, run.plain, step.refused, step.count)?;
-        show_counts(rt, run.plain, step.held, step.summarised)?;
+        show_answer(rt, run.engine, step.refused, step.count)?;
+        let counts = [step.held, step.summarised];
+        show_list(rt, run.engine, "counts", &counts)?;
     }
-    let next = Seen {
-        refused: step.refused,
-        count: step.count,
-        one: seen.one,
-        two: seen.two,
-    };
-    let a = fold(next, step.refused as u64);
-    let b = fold_count(a, step.count);
-    let c = fold_place(rt, run, b, step.place)?;
-    let d = fold_count(c, step.held);
-    Ok(fold_count(d, step.summarised))
-}
-
-fn fold_lists(
-    rt: &impl Print,
-    run: Run,
-    seen: Seen,
-    triples: &[u32],
-    summary: &[u32],
-    weights: &[u32],
-    map: &[u32],
-) -> io::Result<Seen> {
-    let a = fold_list(rt, run, seen, b"triples", triples)?;
-    let b = fold_list(rt, run, a, b"summary", summary)?;
-    let c = fold_list(rt, run, b, b"weights", weights)?;
-    fold_list(rt, run, c, b"map", map)
+    let answer = seen.next(step.refused, step.count);
+    let placed = fold_place(rt, run, answer, step.place)?;
+    Ok(placed.fold_count(step.held).fold_count(step.summarised))
 }
 
 fn weigh(weights: &[u32]) -> Weighed {
-    let mut sum = 0;
-    let mut digits = 0;
-    let mut i = 0;
-    while i < weights.len() {
-        let weight = wide(weights[i]);
-        sum = std::num::wrapping_add_u64(sum, weight);
-        digits = std::num::wrapping_add_u64(digits % 100000000000 * 10, weight);
-        i += 1;
+    let mut sum = 0u64;
+    let mut digits = 0u64;
+    for number in weights {
+        let weight = u64::from(*number);
+        sum = sum.wrapping_add(weight);
+        digits = (digits % 100000000000 * 10).wrapping_add(weight);
     }
-    Weighed {
-        sum: sum,
-        digits: digits,
-    }
+    Weighed { sum, digits }
 }
 
 // A number that has the last sixteen representatives of a map as its digits to base 16, 15 where a code is absent; in a small case no code
 // is over 14.
 fn map_digits(map: &[u32]) -> u64 {
-    let mut digits = 0;
-    let mut i = 0;
-    while i < map.len() {
-        let digit = digit_of(map[i]);
-        digits = std::num::wrapping_add_u64(digits % 1152921504606846976 * 16, digit);
-        i += 1;
+    let mut digits = 0u64;
+    for code in map {
+        let digit = u64::from((*code).min(15));
+        digits = (digits % 1152921504606846976 * 16).wrapping_add(digit);
     }
     digits
 }
 
-fn digit_of(code: u32) -> u64 {
-    at_most(code as usize, 15) as u64
-}
-
-// The column of a feed's answer: 15 for new.
-fn feed_column(step: Step) -> usize
+// The column of a feed's answer: 15 for new. That of a removal's, where `kept` says whether other triples keep the ends of the triple: 15
+// if so, for removed.
+fn column_of(removes: bool, kept: bool, step: Step) -> u32
     ensures { result ≤ 15 }
 {
-    if step.count == 1 {
-        return 15;
-    }
-    at_most(step.refused as usize, 15)
+    let is_yes = if removes {
+        step.count == 2 && kept
+    } else {
+        step.count == 1
+    };
+    if is_yes { YES } else { step.refused.min(YES) }
 }
 
-// That of a removal's answer, where `kept` says whether other triples keep the ends of the triple: 15 if so, for removed.
-fn removal_column(kept: bool, step: Step) -> usize
-    ensures { result ≤ 15 }
-{
-    if step.count == 2 {
-        if kept {
-            return 15;
+impl State {
+    // Before any call.
+    fn start() -> Self {
+        Self {
+            seen: Seen {
+                refused: 0,
+                count: 0,
+                one: 1,
+                two: 1,
+            },
+            place: 0,
+            weighed: Weighed { sum: 0, digits: 0 },
+            map_digits: 0,
+            opened: 0,
+            counts: Counts {
+                held: 1,
+                summarised: 1,
+            },
+            feeds: [0; COLUMNS],
+            removals: [0; COLUMNS],
+            call: report::Call::Feed,
+            column: 0,
         }
     }
-    at_most(step.refused as usize, 15)
-}
 
-// The columns of removals stand behind those of feeds.
-fn column_of(removes: bool, kept: bool, step: Step) -> usize
-    ensures { result ≤ 31 }
-{
-    if removes {
-        return 16 + removal_column(kept, step);
+    // After a call that leaves these lists; an opening has no work list.
+    fn after(
+        self,
+        rt: &impl Print,
+        run: Run,
+        step: Step,
+        lists: Left<'_>,
+        work: Option<&[u32]>,
+    ) -> io::Result<Self> {
+        let answer = fold_step(rt, run, self.seen, step)?;
+        let mut seen = lists.fold(rt, run, answer)?;
+        if let Some(list) = work {
+            seen = fold_list(rt, run, seen, "work", list)?;
+        }
+        Ok(Self {
+            seen,
+            place: step.place,
+            weighed: weigh(lists.weights),
+            map_digits: map_digits(lists.map),
+            counts: Counts {
+                held: step.held,
+                summarised: step.summarised,
+            },
+            ..self
+        })
     }
-    feed_column(step)
-}
 
-// The answers with one more.
-fn with_answer(answers: [u64; 32], column: usize) -> [u64; 32] {
-    let mut next = answers;
-    let i = at_most(column, 31);
-    next[i] = std::num::wrapping_add_u64(next[i], 1);
-    next
-}
-
-// The state with one answer more.
-fn counted(state: State, removes: bool, kept: bool, step: Step) -> State {
-    let column = column_of(removes, kept, step);
-    let before = state.answers;
-    let after = with_answer(before, column);
-    let mut next = state;
-    next.answers = after;
-    next.column = column;
-    next
-}
-
-// Before any call.
-fn start() -> State {
-    State {
-        refused: 0,
-        count: 0,
-        place: 0,
-        one: 1,
-        two: 1,
-        weight_sum: 0,
-        weight_digits: 0,
-        map_digits: 0,
-        opened: 0,
-        held: 1,
-        summarised: 1,
-        answers: [0; 32],
-        column: 0,
+    // With one answer more.
+    fn counted(self, removes: bool, kept: bool, step: Step) -> Self {
+        let column = column_of(removes, kept, step);
+        let mut next = Self { column, ..self };
+        if removes {
+            next.call = report::Call::Remove;
+            next.removals[column as usize] = self.removals[column as usize].wrapping_add(1);
+        } else {
+            next.call = report::Call::Feed;
+            next.feeds[column as usize] = self.feeds[column as usize].wrapping_add(1);
+        }
+        next
     }
-}
-
-// The state after a call that leaves these lists, with the digest of what it leaves.
-fn after(state: State, step: Step, seen: Seen, weights: &[u32], map: &[u32]) -> State {
-    let answers = state.answers;
-    let weighed = weigh(weights);
-    State {
-        refused: step.refused,
-        count: step.count,
-        place: step.place,
-        one: seen.one,
-        two: seen.two,
-        weight_sum: weighed.sum,
-        weight_digits: weighed.digits,
-        map_digits: map_digits(map),
-        opened: state.opened,
-        held: step.held,
-        summarised: step.summarised,
-        answers: answers,
-        column: state.column,
-    }
-}
-
-// Folds what an opening leaves.
-fn fold_opened(
-    rt: &impl Print,
-    run: Run,
-    step: Step,
-    triples: &[u32],
-    summary: &[u32],
-    weights: &[u32],
-    map: &[u32],
-) -> io::Result<State> {
-    let state = start();
-    let seen = fold_step(rt, run, seen_of(state), step)?;
-    let all = fold_lists(rt, run, seen, triples, summary, weights, map)?;
-    let mut next = after(state, step, all, weights, map);
-    next.opened = step.refused;
-    Ok(next)
-}
-
-fn opened(
-    rt: &impl Print,
-    run: Run,
-    words: Vocabulary,
-    roster: &[u8],
-    triples: &mut [u32],
-    summary: &mut [u32],
-    weights: &mut [u32],
-    map: &mut [u32],
-) -> io::Result<State> {
-    let step = open(run, words, roster, triples, summary, weights, map);
-    fold_opened(rt, run, step, triples, summary, weights, map)
-}
-
-fn junk_all(triples: &mut [u32], summary: &mut [u32], weights: &mut [u32], map: &mut [u32]) {
-    junk(triples);
-    junk(summary);
-    junk(weights);
-    junk(map);
-}
-
-// Junk in every list, and the intake opened over it if the case says so.
-fn begin(
-    rt: &impl Print,
-    run: Run,
-    case: Case,
-    roster: &[u8],
-    triples: &mut [u32],
-    summary: &mut [u32],
-    weights: &mut [u32],
-    map: &mut [u32],
-) -> io::Result<State> {
-    junk_all(triples, summary, weights, map);
-    if case.opens {
-        return opened(
-            rt,
-            shown_at(run, 0, case.calls),
-            case.words,
-            roster,
-            triples,
-            summary,
-            weights,
-            map,
-        );
-    }
-    Ok(start())
 }
 
 // Lists are printed after the last call only.
 fn shown_at(run: Run, calls: usize, last: usize) -> Run {
     Run {
-        plain: run.plain,
         show: run.show && calls == last,
+        ..run
     }
-}
-
-// Folds what a call leaves, and counts its answer.
-fn fold_called(
-    rt: &impl Print,
-    run: Run,
-    state: State,
-    removes: bool,
-    kept: bool,
-    step: Step,
-    triples: &[u32],
-    summary: &[u32],
-    weights: &[u32],
-    map: &[u32],
-    work: &[u32],
-) -> io::Result<State> {
-    let seen = fold_step(rt, run, seen_of(state), step)?;
-    let lists = fold_lists(rt, run, seen, triples, summary, weights, map)?;
-    let all = fold_list(rt, run, lists, b"work", work)?;
-    Ok(after(counted(state, removes, kept, step), step, all, weights, map))
 }
 
 // Whether the triple of a removal has ends that other held triples keep.
@@ -568,6 +436,41 @@ fn kept(call: Call, roster: &[u8], triples: &[u32], held: usize) -> bool {
     )
 }
 
+// Junk in every list, and the intake opened over it if the case says so.
+fn begin(
+    rt: &impl Print,
+    run: Run,
+    case: Case,
+    roster: &[u8],
+    triples: &mut [u32],
+    summary: &mut [u32],
+    weights: &mut [u32],
+    map: &mut [u32],
+) -> io::Result<State> {
+    junk(triples);
+    junk(summary);
+    junk(weights);
+    junk(map);
+    let state = State::start();
+    if !case.opens {
+        return Ok(state);
+    }
+    let step = open(
+        run.engine, case.words, roster, triples, summary, weights, map,
+    );
+    let lists = Left {
+        triples,
+        summary,
+        weights,
+        map,
+    };
+    let opened = state.after(rt, shown_at(run, 0, case.calls), step, lists, None)?;
+    Ok(State {
+        opened: step.refused,
+        ..opened
+    })
+}
+
 fn called(
     rt: &impl Print,
     run: Run,
@@ -580,214 +483,69 @@ fn called(
     map: &mut [u32],
     work: &mut [u32],
 ) -> io::Result<State> {
-    let counts = Counts {
-        held: state.held,
-        summarised: state.summarised,
-    };
-    let stays = kept(call, roster, triples, state.held);
+    let counts = state.counts;
+    let stays = kept(call, roster, triples, counts.held);
     let step = call_one(
-        run.plain, counts, call, roster, triples, summary, weights, map, work,
+        run.engine, counts, call, roster, triples, summary, weights, map, work,
     );
-    fold_called(
-        rt,
-        run,
-        state,
-        call.removes,
-        stays,
-        step,
+    let lists = Left {
         triples,
         summary,
         weights,
         map,
-        work,
-    )
+    };
+    let next = state.counted(call.removes, stays, step);
+    next.after(rt, run, step, lists, Some(&*work))
 }
 
-// The roster of the opening, or the spoilt one.
-fn lent<'a>(yes: bool, roster: &'a [u8], spoilt: &'a [u8]) -> &'a [u8] {
-    if yes {
-        return spoilt;
-    }
-    roster
-}
-
-// A call with its roster and a work list of its length.
-fn called_at<'a>(
+// The whole of a case over lists of at most those lengths. No call follows a refused opening.
+fn over<const SLOTS: usize, const WEIGHTS: usize, const CODES: usize, const WORK: usize>(
     rt: &impl Print,
     run: Run,
-    state: State,
-    call: Call,
-    roster: &'a [u8],
-    spoilt: &'a [u8],
-    triples: &mut [u32],
-    summary: &mut [u32],
-    weights: &mut [u32],
-    map: &mut [u32],
-    work: &mut [u32],
-) -> io::Result<State> {
-    let w = at_most(call.work, work.len());
-    called(
-        rt,
-        run,
-        state,
-        call,
-        lent(call.spoilt, roster, spoilt),
-        triples,
-        summary,
-        weights,
-        map,
-        &mut work[0..w],
-    )
-}
-
-// No call follows a refused opening.
-fn calls_after(opened: u32, calls: usize) -> usize {
-    if opened != 0 {
-        return 0;
+    input: Input<'_>,
+) -> io::Result<State>
+    requires { (SLOTS ≤ 100) × (WEIGHTS ≤ 100) × (CODES ≤ 65537) × (WORK ≤ 131074) }
+{
+    let case = input.case;
+    let mut triples = [0u32; SLOTS];
+    let mut summary = [0u32; SLOTS];
+    let mut weights = [0u32; WEIGHTS];
+    let mut map = [0u32; CODES];
+    let mut work = [0u32; WORK];
+    let triples = &mut triples[..case.triples.min(SLOTS)];
+    let summary = &mut summary[..case.summary.min(SLOTS)];
+    let weights = &mut weights[..case.weights.min(WEIGHTS)];
+    let map = &mut map[..case.map.min(CODES)];
+    let mut state = begin(rt, run, case, input.roster, triples, summary, weights, map)?;
+    if state.opened != 0 {
+        return Ok(state);
     }
-    at_most(calls, MOST_CALLS)
-}
-
-// So many calls, one after the other.
-fn call_all<'a>(
-    rt: &impl Print,
-    run: Run,
-    state: State,
-    last: usize,
-    calls: &[u32],
-    roster: &'a [u8],
-    spoilt: &'a [u8],
-    triples: &mut [u32],
-    summary: &mut [u32],
-    weights: &mut [u32],
-    map: &mut [u32],
-    work: &mut [u32],
-) -> io::Result<State> {
-    let mut next = state;
-    let mut i = 0;
-    while i < last {
-        let made = i + 1;
-        next = called_at(
+    let last = case.calls.min(MOST_CALLS);
+    for i in 0..last.min(input.calls.len()) {
+        let call = input.calls[i];
+        let roster = input.lent(call);
+        let lent = &mut work[..call.work.min(WORK)];
+        state = called(
             rt,
-            shown_at(run, made, last),
-            next,
-            call_at(calls, i),
+            shown_at(run, i + 1, last),
+            state,
+            call,
             roster,
-            spoilt,
             triples,
             summary,
             weights,
             map,
-            work,
+            lent,
         )?;
-        i = made;
     }
-    Ok(next)
-}
-
-// The whole of a case over lent lists.
-fn over<'a>(
-    rt: &impl Print,
-    run: Run,
-    case: Case,
-    calls: &[u32],
-    roster: &'a [u8],
-    spoilt: &'a [u8],
-    triples: &mut [u32],
-    summary: &mut [u32],
-    weights: &mut [u32],
-    map: &mut [u32],
-    work: &mut [u32],
-) -> io::Result<State> {
-    let state = begin(rt, run, case, roster, triples, summary, weights, map)?;
-    call_all(
-        rt,
-        run,
-        state,
-        calls_after(state.opened, case.calls),
-        calls,
-        roster,
-        spoilt,
-        triples,
-        summary,
-        weights,
-        map,
-        work,
-    )
-}
-
-fn small<'a>(
-    rt: &impl Print,
-    run: Run,
-    case: Case,
-    calls: &[u32],
-    roster: &'a [u8],
-    spoilt: &'a [u8],
-) -> io::Result<State> {
-    let mut triples = [0u32; 100];
-    let mut summary = [0u32; 100];
-    let mut weights = [0u32; 100];
-    let mut map = [0u32; 50];
-    let mut work = [0u32; 50];
-    let t = at_most(case.triples, 100);
-    let s = at_most(case.summary, 100);
-    let w = at_most(case.weights, 100);
-    let m = at_most(case.map, 50);
-    over(
-        rt,
-        run,
-        case,
-        calls,
-        roster,
-        spoilt,
-        &mut triples[0..t],
-        &mut summary[0..s],
-        &mut weights[0..w],
-        &mut map[0..m],
-        &mut work,
-    )
-}
-
-fn large<'a>(
-    rt: &impl Print,
-    run: Run,
-    case: Case,
-    calls: &[u32],
-    roster: &'a [u8],
-    spoilt: &'a [u8],
-) -> io::Result<State> {
-    let mut triples = [0u32; 6];
-    let mut summary = [0u32; 6];
-    let mut weights = [0u32; 2];
-    let mut map = [0u32; 65537];
-    let mut work = [0u32; 131074];
-    let m = at_most(case.map, 65537);
-    over(
-        rt,
-        run,
-        case,
-        calls,
-        roster,
-        spoilt,
-        &mut triples,
-        &mut summary,
-        &mut weights,
-        &mut map[0..m],
-        &mut work,
-    )
+    Ok(state)
 }
 
 // The whole of a case over lists of its own.
-pub fn all_calls<'a>(
-    rt: &impl Print,
-    run: Run,
-    case: Case,
-    calls: &[u32],
-    roster: &'a [u8],
-    spoilt: &'a [u8],
-) -> io::Result<State> {
-    if roster.len() <= 25 {
-        return small(rt, run, case, calls, roster, spoilt);
+pub fn all_calls(rt: &impl Print, run: Run, input: Input<'_>) -> io::Result<State> {
+    if input.roster.len() <= 25 {
+        over::<100, 100, 50, 50>(rt, run, input)
+    } else {
+        over::<6, 2, 65537, 131074>(rt, run, input)
     }
-    large(rt, run, case, calls, roster, spoilt)
 }

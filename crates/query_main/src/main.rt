@@ -27,7 +27,7 @@ fn words(range: u32) -> Vocabulary {
         subclass: 1,
         subproperty: 2,
         domain: 3,
-        range: range,
+        range,
     }
 }
 
@@ -44,31 +44,21 @@ fn pair(a: Pattern, b: Pattern, count: u32) -> Query {
     let z = blank_pattern();
     Query {
         patterns: [a, b, z, z, z, z, z, z],
-        count: count,
+        count,
     }
 }
 
 fn example(rt: &impl Print) -> io::Result<()> {
     let a = Code::ABSENT;
     let map: [u32; 14] = [a, a, a, a, a, 5, 6, 7, 8, 9, 10, 10, 12, 12];
-    show(
-        rt,
-        ask::ask(
-            words(4),
-            &SUMMARY,
-            &map,
-            pair(vars(0, 5, 1), vars(0, 6, 2), 2),
-        ),
-    )?;
-    show(
-        rt,
-        ask::ask(
-            words(4),
-            &SUMMARY,
-            &map,
-            pair(vars(0, 7, 1), vars(1, 7, 2), 2),
-        ),
-    )
+    let queries = [
+        pair(vars(0, 5, 1), vars(0, 6, 2), 2),
+        pair(vars(0, 7, 1), vars(1, 7, 2), 2),
+    ];
+    for query in queries {
+        show(rt, ask::ask(words(4), &SUMMARY, &map, query))?;
+    }
+    Ok(())
 }
 
 // A map that is too short, a word table with a code twice, one with a code that is too large, a reserved code as an object, a query

@@ -2,7 +2,7 @@
 // A text ends before a byte `%`, which stands in no text; the line end after it is passed over.
 #![tactic(auto)]
 
-ghost use Rattle.std.specs.Prelude.{◌<◌, ◌≤◌, length};
+ghost use Rattle.std.specs.Prelude.{◌<◌};
 
 use model::{Vocabulary, refusal_number};
 use printer::print_site;
@@ -21,40 +21,21 @@ fn long(x: u32) -> u64
     x as u64
 }
 
-fn show(rt: &impl Print, word: &str, n: u64) -> io::Result<()> {
-    print!(rt; "{word}{n}")
-}
-
-fn close(rt: &impl Print) -> io::Result<()> {
-    println!(rt; ")")
-}
-
 // The list as one number, place after place: another order, a lost repeat or a number past the triples
 // gives, but for chance, another one.
 fn digest(list: &[u32]) -> u64 {
-    let mut sum: u64 = 0;
-    for i in 0..list.len() {
-        sum = (31 * sum + long(list[i])) % 1000003;
+    let mut sum = 0u64;
+    for number in list {
+        sum = (31 * sum + u64::from(*number)) % 1000003;
     }
     sum
 }
 
-// The triple at place i of the list, if it has that slot.
-fn show_triple(rt: &impl Print, list: &[u32], i: usize) -> io::Result<()> {
-    if i < list.len() / 3 {
-        show(rt, "(t ", long(list[3 * i]))?;
-        show(rt, " ", long(list[3 * i + 1]))?;
-        show(rt, " ", long(list[3 * i + 2]))?;
-        close(rt)?;
-    }
-    Ok(())
-}
-
-// The first triples of the list.
+// The first triples of the list, so far as it has slots.
 fn show_triples(rt: &impl Print, list: &[u32], count: usize) -> io::Result<()> {
-    for i in 0..SHOWN {
-        if i < count {
-            show_triple(rt, list, i)?;
+    for t in list.chunks_exact(3).take(count.min(SHOWN)) {
+        if let [s, p, o] = t {
+            println!(rt; "(t {s} {p} {o})")?;
         }
     }
     Ok(())
@@ -62,40 +43,32 @@ fn show_triples(rt: &impl Print, list: &[u32], count: usize) -> io::Result<()> {
 
 fn show_end(rt: &impl Print, e: End) -> io::Result<()> {
     match e {
-        End::Var(v) => show(rt, "(v ", long(v))?,
-        End::Code(c) => show(rt, "(c ", long(c))?,
+        End::Var(v) => print!(rt; "(v {v})"),
+        End::Code(c) => print!(rt; "(c {c})"),
     }
-    print!(rt; ")")
 }
 
 fn show_pattern(rt: &impl Print, p: Pattern) -> io::Result<()> {
-    let subject = p.subject;
-    let object = p.object;
     print!(rt; " (")?;
-    show_end(rt, subject)?;
-    show(rt, " ", long(p.property))?;
-    print!(rt; " ")?;
-    show_end(rt, object)?;
+    show_end(rt, p.subject)?;
+    print!(rt; " {} ", p.property)?;
+    show_end(rt, p.object)?;
     print!(rt; ")")
 }
 
 // A query with its count and all its eight patterns.
 fn show_query(rt: &impl Print, q: Query) -> io::Result<()> {
-    show(rt, "(query ", long(q.count))?;
-    for k in 0..8 {
-        let p = q.patterns[k];
+    print!(rt; "(query {}", q.count)?;
+    for p in q.patterns {
         show_pattern(rt, p)?;
     }
-    close(rt)
+    println!(rt; ")")
 }
 
 // The queries of a site.
 fn show_queries(rt: &impl Print, site: Site) -> io::Result<()> {
-    for k in 0..16 {
-        if k < site.asks {
-            let q = site.queries[k];
-            show_query(rt, q)?;
-        }
+    for q in site.queries.iter().take(site.asks) {
+        show_query(rt, *q)?;
     }
     Ok(())
 }
@@ -114,12 +87,14 @@ fn show_words(rt: &impl Print, words: Vocabulary) -> io::Result<()> {
     if are_rdfs(words) {
         return Ok(());
     }
-    show(rt, "(words ", long(words.instance))?;
-    show(rt, " ", long(words.subclass))?;
-    show(rt, " ", long(words.subproperty))?;
-    show(rt, " ", long(words.domain))?;
-    show(rt, " ", long(words.range))?;
-    close(rt)
+    let Vocabulary {
+        instance,
+        subclass,
+        subproperty,
+        domain,
+        range,
+    } = words;
+    println!(rt; "(words {instance} {subclass} {subproperty} {domain} {range})")
 }
 
 // Reads a text into a list; shows the answer, N, the numbers of triples and queries, the list's digest, the reserved codes, the first
@@ -131,15 +106,15 @@ fn show_read(rt: &impl Print, text: &[u8], list: &mut [u32]) -> io::Result<()> {
         Ok(_) => 0,
         Err(refusal) => long(refusal_number(refusal)),
     };
-    show(rt, "(read ", refused)?;
-    show(rt, " ", long(site.size))?;
-    show(rt, " ", site.count as u64)?;
-    show(rt, " ", site.asks as u64)?;
-    show(rt, " ", digest(list))?;
-    close(rt)?;
-    let words = site.words;
-    show_words(rt, words)?;
-    show_triples(rt, list, site.count)?;
+    let Site {
+        size,
+        count,
+        asks,
+        ..
+    } = site;
+    println!(rt; "(read {refused} {size} {count} {asks} {})", digest(list))?;
+    show_words(rt, site.words)?;
+    show_triples(rt, list, count)?;
     show_queries(rt, site)
 }
 
@@ -148,8 +123,7 @@ fn show_text(rt: &impl Print, text: &[u8], k: u64) -> io::Result<()> {
     let mut list = [7u32; 3000];
     let mut short = [7u32; 5];
     let mut output = [0u8; 65536];
-    show(rt, "(text ", k)?;
-    close(rt)?;
+    println!(rt; "(text {k})")?;
     show_read(rt, text, &mut list)?;
     show_read(rt, text, &mut short)?;
     let count = print_site(text, &mut output);
@@ -159,30 +133,19 @@ fn show_text(rt: &impl Print, text: &[u8], k: u64) -> io::Result<()> {
     Ok(())
 }
 
-// The place of the next `%`, or the end.
-fn next_mark(input: &[u8], from: usize) -> usize
-    requires { from ≤ length input.now }
-    ensures { (from ≤ result) × (result ≤ length input.now) }
-{
-    let mut i = from;
-    while i < input.len() {
-        if input[i] == 37 {
-            return i;
-        }
-        i += 1;
-    }
-    i
-}
-
 // Shows each text.
 fn show_texts(rt: &impl Print, input: &[u8]) -> io::Result<()> {
-    let mut i = 0;
-    let mut k = 1;
-    while i < input.len() {
-        let end = next_mark(input, i);
-        show_text(rt, &input[i..end], k)?;
-        i = end + 2;
-        k += 1;
+    let mut rest = input;
+    for k in 1..u64::MAX {
+        if rest.is_empty() {
+            break;
+        }
+        let end = rest
+            .iter()
+            .position(|byte| *byte == b'%')
+            .unwrap_or(rest.len());
+        show_text(rt, &rest[..end], k)?;
+        rest = rest.get(end + 2..).unwrap_or(&[]);
     }
     Ok(())
 }

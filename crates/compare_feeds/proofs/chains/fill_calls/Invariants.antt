@@ -1,8 +1,0 @@
-use Rattle.std.proofs.Common.{◌≡◌, ◌-◌, length}
-use Rattle.compare_feeds.proofs.chains.fill_calls.Given as goal
-
-abbrev pub invariant-loop-i : goal.invariant-loop-i
-invariant-loop-i l = (length l.pool ≡ length l.initial.pool) × (length l.calls ≡ length l.initial.calls)
-
-abbrev pub decreases-loop-i : goal.decreases-loop-i
-decreases-loop-i l = 60 - l.i
