@@ -4,7 +4,7 @@ ghost use Rattle.std.specs.Prelude.{◌≤◌, length};
 
 use comparison::calls;
 use comparison_report::report::Tally;
-use lists::{Code, word_of};
+use lists::Code;
 use model::Vocabulary;
 use naive_checks::Site;
 use naive_summary::{Equivalence, summarise};
@@ -58,7 +58,7 @@ fn place_of(seed: u64, right: Vocabulary, list: &[u32]) -> usize
 fn property(seed: u64, right: Vocabulary, own: u32) -> u32 {
     match pick(seed, 4, 72) {
         x if x < 3 => pick(seed, 5, 26),
-        3 => word_of(right, 1 + pick(seed, 5, 4)),
+        3 => words::word_at(right, 1 + pick(seed, 5, 4)),
         _ => own,
     }
 }

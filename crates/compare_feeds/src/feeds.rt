@@ -4,7 +4,7 @@ ghost use Rattle.std.specs.Prelude.{◌≤◌};
 use comparison_report::report::Tally;
 use fed_intakes::both::{compare, record_calls, record_open};
 use fed_intakes::inputs::{Call, Case, Input};
-use lists::{rdfs_words, word_of};
+use lists::rdfs_words;
 use model::Vocabulary;
 use random_sites::random::{chance, get, mix, pick, set};
 use random_sites::{sites, words};
@@ -29,7 +29,7 @@ pub fn spoil(seed: u64, words: Vocabulary, roster: &mut [u8]) {
         let place = pick(seed, 77, roster.len().min(24) as u32);
         (place, (4 + pick(seed, 78, 252)).min(255))
     } else {
-        let place = word_of(words, pick(seed, 77, 5));
+        let place = words::word_at(words, pick(seed, 77, 5));
         (place, (1 + pick(seed, 78, 3)).min(3))
     };
     set(roster, place as usize, mark as u8);

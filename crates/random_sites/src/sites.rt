@@ -3,8 +3,7 @@ ghost use Rattle.std.specs.Prelude.{◌*◌, ◌≤◌, length};
 
 use super::random::{chance, mix, pick, remainder, set, triples_end};
 use super::words;
-use super::words::{free_code, plain_words};
-use lists::word_of;
+use super::words::{free_code, plain_words, word_at};
 use model::Vocabulary;
 
 // The own roster of the paper's example, with N 14.
@@ -176,8 +175,8 @@ pub fn damage_table(words: Vocabulary, table: &mut [u32], seed: u64, n: usize) {
     match pick(seed, 10, 24) {
         0 => set(table, i, n.min(24) as u32 + pick(seed, 12, 3)),
         1 => set(table, i, 4294967295),
-        2 => set(table, k, word_of(words, pick(seed, 12, 5))),
-        3 => set(table, k + 2, word_of(words, pick(seed, 12, 5))),
+        2 => set(table, k, word_at(words, pick(seed, 12, 5))),
+        3 => set(table, k + 2, word_at(words, pick(seed, 12, 5))),
         _ => (),
     }
 }
@@ -202,7 +201,7 @@ fn mark_more(words: Vocabulary, roster: &mut [u8], seed: u64) {
 fn damage_roster(words: Vocabulary, roster: &mut [u8], seed: u64) {
     match pick(seed, 24, 20) {
         0 => set(roster, place_in(seed, 25, roster.len()), 4),
-        1 => set(roster, word_of(words, pick(seed, 25, 5)) as usize, 1),
+        1 => set(roster, word_at(words, pick(seed, 25, 5)) as usize, 1),
         2 => mark_free(words, roster, seed, 25, 0),
         3 => mark_free(words, roster, seed, 25, 1),
         4 => mark_free(words, roster, seed, 25, 2),

@@ -3,7 +3,7 @@ ghost use Rattle.std.specs.Prelude.{◌≤◌};
 
 use super::random::{chance, get, mix, pick};
 use lists::{rdfs_words, word_of};
-use model::Vocabulary;
+use model::{Vocabulary, Word};
 use naive_lists::Words;
 
 // No code is as large.
@@ -55,10 +55,22 @@ pub fn free_code(words: Vocabulary, i: u32) -> u32
     code
 }
 
+// The reserved code at a place: type, subclass, subproperty, domain, range.
+pub fn word_at(words: Vocabulary, place: u32) -> u32 {
+    let word = match place {
+        1 => Word::Subclass,
+        2 => Word::Subproperty,
+        3 => Word::Domain,
+        4 => Word::Range,
+        _ => Word::Instance,
+    };
+    word_of(words, word)
+}
+
 // What a code becomes: one below 5 the word at its place, another the code at its place of the others.
 fn name(words: Vocabulary, code: u32) -> u32 {
     if code < 5 {
-        word_of(words, code)
+        word_at(words, code)
     } else {
         free_code(words, code - 5)
     }
@@ -129,7 +141,7 @@ pub fn spoilt(words: Vocabulary, seed: u64, n: usize) -> Vocabulary {
     let code = match pick(seed, 2, 4) {
         0 => n.min(65536) as u32,
         1 => NONE,
-        _ => word_of(words, (k + 1 + pick(seed, 3, 4)) % 5),
+        _ => word_at(words, (k + 1 + pick(seed, 3, 4)) % 5),
     };
     with_word(words, k, code)
 }
