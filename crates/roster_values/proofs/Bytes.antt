@@ -1,6 +1,6 @@
 -- The bytes of a word that is made of bytes, and the test of a word.
 -- Assumes nothing.
-use Prim.Native.Nat.{ℕ, zero, suc, ◌+◌, ◌-◌, ◌*◌, ◌/◌, ◌%◌, ◌^◌, ◌<◌, ◌≤◌}
+use Prim.Native.Nat.{ℕ, zero, suc, ◌+◌, ◌*◌, ◌/◌, ◌%◌, ◌^◌, ◌<◌, ◌≤◌}
 use mathlib.Core.Path.{◌≡◌, sym, ◌∙◌, ap, subst}
 use mathlib.Core.Logic.{◌⊎◌, inl, inr, ⊎_elim}
 use mathlib.Core.Bool.{true, false, not}
@@ -48,11 +48,11 @@ values-part l i n h =
     let y : k < n = omega (arith, x, length-tabulate (mark l) i n) in
     tabulate-at (mark l) 0 i n k y ∙ sym (get_or-take n (drop i l) k 0 y ∙ get_or-drop i l k 0))
 
-pub word-is : (l bs : List ℕ) (i w : ℕ) → i + 8 ≤ length l → ((k : ℕ) → get_or l k 0 < 256) → bs ≡ take (i + 8 - i) (drop i l) → w ≡ from_le_bytes w64 bs → bytes_of w ≡ values l i 8
-word-is l bs i w h small e is = bytes_low w ∙ le_bytes_8 bs w (ap length p ∙ length-tabulate (mark l) i 8) each is ∙ p
+pub word-is : (l bs : List ℕ) (i n w : ℕ) → i + 8 ≤ length l → ((k : ℕ) → get_or l k 0 < 256) → bs ≡ take n (drop i l) → n ≡ 8 → w ≡ from_le_bytes w64 bs → bytes_of w ≡ values l i 8
+word-is l bs i n w h small e q is = bytes_low w ∙ le_bytes_8 bs w (ap length p ∙ length-tabulate (mark l) i 8) each is ∙ p
   where
     p : bs ≡ values l i 8
-    p = let q : i + 8 - i ≡ 8 = omega arith in e ∙ ap (λ (n : ℕ). take n (drop i l)) q ∙ sym (values-part l i 8 h)
+    p = e ∙ ap (λ (m : ℕ). take m (drop i l)) q ∙ sym (values-part l i 8 h)
 
     value : (k : ℕ) → (ltb k 8 ≡ true) ⊎ (ltb k 8 ≡ false) → get_or (values l i 8) k 0 < 256
     value k (inl x) = omega (arith, tabulate-at (mark l) 0 i 8 k (ltb-true k 8 x), small (i + k))

@@ -13,9 +13,8 @@ fn word_at(roster: &[u8], i: usize) -> u64
     requires { i + 8 ≤ length roster.now }
     ensures { bytes_of result ≡ values roster.now i 8 }
 {
-    let mut bytes = [0; 8];
-    bytes.copy_from_slice(&roster[i..i + 8]);
-    u64::from_le_bytes(bytes)
+    let bytes = roster[i..i + 8].as_array::<8>().unwrap();
+    u64::from_le_bytes(*bytes)
 }
 
 // Whether one of the eight bytes of a word is over 3: such a byte has one of its upper bits.
