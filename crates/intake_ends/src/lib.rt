@@ -2,167 +2,115 @@
 // say what a yes means.
 #![tactic(auto)]
 
-ghost use Rattle.std.specs.Prelude.{true, ◌≡◌, ◌+◌, ◌*◌, ◌<◌, ◌≤◌, length};
-ghost use Rattle.model.specs.Cliques.{side_of};
+ghost use Rattle.std.specs.Prelude.{true, ◌≡◌, ◌+◌, ◌*◌, ◌<◌, ◌≤◌, Bool, length};
+ghost use Rattle.model.specs.declared.Triple.{Triple};
 ghost use Rattle.theory.specs.Tables.{Below};
 ghost use Rattle.lists.specs.Flat.{at};
 ghost use Rattle.intake_ends.specs.Ends.{at_side, at_end, OtherAt, Elsewhere, EndKept, EndsKept};
 
 use lists::triple_at;
-use model::{Triple, Vocabulary};
+use model::{Side, Triple, Vocabulary};
 use roster_checks::{links_at, side_end};
 
-// Whether u has t's property and, at that side, t's end.
-fn same_side(sources: bool, u: Triple, t: Triple) -> bool
-    ensures { result ≡ at_side (side_of sources) t u }
-{
-    if u.property == t.property {
-        return side_end(sources, u) == side_end(sources, t);
-    }
-    false
+// A test of a triple.
+trait Test: Copy {
+    ghost holds: { Self → Triple → Bool };
+
+    fn passes(self, u: Triple) -> bool
+        ensures { result ≡ holds self u };
 }
 
-// Whether u has c as an end.
-fn has_end(u: Triple, c: u32) -> bool
-    ensures { result ≡ at_end c u }
-{
-    if u.subject == c {
-        return true;
-    }
-    u.object == c
+// Triples with this one's property and, at that side, its end.
+#[derive(Clone, Copy)]
+struct AtSide {
+    side: Side,
+    triple: Triple,
 }
 
-// Whether place k is another than i, and the triple there has t's property and, at that side, t's end.
-fn same_side_at(list: &[u32], k: usize, i: usize, sources: bool, t: Triple) -> bool
+impl Test for AtSide {
+    ghost holds = { λ s u. at_side s.side s.triple u };
+
+    #[tactic(auto, unfolding(crate::specs::Ends::at_side))]
+    fn passes(self, u: Triple) -> bool {
+        u.property == self.triple.property
+            && side_end(self.side, u) == side_end(self.side, self.triple)
+    }
+}
+
+// Triples with this code as an end.
+#[derive(Clone, Copy)]
+struct AtEnd(u32);
+
+impl Test for AtEnd {
+    ghost holds = { λ s u. at_end s.0 u };
+
+    #[tactic(auto, unfolding(crate::specs::Ends::at_end))]
+    fn passes(self, u: Triple) -> bool {
+        u.subject == self.0 || u.object == self.0
+    }
+}
+
+// Whether place k is another than i, and the triple there passes the test.
+fn other_at<T: Test>(list: &[u32], k: usize, i: usize, test: T) -> bool
     requires { 3 * k + 2 < length list.now }
-    ensures { result ≡ true → OtherAt (at list.now) k i (at_side (side_of sources) t) }
+    ensures { result ≡ true → OtherAt (at list.now) k i (T.holds test) }
 {
-    if k == i {
-        return false;
-    }
-    same_side(sources, triple_at(list, k), t)
-}
-
-// Whether place k is another than i, and the triple there has c as an end.
-fn has_end_at(list: &[u32], k: usize, i: usize, c: u32) -> bool
-    requires { 3 * k + 2 < length list.now }
-    ensures { result ≡ true → OtherAt (at list.now) k i (at_end c) }
-{
-    if k == i {
-        return false;
-    }
-    has_end(triple_at(list, k), c)
+    k != i && test.passes(triple_at(list, k))
 }
 
 // The same of a place that may be `count` or more.
-fn same_side_within(
-    list: &[u32],
-    count: usize,
-    k: usize,
-    i: usize,
-    sources: bool,
-    t: Triple,
-) -> bool
+fn other_within<T: Test>(list: &[u32], count: usize, k: usize, i: usize, test: T) -> bool
     requires { 3 * count ≤ length list.now }
-    ensures { result ≡ true → Elsewhere (at list.now) count i (at_side (side_of sources) t) }
+    ensures { result ≡ true → Elsewhere (at list.now) count i (T.holds test) }
 {
-    if k < count {
-        return same_side_at(list, k, i, sources, t);
-    }
-    false
+    k < count && other_at(list, k, i, test)
 }
 
-fn has_end_within(list: &[u32], count: usize, k: usize, i: usize, c: u32) -> bool
-    requires { 3 * count ≤ length list.now }
-    ensures { result ≡ true → Elsewhere (at list.now) count i (at_end c) }
-{
-    if k < count {
-        return has_end_at(list, k, i, c);
-    }
-    false
-}
-
-// Whether the triple before or behind place i has t's property and subject: in a rising list such triples stand side by side.
-fn subject_beside(list: &[u32], count: usize, i: usize, t: Triple) -> bool
+// Whether the triple before or behind place i passes the test.
+fn other_beside<T: Test>(list: &[u32], count: usize, i: usize, test: T) -> bool
     requires { (i < count) × (3 * count ≤ length list.now) }
-    ensures { result ≡ true → Elsewhere (at list.now) count i (at_side (side_of true) t) }
+    ensures { result ≡ true → Elsewhere (at list.now) count i (T.holds test) }
 {
-    if same_side_within(list, count, i + 1, i, true, t) {
-        return true;
-    }
-    if i == 0 {
-        return false;
-    }
-    same_side_within(list, count, i - 1, i, true, t)
+    other_within(list, count, i + 1, i, test)
+        || 0 < i && other_within(list, count, i - 1, i, test)
 }
 
-// Whether the triple before or behind place i has c as an end.
-fn end_beside(list: &[u32], count: usize, i: usize, c: u32) -> bool
-    requires { (i < count) × (3 * count ≤ length list.now) }
-    ensures { result ≡ true → Elsewhere (at list.now) count i (at_end c) }
-{
-    if has_end_within(list, count, i + 1, i, c) {
-        return true;
-    }
-    if i == 0 {
-        return false;
-    }
-    has_end_within(list, count, i - 1, i, c)
-}
-
-// Whether another of the first `count` triples than the one at place i has t's property and, at that side, t's end.
-fn side_elsewhere(list: &[u32], count: usize, i: usize, sources: bool, t: Triple) -> bool
+// Whether another of the first `count` triples than the one at place i passes the test.
+fn other_elsewhere<T: Test>(list: &[u32], count: usize, i: usize, test: T) -> bool
     requires { 3 * count ≤ length list.now }
-    ensures { result ≡ true → Elsewhere (at list.now) count i (at_side (side_of sources) t) }
+    ensures { result ≡ true → Elsewhere (at list.now) count i (T.holds test) }
 {
-    let mut k = 0;
-    while k < count {
-        if same_side_at(list, k, i, sources, t) {
+    for k in 0..count {
+        if other_at(list, k, i, test) {
             return true;
         }
-        k += 1;
-    }
-    false
-}
-
-// Whether another of the first `count` triples than the one at place i has c as an end; the two beside it are tried first.
-fn end_elsewhere(list: &[u32], count: usize, i: usize, c: u32) -> bool
-    requires { (i < count) × (3 * count ≤ length list.now) }
-    ensures { result ≡ true → Elsewhere (at list.now) count i (at_end c) }
-{
-    if end_beside(list, count, i, c) {
-        return true;
-    }
-    let mut k = 0;
-    while k < count {
-        if has_end_at(list, k, i, c) {
-            return true;
-        }
-        k += 1;
     }
     false
 }
 
 // Whether the others keep t's end at a side: where it is an unmarked end of a data triple, at that side of the property; else as a node.
+// In a rising list triples with one subject and one property stand side by side.
 fn end_kept(
     words: Vocabulary,
     roster: &[u8],
     list: &[u32],
     count: usize,
     i: usize,
-    sources: bool,
+    side: Side,
     t: Triple,
 ) -> bool
     requires { Below (length roster.now) t × (i < count) × (3 * count ≤ length list.now) }
-    ensures { result ≡ true → EndKept words roster.now (at list.now) count i t (side_of sources) }
+    ensures { result ≡ true → EndKept words roster.now (at list.now) count i t side }
 {
-    if !links_at(words, roster, sources, t) {
-        return end_elsewhere(list, count, i, side_end(sources, t));
+    if !links_at(words, roster, side, t) {
+        let node = AtEnd(side_end(side, t));
+        return other_beside(list, count, i, node) || other_elsewhere(list, count, i, node);
     }
-    if sources {
-        return subject_beside(list, count, i, t);
+    let alike = AtSide { side, triple: t };
+    match side {
+        Side::Source => other_beside(list, count, i, alike),
+        Side::Target => other_elsewhere(list, count, i, alike),
     }
-    side_elsewhere(list, count, i, sources, t)
 }
 
 // Whether the others keep both ends of t, the triple at place i.
@@ -177,8 +125,6 @@ pub fn ends_kept(
     requires { Below (length roster.now) t × (i < count) × (3 * count ≤ length list.now) }
     ensures { result ≡ true → EndsKept words roster.now (at list.now) count i t }
 {
-    if end_kept(words, roster, list, count, i, true, t) {
-        return end_kept(words, roster, list, count, i, false, t);
-    }
-    false
+    end_kept(words, roster, list, count, i, Side::Source, t)
+        && end_kept(words, roster, list, count, i, Side::Target, t)
 }

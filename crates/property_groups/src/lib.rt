@@ -40,14 +40,7 @@ fn link_node(list: &mut [u32], node: u32, property: u32)
 }
 
 // Adds the triple at place i of the table.
-fn link_at(
-    words: Vocabulary,
-    table: &[u32],
-    roster: &[u8],
-    side: Side,
-    list: &mut [u32],
-    i: usize,
-)
+fn link_at(words: Vocabulary, table: &[u32], roster: &[u8], side: Side, list: &mut [u32], i: usize)
     requires { Right words roster.now (triples table.now) × (i < length table.now / 3) × Grouped words table.now roster.now side i list.old }
     ensures { Grouped words table.now roster.now side (i + 1) list.new }
 {
