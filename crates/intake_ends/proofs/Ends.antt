@@ -3,12 +3,12 @@
 use Prim.Native.Nat.{ℕ, ◌<◌, ◌≤◌}
 use mathlib.Core.Path.{◌≡◌, sym, subst, ◌∙◌, ap}
 use mathlib.Core.Logic.{⊎_elim}
-use mathlib.Core.Bool.{Bool, true, false, ◌&&◌, ◌||◌, true≢false}
+use mathlib.Core.Bool.{true, false, true≢false}
 use mathlib.Core.List.{List, Memᴰ as Mem}
 use native.Mathlib.Omega.{arith}
 use lib.Dec.{eqb, leb}
 use lib.ListN.{length}
-use borrow.Author.Tests.{eqb-true, eq-eqb, ne_eqb}
+use borrow.Author.Tests.{eqb-true}
 use Rattle.model.specs.declared.Triple.{Triple}
 use Rattle.model.specs.declared.Vocabulary.{Vocabulary}
 use Rattle.model.specs.Codes.{absent, kind}
@@ -28,7 +28,7 @@ use Rattle.theory.proofs.Weak.{has-node}
 use Rattle.theory.proofs.Removal.{Other, other-there}
 use Rattle.lists.specs.Flat.{RisingPart}
 use Rattle.lists.proofs.Compare.{Cmp, lt, eq, gt, cmp}
-use Rattle.intake_ends.specs.Ends.{at_side, at_end, OtherAt, Elsewhere, EndKept, EndsKept}
+use Rattle.intake_ends.specs.Ends.{at_side, at_end, Elsewhere, EndsKept}
 
 -- ── what is kept ──
 module _ (f : ℕ → Triple) (n i : ℕ) (t : Triple) (rising : RisingPart f 0 n) (here : t ≡ f i) (h : i < n) where

@@ -71,8 +71,7 @@ fn other_beside<T: Test>(list: &[u32], count: usize, i: usize, test: T) -> bool
     requires { (i < count) × (3 * count ≤ length list.now) }
     ensures { result ≡ true → Elsewhere (at list.now) count i (T.holds test) }
 {
-    other_within(list, count, i + 1, i, test)
-        || 0 < i && other_within(list, count, i - 1, i, test)
+    other_within(list, count, i + 1, i, test) || 0 < i && other_within(list, count, i - 1, i, test)
 }
 
 // Whether another of the first `count` triples than the one at place i passes the test.

@@ -63,13 +63,7 @@ fn empty_labels(words: Vocabulary, roster: &[u8], list: &mut [u32])
 }
 
 // The cliques of the data nodes at a side; the entries of the labels are absent.
-pub fn node_cliques(
-    words: Vocabulary,
-    table: &[u32],
-    roster: &[u8],
-    side: Side,
-    list: &mut [u32],
-)
+pub fn node_cliques(words: Vocabulary, table: &[u32], roster: &[u8], side: Side, list: &mut [u32])
     requires { Right words roster.now (triples table.now) × (length list.old ≡ length roster.now) }
     ensures { list.new ≡ node_cliques words roster.now side (triples table.now) }
 {
