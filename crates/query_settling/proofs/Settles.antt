@@ -118,9 +118,6 @@ module _ (table map d d' : List ℕ) (q : Query) (k : ℕ) (b : List ℕ) {x : B
   unsupported n = settled-none table map q k b (λ σ p l. true≢false (sym (w.some σ p) ∙ n))
 
   module _ (limited : Bool) (s₀ s : ℕ) {y : Bool} (t : Sought table map d' q k b limited s₀ s y) where
-    pub found_within : y ≡ true → Settled table map q k b true
-    found_within e = settled-some table map q k b (t.sound e)
-
     pub none_within : y ≡ false → Sure limited s → Settled table map q k b false
     none_within n sure = settled-none table map q k b (λ σ p l. true≢false (sym (t.complete sure σ p (w.within σ p)) ∙ n))
 

@@ -1,5 +1,4 @@
 use mathlib.Core.Path.{◌∙◌}
-use native.Mathlib.Omega.{arith}
 use Rattle.flat_queries.proofs.Queries.{queries-start, queries-length, queries-step, queries-end}
 use Rattle.flat_queries.proofs.put_queries.Goals as goal
 

@@ -1,5 +1,4 @@
 use mathlib.Core.Path.{ap}
-use native.Mathlib.Omega.{arith}
 use lib.ListN.{replicate}
 use Rattle.flat_queries.proofs.Queries.{patterns_start, patterns_step, patterns_end}
 use Rattle.flat_queries.proofs.query_of.Goals as goal
