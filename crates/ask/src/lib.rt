@@ -15,10 +15,7 @@ use query_settling::some_choice;
 fn known_rising(table: &[u32], count: u32) -> bool
     ensures { InOrder table.now result }
 {
-    if count < 2 {
-        return false;
-    }
-    rises(table)
+    1 < count && rises(table)
 }
 
 // Whether some choice of nodes for the variables puts every counted pattern in the table.

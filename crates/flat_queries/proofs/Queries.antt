@@ -2,14 +2,11 @@
 -- Assumes nothing.
 use Prim.Native.Nat.{ℕ, suc, ◌+◌, ◌*◌, ◌<◌, ◌≤◌}
 use mathlib.Core.Path.{◌≡◌, refl, sym, ◌∙◌, ap}
-use mathlib.Core.Bool.{Bool, cond}
 use mathlib.Core.List.{List, [], ◌∷◌}
 use native.Mathlib.Numerals.{add-one}
 use native.Mathlib.Omega.{arith}
-use lib.Dec.{eqb}
 use lib.ListN.{length, get_or, set, length-set, length-append, replicate}
 use lib.Seq.{sets, length-sets}
-use borrow.Author.Tests.{eq-eqb, ne_eqb}
 use Rattle.model.specs.Lists.{collect, tabulate}
 use Rattle.query.specs.declared.End.{End}
 use Rattle.query.specs.declared.End.TheVariants.{Var, Code}
@@ -18,27 +15,6 @@ use Rattle.query.specs.declared.Query.{Query}
 use Rattle.query.specs.Ask.{blank, pattern_at}
 use Rattle.flat_queries.specs.Flat.{end_of, pattern_from, flat_pattern, flat_query, end_numbers, pattern_numbers, query_numbers, query_at, flat_queries}
 use Rattle.flat_queries.proofs.Blocks.{sets_append, sets_whole, blocks, length-blocks, blocks_step}
-
--- ── an end from its two numbers ──
-module _ (kind value : ℕ) where
-  pub end-variable : kind ≡ 0 → Var value ≡ end_of kind value
-  unfolding end_of
-  end-variable h = sym (ap (λ (b : Bool). cond b (Var value) (cond (eqb kind 1) (Code value) (Var 8))) (eq-eqb kind 0 h))
-
-  pub end-code : kind ≡ 1 → Code value ≡ end_of kind value
-  unfolding end_of
-  end-code h =
-      let z : kind ≡ 0 → ⊥ = omega arith in
-      sym
-      (ap (λ (b : Bool). cond b (Var value) (cond (eqb kind 1) (Code value) (Var 8))) (ne_eqb kind 0 z)
-      ∙ ap (λ (b : Bool). cond b (Code value) (Var 8)) (eq-eqb kind 1 h))
-
-  pub end-other : (kind ≡ 0 → ⊥) → (kind ≡ 1 → ⊥) → Var 8 ≡ end_of kind value
-  unfolding end_of
-  end-other h k =
-      sym
-      (ap (λ (b : Bool). cond b (Var value) (cond (eqb kind 1) (Code value) (Var 8))) (ne_eqb kind 0 h)
-      ∙ ap (λ (b : Bool). cond b (Code value) (Var 8)) (ne_eqb kind 1 k))
 
 -- ── a pattern and a query from numbers ──
 pub pattern-made : (l : List ℕ) (i : ℕ) (s o : End) → s ≡ end_of (get_or l i 0) (get_or l (i + 1) 0) → o ≡ end_of (get_or l (i + 3) 0) (get_or l (i + 4) 0)

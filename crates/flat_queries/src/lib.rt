@@ -15,16 +15,15 @@ pub const QUERY_NUMBERS: usize = 41;
 pub const QUERIES_NUMBERS: usize = 656;
 
 // An end from its two numbers: 0 and a variable, or 1 and a code. Another first number gives a variable over 7, which ask refuses.
+#[tactic(auto, unfolding(crate::specs::Flat::end_of))]
 fn end_of(kind: u32, value: u32) -> End
     ensures { result ≡ end_of kind value }
 {
-    if kind == 0 {
-        return End::Var(value);
+    match kind {
+        0 => End::Var(value),
+        1 => End::Code(value),
+        _ => End::Var(8),
     }
-    if kind == 1 {
-        return End::Code(value);
-    }
-    End::Var(8)
 }
 
 // The pattern at place k of a flat query.
@@ -33,13 +32,10 @@ fn flat_pattern(query: &[u32], k: usize) -> Pattern
     ensures { result ≡ flat_pattern query.now k }
 {
     let i = 5 * k + 1;
-    let subject = end_of(query[i], query[i + 1]);
-    let property = query[i + 2];
-    let object = end_of(query[i + 3], query[i + 4]);
     Pattern {
-        subject,
-        property,
-        object,
+        subject: end_of(query[i], query[i + 1]),
+        property: query[i + 2],
+        object: end_of(query[i + 3], query[i + 4]),
     }
 }
 
@@ -49,13 +45,13 @@ pub fn query_of(query: &[u32]) -> Query
     ensures { result ≡ flat_query query.now }
 {
     let mut patterns = [blank_pattern(); 8];
-    let mut k = 0;
-    while k < 8 {
+    for k in 0..8 {
         patterns[k] = flat_pattern(query, k);
-        k += 1;
     }
-    let count = query[0];
-    Query { patterns, count }
+    Query {
+        patterns,
+        count: query[0],
+    }
 }
 
 // Stores an end's two numbers.
@@ -80,11 +76,9 @@ fn put_pattern(list: &mut [u32], i: usize, p: Pattern)
     requires { i + 4 < length list.old }
     ensures { list.new ≡ sets list.old i (pattern_numbers p) }
 {
-    let subject = p.subject;
-    let object = p.object;
-    put_end(list, i, subject);
+    put_end(list, i, p.subject);
     list[i + 2] = p.property;
-    put_end(list, i + 3, object);
+    put_end(list, i + 3, p.object);
 }
 
 // Stores a query as the k-th flat query of the list.
@@ -94,11 +88,8 @@ fn put_query(list: &mut [u32], k: usize, q: Query)
 {
     let i = QUERY_NUMBERS * k;
     list[i] = q.count;
-    let mut j = 0;
-    while j < 8 {
-        let p = q.patterns[j];
-        put_pattern(list, i + 1 + 5 * j, p);
-        j += 1;
+    for j in 0..8 {
+        put_pattern(list, i + 1 + 5 * j, q.patterns[j]);
     }
 }
 
@@ -107,9 +98,7 @@ pub fn put_queries(list: &mut [u32], queries: [Query; MOST_ASKS])
     requires { length list.old ≡ 656 }
     ensures { list.new ≡ flat_queries queries }
 {
-    let mut k = 0;
-    while k < MOST_ASKS {
+    for k in 0..MOST_ASKS {
         put_query(list, k, queries[k]);
-        k += 1;
     }
 }

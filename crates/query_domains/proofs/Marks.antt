@@ -1,10 +1,10 @@
 -- The ends of the triples that support a pattern are marked, and so those of a choice that puts it in the table.
 -- Assumes nothing.
-use Prim.Native.Nat.{ℕ, ◌+◌, ◌/◌, ◌<◌, ◌≤◌}
+use Prim.Native.Nat.{ℕ, ◌+◌, ◌/◌, ◌<◌}
 use native.Mathlib.Nat.{eq-or-lt_of_le}
 use native.Mathlib.Omega.{arith}
 use mathlib.Core.Path.{◌≡◌, refl, sym, subst, ◌∙◌}
-use mathlib.Core.Bool.{Bool, true, false, true≢false, ◌||◌}
+use mathlib.Core.Bool.{Bool, true, ◌||◌}
 use mathlib.Core.Logic.{⊎_elim}
 use mathlib.Core.List.{List, Memᴰ as Mem}
 use lib.ListN.{length}
@@ -20,29 +20,12 @@ use Rattle.query.specs.declared.End.{End}
 use Rattle.query.specs.declared.End.TheVariants.{Var, Code}
 use Rattle.query.specs.declared.Pattern.{Pattern}
 use Rattle.query.specs.Match.{stands_for, pattern_triple}
-use Rattle.query_rows.specs.Rows.{Within, PutIn}
+use Rattle.query_rows.specs.Rows.{Within}
 use Rattle.query_domains.specs.Domains.{stands_at, supports, EndsMarked, TripleMarked, AllMarked, VariableBelow}
 use Rattle.query_domains.proofs.Supports.{supports-more, choice_agrees}
 
--- ── one triple ──
-module _ (map d : List ℕ) (p : Pattern) (t : Triple) {s : Bool} (e : s ≡ supports map d p t) where
-  pub not_marked : s ≡ false → TripleMarked map d d p t false
-  not_marked n = record { size = refl; kept = λ u y h. h; ends = λ h. absurd (true≢false (sym h ∙ sym e ∙ n)); told = λ h. sym n ∙ e ∙ h }
-
-  pub both-marked : s ≡ true → (u : Triple) → u ≡ t → (d₁ d₂ : List ℕ) → PutIn d d₁ 8 u.subject → PutIn d₁ d₂ 9 u.object
-      → TripleMarked map d d₂ p t true
-  both-marked y u same d₁ d₂ a b = record {
-    size = b.size ∙ a.size;
-    kept = λ v x h. b.kept v x (a.kept v x h);
-    ends = λ h. subst (EndsMarked d₂) same (record { subject = b.kept 8 u.subject a.there; object = b.there });
-    told = λ h. refl;
-  }
-
 -- ── the triples at all places before one ──
 module _ (table map d : List ℕ) (p : Pattern) where
-  pub all_start : AllMarked table map d d p 0 false
-  all_start = record { size = refl; kept = λ u y h. h; ends = λ i l h. absurd (omega arith); told = λ i l h. absurd (omega arith) }
-
   pub all-step : (d₁ d₂ : List ℕ) (n : ℕ) (r s : Bool) → AllMarked table map d d₁ p n r → TripleMarked map d₁ d₂ p (at table n) s
       → AllMarked table map d d₂ p (n + 1) (r || s)
   all-step d₁ d₂ n r s h w = record {
@@ -63,10 +46,6 @@ module _ (table map d : List ℕ) (p : Pattern) where
 
       still : {t : Triple} → EndsMarked d₁ t → EndsMarked d₂ t
       still a = record { subject = w.kept _ _ a.subject; object = w.kept _ _ a.object }
-
-  pub all_end : (d₁ : List ℕ) (m n : ℕ) (r : Bool) → AllMarked table map d d₁ p n r → m ≤ n → AllMarked table map d d₁ p m r
-  all_end d₁ m n r h l =
-      record { size = h.size; kept = h.kept; ends = λ i z y. h.ends i (omega arith) y; told = λ i z y. h.told i (omega arith) y }
 
 -- ── a choice ──
 -- one within the domains that puts the pattern in the table has a triple that supports it, so its ends are marked

@@ -17,7 +17,7 @@ use Rattle.query.specs.Ask.{pattern_at, wrong_pattern_end}
 use Rattle.query.specs.Match.{stands_for, pattern_triple}
 use Rattle.query.proofs.Steps.{code-no-variable, one-variable}
 use Rattle.query_parts.proofs.Ends.{variable-below}
-use Rattle.query_rows.specs.Rows.{in_row, Within, RowSet, RowCopied, Sized}
+use Rattle.query_rows.specs.Rows.{in_row, Within, RowSet, Sized}
 use Rattle.query_rows.proofs.Rows.{allows-row}
 use Rattle.query_domains.specs.Domains.{EndsMarked, AllMarked, VariableBelow, DomainKept, LaterKept, Swept, Filled, SweptAll}
 use Rattle.query_domains.proofs.Supports.{row-allows, allows-more}
@@ -29,21 +29,6 @@ pub right-below : (n : ℕ) (e : End) → wrong_pattern_end n e ≡ false → Va
 right-below n e w u h = variable-below n u e h w
 
 -- ── the domain of one end ──
-module _ (d d' : List ℕ) (e : End) (w : ℕ) where
-  pub variable-kept : (u : ℕ) → e ≡ Var u → RowCopied d d' u w → DomainKept d d' e w
-  variable-kept u h c = record {
-    size = c.size;
-    row = λ v x z. ap (λ (k : ℕ). in_row d' k x) (one-variable e u v z h) ∙ c.row x;
-    others = λ v x n. c.others v x (λ z. n (h ∙ ap Var (sym z)));
-  }
-
-  pub code-kept : (c : ℕ) → e ≡ Code c → d' ≡ d → DomainKept d d' e w
-  code-kept c h same = record {
-    size = ap length same;
-    row = λ v x z. absurd (code-no-variable _ v c h z);
-    others = λ v x n. ap (λ (k : List ℕ). in_row k v x) same;
-  }
-
 -- a choice whose nodes are in the rows, with the node of the end in row w
 module _ (d d' : List ℕ) (σ entry : ℕ → ℕ) (w : ℕ) where
   end_kept : (e : End) → DomainKept d d' e w → in_row d w (stands_for entry σ e) ≡ true → (v : ℕ) → in_row d v (σ v) ≡ true → in_row d' v (σ v) ≡ true
@@ -119,9 +104,6 @@ pub record SweptSome (table map d d' : List ℕ) (q : Query) (k : ℕ) : Type 0 
       → Within d' σ
 
 module _ (table map d : List ℕ) (q : Query) (k : ℕ) where
-  pub none_yet : SweptSome table map d d q k
-  none_yet = record { size = refl; later = λ v x l h. h; within = λ σ w t. w }
-
   module _ (d₁ d₂ : List ℕ) (j : ℕ) (r : Bool) (h : SweptSome table map d d₁ q k) (l : k ≤ j) (l' : j < q.count)
       (w : Swept table map d₁ d₂ (pattern_at q j) r) where
     pub one_more : SweptSome table map d d₂ q k

@@ -8,6 +8,7 @@ use mathlib.Core.Bool.{Bool, true, false, true≢false}
 use mathlib.Core.List.{List}
 use mathlib.Core.Logic.{⊎_elim}
 use lib.ListN.{length, get_or, set, length-set, length-replicate}
+use Rattle.std.specs.Prelude.{Option, Some, None, IfSome}
 use Rattle.model.specs.Codes.{absent}
 use Rattle.model.specs.Lists.{First}
 use Rattle.model.specs.Triples.{triples}
@@ -25,7 +26,7 @@ use Rattle.query_order.proofs.Arranged.{to_arranged, from_arranged, arranged_rig
 use Rattle.query_components.specs.Parts.{Apart, PartEnd}
 use Rattle.query_components.proofs.TwoParts.{parts-joined}
 use Rattle.query_search.specs.Search.{Sure, Sought}
-use Rattle.query_settling.specs.Settling.{Searchable, SettleNeeds, Settled, RowsKept, KeptFor, MaySettle}
+use Rattle.query_settling.specs.Settling.{Searchable, SettleNeeds, Settled, RowsKept, KeptFor, MaySettle, NextFixed}
 
 -- ── what the search needs ──
 pub ends-present : (table map : List ℕ) (q : Query) (rising : Bool) → Searchable table map q rising → Present (triples table)
@@ -82,6 +83,12 @@ limit_most p t n h l m =
     let o : 16 + n / 4 ≤ 16400 = omega arith in
     mul-le-mul (product_most p t h l) o
 
+-- ── the variable to fix ──
+-- its row is one of the thirteen
+pub fixed_row : (b : List ℕ) (depth : ℕ) (o : Option ℕ) → IfSome o (λ v. NextFixed b depth v) → IfSome o (λ v. v < 13)
+fixed_row b depth None h = h
+fixed_row b depth (Some v) h = omega (arith, h.free.below)
+
 -- ── rows ──
 rows_same : (d : List ℕ) (z : ℕ) → RowsKept d d z
 rows_same d z = record { size = refl; kept = λ v x l m y. y }
@@ -111,9 +118,6 @@ module _ (table map d d' : List ℕ) (q : Query) (k : ℕ) (b : List ℕ) {x : B
   unsupported n = settled-none table map q k b (λ σ p l. true≢false (sym (w.some σ p) ∙ n))
 
   module _ (limited : Bool) (s₀ s : ℕ) {y : Bool} (t : Sought table map d' q k b limited s₀ s y) where
-    pub found_within : y ≡ true → Settled table map q k b true
-    found_within e = settled-some table map q k b (t.sound e)
-
     pub none_within : y ≡ false → Sure limited s → Settled table map q k b false
     none_within n sure = settled-none table map q k b (λ σ p l. true≢false (sym (t.complete sure σ p (w.within σ p)) ∙ n))
 
@@ -121,12 +125,6 @@ module _ (table map d d' : List ℕ) (q : Query) (k : ℕ) (b : List ℕ) {x : B
   module _ (d'' : List ℕ) (u fixed : ℕ) (long : 13 ≤ length d') (few : fixed < 8) (c : RowCopied d' d'' u fixed) where
     pub fixed_kept : KeptFor table map d'' q k b u fixed
     fixed_kept σ p = c.row (σ fixed) ∙ allows-row d' _ (σ fixed) fixed refl long ∙ w.within σ p fixed few
-
-    pub copied_rows : RowsKept d d'' u
-    copied_rows = record {
-      size = c.size ∙ w.size;
-      kept = λ v y l m h. c.others v y (λ e. let o : ⊥ = omega arith in o) ∙ w.later v y l h;
-    }
 
 -- ── one variable fixed to each node in turn ──
 -- no choice has for `fixed` a node below x

@@ -46,7 +46,7 @@ pub record MaySettle (table map d d' : List ℕ) (q : Query) (k : ℕ) (b : List
 abbrev pub KeptFor : List ℕ → List ℕ → List ℕ → Query → ℕ → List ℕ → ℕ → ℕ → Type 0
 KeptFor table map d q k b v fixed = (σ : ℕ → ℕ) → Puts (triples table) map q k b σ → in_row d v (σ fixed) ≡ true
 
--- a variable that has no node, or 8; 8 where three are fixed
+-- a variable that has no node, where fewer than three are fixed
 pub record NextFixed (b : List ℕ) (depth v : ℕ) : Type 0 where
   pub free : FreeVariable b v
-  pub less : v < 8 → depth < 3
+  pub less : depth < 3

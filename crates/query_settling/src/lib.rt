@@ -2,7 +2,7 @@
 // fixed while a cycle is left. The quick run before it.
 #![tactic(auto)]
 
-ghost use Rattle.std.specs.Prelude.{◌≡◌, false, ◌+◌, ◌<◌, ◌≤◌, length, get_or};
+ghost use Rattle.std.specs.Prelude.{◌≡◌, false, ◌+◌, ◌<◌, ◌≤◌, length, get_or, IfSome};
 ghost use Rattle.model.specs.Codes.{absent};
 ghost use Rattle.model.specs.Triples.{triples};
 ghost use Rattle.query.specs.Ask.{search, unbound, wrong_query};
@@ -19,25 +19,25 @@ use query_rows::{copy_row, next_in_row, nodes_in};
 use query_search::try_pattern;
 
 // The steps that the search within the domains may take before a variable is fixed; the more nodes that one has, the more.
-fn step_limit(rows: &[u64], fixed: u32, patterns: usize, triples: usize) -> usize
-    requires { Sized rows.now × (patterns ≤ 8) × (triples ≤ 1048576) }
+fn step_limit(rows: &[u64], fixed: Option<usize>, patterns: usize, triples: usize) -> usize
+    requires { Sized rows.now × (patterns ≤ 8) × (triples ≤ 1048576) × IfSome fixed (λ v. v < 13) }
 {
-    if 7 < fixed {
+    let Some(v) = fixed else {
         return 0;
-    }
-    let nodes = nodes_in(rows, fixed as usize);
+    };
+    let nodes = nodes_in(rows, v);
     4096 + patterns * triples * (16 + nodes / 4)
 }
 
-// The variable to fix; 8 if there is no cycle or three are fixed already.
-fn next_fixed(q: Query, k: usize, bindings: [u32; 8], depth: usize) -> u32
+// The variable to fix, if there is a cycle and not three are fixed already.
+fn next_fixed(q: Query, k: usize, bindings: [u32; 8], depth: usize) -> Option<usize>
     requires { q.count ≤ 8 }
-    ensures { NextFixed bindings depth result }
+    ensures { IfSome result (λ v. NextFixed bindings depth v) }
 {
     if depth < 3 {
         return variable_to_fix(q, k, bindings);
     }
-    8
+    None
 }
 
 // Whether some choice of nodes at these bindings puts the patterns from k on, one part in a good order, in the table. Where there is a
@@ -60,18 +60,18 @@ fn settle(
         return false;
     }
     let fixed = next_fixed(q, k, bindings, depth);
-    let limited = fixed < 8;
+    let limited = fixed.is_some();
     let mut left = step_limit(rows, fixed, q.count as usize - k, table.len() / 3);
     if try_pattern(table, map, rows, q, bindings, k, rising, limited, &mut left) {
         return true;
     }
-    if !limited {
+    let Some(fixed) = fixed else {
         return false;
-    }
+    };
     if 0 < left {
         return false;
     }
-    copy_row(rows, 10 + depth, fixed as usize);
+    copy_row(rows, 10 + depth, fixed);
     settle_each(table, map, rows, q, k, bindings, rising, depth, fixed)
 }
 
@@ -86,7 +86,7 @@ fn settle_each(
     bindings: [u32; 8],
     rising: bool,
     depth: usize,
-    fixed: u32,
+    fixed: usize,
 ) -> bool
     requires { SettleNeeds table.now map.now rows.old q k bindings rising × (depth < 3) × (fixed < 8) × (get_or bindings fixed 0 ≡ absent) × KeptFor table.now map.now rows.old q k bindings (10 + depth) fixed }
     ensures { Settled table.now map.now q k bindings result × RowsKept rows.old rows.new (10 + depth) }
@@ -99,7 +99,7 @@ fn settle_each(
             return false;
         }
         let mut more = bindings;
-        more[fixed as usize] = node as u32;
+        more[fixed] = node as u32;
         if settle_parts(table, map, rows, q, k, more, rising, depth + 1) {
             return true;
         }
@@ -122,10 +122,7 @@ fn may_settle(
     requires { (wrong_query (length map.now) q ≡ false) × Sized rows.old }
     ensures { MaySettle table.now map.now rows.old rows.new q k bindings result }
 {
-    if depth == 0 {
-        return true;
-    }
-    sweep_all(table, map, rows, q, k, bindings)
+    depth == 0 || sweep_all(table, map, rows, q, k, bindings)
 }
 
 // Whether some choice of nodes at these bindings puts the patterns from k on in the table: every part of them has one.
@@ -151,8 +148,10 @@ fn settle_parts(
     let mut j = k;
     while j < count {
         let end = part_end(ordered, k, j, bindings);
-        let mut part = ordered;
-        part.count = end as u32;
+        let part = Query {
+            count: end as u32,
+            ..ordered
+        };
         if !settle(table, map, rows, part, j, bindings, rising, depth) {
             return false;
         }
@@ -170,11 +169,10 @@ pub fn some_choice(table: &[u32], map: &[u32], q: Query, rising: bool) -> bool
     let count = q.count as usize;
     let limited = 1 < count;
     let mut steps = 2048 + 2 * count * (table.len() / 3);
-    let no_rows = [0u64; 1];
     if try_pattern(
         table,
         map,
-        &no_rows[0..0],
+        &[],
         q,
         [Code::ABSENT; 8],
         0,
@@ -184,10 +182,7 @@ pub fn some_choice(table: &[u32], map: &[u32], q: Query, rising: bool) -> bool
     ) {
         return true;
     }
-    if !limited {
-        return false;
-    }
-    if 0 < steps {
+    if !limited || 0 < steps {
         return false;
     }
     // 13 rows of 64 words: 4,096 bits a variable

@@ -1,16 +1,14 @@
 -- The part of a list with the lines of a subject, by places and by indexes.
 -- Assumes nothing.
-use Prim.Native.Nat.{ℕ, ◌+◌, ◌-◌, ◌*◌, ◌/◌, ◌<◌, ◌≤◌}
+use Prim.Native.Nat.{ℕ, ◌+◌, ◌-◌, ◌*◌, ◌/◌, ◌≤◌}
 use mathlib.Core.Path.{◌≡◌, sym, ◌∙◌, ap, subst}
-use mathlib.Core.Bool.{Bool, true, false, cond, not, ◌&&◌}
+use mathlib.Core.Bool.{Bool, true, false, cond}
 use mathlib.Core.List.{List, ◌++◌, append_assoc}
 use native.Mathlib.Omega.{arith}
 use native.Mathlib.Nat.{zero-add, sub-zero}
-use lib.Dec.{eqb}
-use lib.ListN.{length, get_or, take, drop, length-append}
+use lib.ListN.{length, take, drop, length-append}
 use lib.Seq.{take_at, drop_at}
 use denote.Ref.{Bor}
-use borrow.Author.Tests.{eq-eqb, ne_eqb, lt-ltb, le-ltb}
 use Rattle.model.specs.declared.Triple.{Triple}
 use Rattle.model.specs.Lists.{take_until, drop_until, tabulate, First}
 use Rattle.model.specs.Triples.{triples, flat, slots}
@@ -21,24 +19,6 @@ use Rattle.lists.specs.Flat.{at}
 use Rattle.lists.proofs.Places.{triples-table, whole-triples}
 use Rattle.subject_lines.specs.declared.Part.{Part}
 use Rattle.subject_lines.specs.Lines.{has_subject, other_subject, lines_of, start_of, end_of, is_own, part_in, subject_part, Between, PartOf, HandsBack}
-
--- ── the tests of the loops ──
-module _ (l : List ℕ) (c i : ℕ) where
-  pub subject-there : get_or l (3 * i) 0 ≡ c → has_subject c (at l i) ≡ true
-  unfolding has_subject at
-  subject-there e = eq-eqb _ c e
-
-  pub subject-other : (get_or l (3 * i) 0 ≡ c → ⊥) → has_subject c (at l i) ≡ false
-  unfolding has_subject at
-  subject-other n = ne_eqb _ c n
-
-  pub other-there : (get_or l (3 * i) 0 ≡ c → ⊥) → other_subject c (at l i) ≡ true
-  unfolding other_subject
-  other-there n = ap not (subject-other n)
-
-  pub other_not : get_or l (3 * i) 0 ≡ c → other_subject c (at l i) ≡ false
-  unfolding other_subject
-  other_not e = ap not (subject-there e)
 
 -- ── the places that the loops find, as indexes ──
 module _ (l : List ℕ) (c a b : ℕ) (F : First (λ i. has_subject c (at l i)) 0 (length l / 3) a) where
@@ -71,14 +51,6 @@ module _ (l : List ℕ) (c a b : ℕ) (F : First (λ i. has_subject c (at l i)) 
     part-is own = λ i. record { own = own; start = start_is i; end = end_is i }
 
 -- ── the code's own entry ──
-pub own_in : (m : List ℕ) (c i : ℕ) → i ≡ c → i < length m → eqb (get_or m i 0) c ≡ is_own c m
-unfolding is_own
-own_in m c i e h = ap (λ (x : ℕ). eqb (get_or m x 0) c) e ∙ ap (λ (b : Bool). b && eqb (get_or m c 0) c) (sym (lt-ltb c (length m) (omega arith)))
-
-pub own_out : (m : List ℕ) (c i : ℕ) → i ≡ c → length m ≤ i → false ≡ is_own c m
-unfolding is_own
-own_out m c i e h = ap (λ (b : Bool). b && eqb (get_or m c 0) c) (sym (le-ltb c (length m) (omega arith)))
-
 -- ── the part within its list ──
 module _ (c : ℕ) (l : List ℕ) where
   abbrev front : List Triple

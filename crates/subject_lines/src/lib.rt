@@ -18,31 +18,29 @@ pub struct Part {
 }
 
 // The first place before `to` whose triple has the subject, or `to`.
+#[tactic(auto, unfolding(crate::specs::Lines::has_subject, lists::specs::Flat::at))]
 fn first_line(list: &[u32], code: u32, to: usize) -> usize
     requires { 3 * to ≤ length list.now }
     ensures { First (λ i. has_subject code (at list.now i)) 0 to result }
 {
-    let mut i = 0;
-    while i < to {
+    for i in 0..to {
         if list[3 * i] == code {
             return i;
         }
-        i += 1;
     }
     to
 }
 
 // The first place from..to whose triple has another subject, or `to`.
+#[tactic(auto, unfolding(crate::specs::Lines::has_subject, crate::specs::Lines::other_subject, lists::specs::Flat::at))]
 fn line_end(list: &[u32], code: u32, from: usize, to: usize) -> usize
     requires { (from ≤ to) × (3 * to ≤ length list.now) }
     ensures { First (λ i. other_subject code (at list.now i)) from to result }
 {
-    let mut i = from;
-    while i < to {
+    for i in from..to {
         if list[3 * i] != code {
             return i;
         }
-        i += 1;
     }
     to
 }
@@ -55,21 +53,19 @@ fn part_in(list: &[u32], code: u32, own: bool) -> Part
     let first = first_line(list, code, n);
     let behind = line_end(list, code, first, n);
     Part {
-        own: own,
+        own,
         start: 3 * first,
         end: 3 * behind,
     }
 }
 
 // Whether the map gives the code itself.
+#[tactic(auto, unfolding(crate::specs::Lines::is_own))]
 fn is_own(map: &[u32], code: u32) -> bool
     ensures { result ≡ is_own code map.now }
 {
     let i = wide(code);
-    if i < map.len() {
-        return map[i] == code;
-    }
-    false
+    i < map.len() && map[i] == code
 }
 
 // Which list the lines are in, and where.

@@ -1,5 +1,4 @@
 use mathlib.Core.Path.{◌∙◌}
-use native.Mathlib.Omega.{arith}
 use Rattle.flat_queries.proofs.Queries.{queries-start, queries-length, queries-step, queries-end}
 use Rattle.flat_queries.proofs.put_queries.Goals as goal
 
@@ -8,9 +7,6 @@ loop-k-init c = queries-start _ _
 
 pub put_query-requires : goal.put_query-requires
 put_query-requires c = (queries-length _ _ _ _ c.loop-k.invariant ∙ c.requires, c.loop-k-test.true)
-
-pub loop-k-smaller : goal.loop-k-smaller
-loop-k-smaller c = omega arith
 
 pub loop-k-preserved : goal.loop-k-preserved
 loop-k-preserved c = queries-step _ _ _ _ c.loop-k.invariant c.loop-k-test.true _ c.put_query.ensures

@@ -10,9 +10,6 @@ loop-j-init c = (simp length-set c.requires.0, refl, putting_start _ _ _)
 pub put_pattern-requires : goal.put_pattern-requires
 put_pattern-requires c = omega (arith, putting_length _ _ _ _ _ c.loop-j.invariant.2)
 
-pub loop-j-smaller : goal.loop-j-smaller
-loop-j-smaller c = omega arith
-
 pub loop-j-preserved : goal.loop-j-preserved
 loop-j-preserved c = (
   c.loop-j.invariant.0,

@@ -1,4 +1,4 @@
-use Prim.Native.Nat.{◌+◌, ◌*◌, ◌-◌}
+use Prim.Native.Nat.{◌+◌, ◌*◌}
 use mathlib.Core.Path.{◌≡◌}
 use lib.ListN.{length}
 use Rattle.flat_queries.proofs.Queries.{PuttingPatterns}
@@ -6,6 +6,3 @@ use Rattle.flat_queries.proofs.put_query.Given as goal
 
 abbrev pub invariant-loop-j : goal.invariant-loop-j
 invariant-loop-j l = (length l.initial.list ≡ 656) × (l.i ≡ 41 * l.k) × PuttingPatterns l.initial.list (l.i + 1) l.q l.list l.j
-
-abbrev pub decreases-loop-j : goal.decreases-loop-j
-decreases-loop-j l = 8 - l.j

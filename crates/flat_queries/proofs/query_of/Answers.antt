@@ -1,14 +1,10 @@
 use mathlib.Core.Path.{ap}
-use native.Mathlib.Omega.{arith}
 use lib.ListN.{replicate}
 use Rattle.flat_queries.proofs.Queries.{patterns_start, patterns_step, patterns_end}
 use Rattle.flat_queries.proofs.query_of.Goals as goal
 
 pub loop-k-init : goal.loop-k-init
 loop-k-init c = patterns_start _ _ (ap (replicate 8) c.blank_pattern-patterns.ensures)
-
-pub loop-k-smaller : goal.loop-k-smaller
-loop-k-smaller c = omega arith
 
 pub loop-k-preserved : goal.loop-k-preserved
 loop-k-preserved c = patterns_step _ _ _ c.loop-k.invariant c.loop-k-test.true _ c.flat_pattern.ensures

@@ -1,12 +1,13 @@
 use Prim.Native.Nat.{◌+◌}
 use native.Mathlib.Omega.{arith}
-use mathlib.Core.Path.{sym, ◌∙◌}
+use mathlib.Core.Path.{sym, ap, ◌∙◌}
 use mathlib.Core.Bool.{true≢false}
-use borrow.Author.Tests.{le-ltb}
+use Rattle.std.specs.Option.{is_some}
 use Rattle.query.proofs.Steps.{few_patterns}
 use Rattle.query_rows.proofs.Rows.{sized_as}
 use Rattle.query_order.proofs.Arranged.{arranged_right}
-use Rattle.query_settling.proofs.Settles.{ends-present, needs_rows, needs_fixed, needs_part, settle_falls, each-falls, parts_fall, steps-left}
+use Rattle.query_settling.specs.Settling.{NextFixed}
+use Rattle.query_settling.proofs.Settles.{fixed_row, ends-present, needs_rows, needs_fixed, needs_part, settle_falls, each-falls, parts_fall, steps-left}
 use Rattle.query_settling.proofs.Settles.{rows-fewer, rows_more, may_rows, cannot_settle, swept-rows, unsupported, none_within, fixed_kept}
 use Rattle.query_settling.proofs.Settles.{fix_start, none_left, fix_found, fix_step, fix_end, parts-start, part-missing, part-put, parts-end}
 use Rattle.query_settling.proofs.+settle_settle_each_settle_parts.Goals as goal
@@ -28,7 +29,7 @@ settle-next_fixed-fixed-requires t c =
 pub settle-step_limit-left-requires : goal.settle-step_limit-left-requires
 settle-step_limit-left-requires t c =
     let f = c.requires.0 in
-    (sized_as _ _ c.sweep_all.ensures.size f.sized, omega (arith, few_patterns _ _ f.whole.right), omega (arith, f.whole.short))
+    (sized_as _ _ c.sweep_all.ensures.size f.sized, omega (arith, few_patterns _ _ f.whole.right), omega (arith, f.whole.short), fixed_row _ _ _ c.next_fixed-fixed.ensures)
 
 pub settle-try_pattern-requires : goal.settle-try_pattern-requires
 settle-try_pattern-requires t c =
@@ -42,12 +43,12 @@ settle-try_pattern-requires t c =
       f.bound,
     )
 
-pub settle-returns-then-not-limited : goal.settle-returns-then-not-limited
-settle-returns-then-not-limited t c =
+pub settle-returns-in_default : goal.settle-returns-in_default
+settle-returns-in_default t c =
     let x = c.args in
     let w = c.sweep_all.ensures in (
       none_within x.table.now x.map.now _ _ x.q x.k x.bindings w _ _ _ c.try_pattern.ensures
-          c.if-try_pattern.false (λ e z. true≢false (sym e ∙ le-ltb _ _ c.if-not-limited.true)),
+          c.if-try_pattern.false (λ e z. true≢false (sym e ∙ c.is_some-limited.ensures ∙ ap is_some c.in_default.is)),
       swept-rows x.table.now x.map.now _ _ x.q x.k x.bindings w _,
     )
 
@@ -65,16 +66,16 @@ settle-settle_each-requires t c =
     let x = c.args in
     let f = c.requires.0 in
     let w = c.sweep_all.ensures in
-    let few = c.if-not-limited.false in
-    let v = c.next_fixed-fixed.ensures in
+    let v : NextFixed x.bindings x.depth c.in-Some.fixed = rw c.in-Some.is at c.next_fixed-fixed.ensures in
+    let few = v.free.below in
     let copied = c.copy_row.ensures in (
       each-falls _ c.decreases,
       (
         needs_rows x.table.now x.map.now x.rows.now x.q x.k x.bindings x.rising f _
             (copied.size ∙ w.size),
-        v.less few,
+        v.less,
         few,
-        v.free.free few,
+        v.free.free,
         fixed_kept x.table.now x.map.now _ _ x.q x.k x.bindings w _ _ _ (omega (arith, f.sized.0, w.size)) few copied,
       ),
     )

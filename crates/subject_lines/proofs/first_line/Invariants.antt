@@ -1,4 +1,3 @@
-use Prim.Native.Nat.{◌-◌}
 use Rattle.lists.specs.Flat.{at}
 use Rattle.theory.proofs.Runs.{NoneFrom}
 use Rattle.subject_lines.specs.Lines.{has_subject}
@@ -6,6 +5,3 @@ use Rattle.subject_lines.proofs.first_line.Given as goal
 
 abbrev pub invariant-loop-i : goal.invariant-loop-i
 invariant-loop-i l = NoneFrom (λ i. has_subject l.code (at l.list i)) 0 l.to l.i
-
-abbrev pub decreases-loop-i : goal.decreases-loop-i
-decreases-loop-i l = l.to - l.i

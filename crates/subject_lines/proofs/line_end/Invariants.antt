@@ -1,4 +1,3 @@
-use Prim.Native.Nat.{◌-◌}
 use Rattle.lists.specs.Flat.{at}
 use Rattle.theory.proofs.Runs.{NoneFrom}
 use Rattle.subject_lines.specs.Lines.{other_subject}
@@ -6,6 +5,3 @@ use Rattle.subject_lines.proofs.line_end.Given as goal
 
 abbrev pub invariant-loop-i : goal.invariant-loop-i
 invariant-loop-i l = NoneFrom (λ i. other_subject l.code (at l.list i)) l.from l.to l.i
-
-abbrev pub decreases-loop-i : goal.decreases-loop-i
-decreases-loop-i l = l.to - l.i
