@@ -14,12 +14,12 @@ ghost use Rattle.table_printing.specs.Outcomes.{asked_of, asks_outcome, summary_
 
 use ask::ask;
 use lists::narrow;
-use model::{Refusal, Vocabulary, refusal_number};
-use query::{Asked, Query, is_retired};
+use model::{Refusal, refusal_number};
+use query::{Asked, is_retired};
 use roster::own_roster;
 use saturate::saturate;
 use site_bytes::Page;
-use site_form::{LARGEST_PRINTED, MOST_ASKS, PRINTER_SLOTS};
+use site_form::{LARGEST_PRINTED, MOST_ASKS, PRINTER_SLOTS, Site};
 use site_report::{put_answers, put_nodes, put_refused, put_summary};
 use site_writer::put_triples;
 use summarise::summarise;
@@ -62,20 +62,14 @@ fn any_wrong(answers: [Result<Asked, Refusal>; MOST_ASKS], count: usize) -> bool
     false
 }
 
-// The answers to the first `count` queries.
-fn ask_all(
-    words: Vocabulary,
-    table: &[u32],
-    map: &[u32],
-    queries: [Query; MOST_ASKS],
-    count: usize,
-) -> [Result<Asked, Refusal>; MOST_ASKS]
-    requires { count ≤ most_asks }
-    ensures { answers_in result count ≡ asked_of words table.now map.now queries count }
+// The answers to the queries of a site.
+fn ask_all(site: &Site, table: &[u32], map: &[u32]) -> [Result<Asked, Refusal>; MOST_ASKS]
+    requires { site.now.asks ≤ most_asks }
+    ensures { answers_in result site.now.asks ≡ asked_of site.now.words table.now map.now site.now.queries site.now.asks }
 {
     let mut answers = [Ok(Asked::Maybe); MOST_ASKS];
-    for i in 0..count {
-        answers[i] = ask(words, table, map, queries[i]);
+    for i in 0..site.asks {
+        answers[i] = ask(site.words, table, map, site.queries[i]);
     }
     answers
 }
@@ -100,90 +94,70 @@ fn put_report(
 }
 
 // Asks the queries of a summary and its map: 6 where one is wrong, else the report.
-fn ask_and_print(
-    words: Vocabulary,
-    out: &mut [u8],
-    table: &[u32],
-    map: &[u32],
-    queries: [Query; MOST_ASKS],
-    count: usize,
-) -> usize
-    requires { (count ≤ most_asks) × (length table.now ≤ 3 * printer_slots) × (length map.now ≤ largest_printed) × Room 0 (report (triples table.now) map.now (asked_of words table.now map.now queries count)) }
-    ensures { Put out.old 0 (shown (asks_outcome (triples table.now) map.now (asked_of words table.now map.now queries count))) out.new result }
+fn ask_and_print(site: &Site, out: &mut [u8], table: &[u32], map: &[u32]) -> usize
+    requires { (site.now.asks ≤ most_asks) × (length table.now ≤ 3 * printer_slots) × (length map.now ≤ largest_printed) × Room 0 (report (triples table.now) map.now (asked_of site.now.words table.now map.now site.now.queries site.now.asks)) }
+    ensures { Put out.old 0 (shown (asks_outcome (triples table.now) map.now (asked_of site.now.words table.now map.now site.now.queries site.now.asks))) out.new result }
 {
-    let answers = ask_all(words, table, map, queries, count);
-    if any_wrong(answers, count) {
+    let answers = ask_all(site, table, map);
+    if any_wrong(answers, site.asks) {
         return refuse(out, Refusal::Query);
     }
-    put_report(out, table, map, answers, count)
+    put_report(out, table, map, answers, site.asks)
 }
 
 // Summarises a saturated table into lent lists, then asks and prints.
 fn summarise_and_print(
-    words: Vocabulary,
+    site: &Site,
     out: &mut [u8],
     table: &[u32],
     roster: &[u8],
     res: &mut [u32],
     map: &mut [u32],
     work: &mut [u32],
-    queries: [Query; MOST_ASKS],
-    count: usize,
 ) -> usize
-    requires { (count ≤ most_asks) × Whole words table.now roster.now × (length res.old ≡ 3 * printer_slots) × (length map.old ≡ length roster.now) × (length work.old ≡ 2 * length roster.now) }
-    ensures { Put out.old 0 (shown (summary_outcome words roster.now (triples table.now) queries count)) out.new result }
+    requires { (site.now.asks ≤ most_asks) × Whole site.now.words table.now roster.now × (length res.old ≡ 3 * printer_slots) × (length map.old ≡ length roster.now) × (length work.old ≡ 2 * length roster.now) }
+    ensures { Put out.old 0 (shown (summary_outcome site.now.words roster.now (triples table.now) site.now.queries site.now.asks)) out.new result }
 {
-    let Ok(k) = summarise(words, table, roster, res, map, work) else {
+    let Ok(k) = summarise(site.words, table, roster, res, map, work) else {
         return refuse(out, Refusal::Slots); // cannot be: the summary has no more triples than the table
     };
-    ask_and_print(words, out, &res[0..3 * k], map, queries, count)
+    ask_and_print(site, out, &res[0..3 * k], map)
 }
 
 // Prints the summary of a saturated table: makes the lists that it is summarised into.
-fn print_saturated_table(
-    words: Vocabulary,
-    out: &mut [u8],
-    table: &[u32],
-    roster: &[u8],
-    queries: [Query; MOST_ASKS],
-    count: usize,
-) -> usize
-    requires { (count ≤ most_asks) × Whole words table.now roster.now }
-    ensures { Put out.old 0 (shown (summary_outcome words roster.now (triples table.now) queries count)) out.new result }
+fn print_saturated_table(site: &Site, out: &mut [u8], table: &[u32], roster: &[u8]) -> usize
+    requires { (site.now.asks ≤ most_asks) × Whole site.now.words table.now roster.now }
+    ensures { Put out.old 0 (shown (summary_outcome site.now.words roster.now (triples table.now) site.now.queries site.now.asks)) out.new result }
 {
     let n = roster.len();
     let mut result: [u32; RESULT_NUMBERS] = [0; RESULT_NUMBERS];
     let mut map: [u32; LARGEST_PRINTED] = [0; LARGEST_PRINTED];
     let mut work: [u32; WORK_NUMBERS] = [0; WORK_NUMBERS];
     summarise_and_print(
-        words,
+        site,
         out,
         table,
         roster,
         &mut result,
         &mut map[0..n],
         &mut work[0..2 * n],
-        queries,
-        count,
     )
 }
 
 // Saturates a checked table with its own roster in lent lists, then prints the summary of its saturation.
 pub fn saturate_and_print(
-    words: Vocabulary,
+    site: &Site,
     out: &mut [u8],
     table: &[u32],
     roster: &mut [u8],
     list: &mut [u32],
-    queries: [Query; MOST_ASKS],
-    count: usize,
 ) -> usize
-    requires { (count ≤ most_asks) × CheckedTable words table.now (length roster.old) × (length list.old ≡ 3 * printer_slots) }
-    ensures { Put out.old 0 (shown (saturation_outcome words (length roster.old) (triples table.now) queries count)) out.new result }
+    requires { (site.now.asks ≤ most_asks) × CheckedTable site.now.words table.now (length roster.old) × (length list.old ≡ 3 * printer_slots) }
+    ensures { Put out.old 0 (shown (saturation_outcome site.now.words (length roster.old) (triples table.now) site.now.queries site.now.asks)) out.new result }
 {
-    own_roster(words, table, roster);
-    let Ok(k) = saturate(words, table, roster, list) else {
+    own_roster(site.words, table, roster);
+    let Ok(k) = saturate(site.words, table, roster, list) else {
         return refuse(out, Refusal::Slots);
     };
-    print_saturated_table(words, out, &list[0..3 * k], roster, queries, count)
+    print_saturated_table(site, out, &list[0..3 * k], roster)
 }

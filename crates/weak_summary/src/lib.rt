@@ -317,6 +317,7 @@ pub extern "C" fn ws_write(
 }
 
 // The status of a text that was read.
+#[tactic(auto, unfolding(crate::specs::Calls::form_status))]
 fn form_status(answer: Result<Site, Refusal>) -> u32
     ensures { result ≡ form_status answer }
 {

@@ -22,7 +22,7 @@ returns-then-codes_wrong c = shows _ _ _ (site-codes _ _ _ c.wide-n.ensures _ _ 
 pub print_checked_table-requires : goal.print_checked_table-requires
 print_checked_table-requires c = (
   c.requires.0,
-  is-checked _ c.args.size _ c.wide-n.ensures _ c.args.queries c.args.count
+  is-checked _ c.args.site.now.size _ c.wide-n.ensures _ c.args.site.now.queries c.args.site.now.asks
       (sym c.size_wrong.ensures ∙ c.if-size_wrong.false) c.if-n-gt-LARGEST_PRINTED.false (sym c.words_wrong.ensures ∙ c.if-words_wrong.false)
       (sym c.codes_wrong.ensures ∙ c.if-codes_wrong.false) c.requires.1 c.requires.2,
 )

@@ -13,5 +13,5 @@ returns-then-words-ne-WORDS_NUMBERS c = let a = c.args in let s = lent a.list.no
 pub returns : goal.returns
 returns c = let a = c.args in let s = lent a.list.now a.queries.now a.words.now a.n.now a.count.now a.asks.now in read-stands
     a.text.now s (right-lengths a.text.now s c.if-queries-ne-QUERIES_NUMBERS.false c.if-words-ne-WORDS_NUMBERS.false) c.read-answer.result _ c.read-answer.ensures _
-    (site_or _ _ c.no_site.ensures _ c.unwrap_or-site.ensures) _
+    (site_or c.read-answer.result _ c.no_site.ensures _ c.unwrap_or-site.ensures) _
     c.put_queries.ensures _ c.put_words.ensures _ c.form_status.ensures
