@@ -3,12 +3,12 @@
 use Prim.Native.Nat.{ℕ, ◌<◌, ◌≤◌}
 use mathlib.Core.Path.{◌≡◌, sym, subst, ◌∙◌, ap}
 use mathlib.Core.Logic.{⊎_elim}
-use mathlib.Core.Bool.{Bool, true, false, ◌&&◌, ◌||◌, true≢false}
+use mathlib.Core.Bool.{true, false, true≢false}
 use mathlib.Core.List.{List, Memᴰ as Mem}
 use native.Mathlib.Omega.{arith}
 use lib.Dec.{eqb, leb}
 use lib.ListN.{length}
-use borrow.Author.Tests.{eqb-true, eq-eqb, ne_eqb}
+use borrow.Author.Tests.{eqb-true}
 use Rattle.model.specs.declared.Triple.{Triple}
 use Rattle.model.specs.declared.Vocabulary.{Vocabulary}
 use Rattle.model.specs.Codes.{absent, kind}
@@ -16,7 +16,7 @@ use Rattle.model.specs.Lists.{tabulate}
 use Rattle.model.specs.Triples.{is_data, without}
 use Rattle.model.specs.Order.{Lt}
 use Rattle.model.specs.Roster.{unmarked}
-use Rattle.model.specs.Cliques.{Side, source, target, end, Node, Has, links, side_of}
+use Rattle.model.specs.Cliques.{Side, source, target, end, Node, Has, links}
 use Rattle.theory.specs.Tables.{AllBelow, In}
 use Rattle.theory.proofs.Tests.{and_true, and_both, or_true, bool_cases}
 use Rattle.theory.proofs.Lists.{mem-tabulate}
@@ -26,7 +26,7 @@ use Rattle.theory.proofs.Weak.{has-node}
 use Rattle.theory.proofs.Removal.{Other, other-there}
 use Rattle.lists.specs.Flat.{RisingPart}
 use Rattle.lists.proofs.Compare.{Cmp, lt, eq, gt, cmp}
-use Rattle.intake_ends.specs.Ends.{at_side, at_end, OtherAt, Elsewhere, EndKept, EndsKept}
+use Rattle.intake_ends.specs.Ends.{at_side, at_end, Elsewhere, EndsKept}
 
 -- ── what is kept ──
 module _ (f : ℕ → Triple) (n i : ℕ) (t : Triple) (rising : RisingPart f 0 n) (here : t ≡ f i) (h : i < n) where
@@ -78,49 +78,4 @@ module _ (f : ℕ → Triple) (n i : ℕ) (t : Triple) (rising : RisingPart f 0 
         (bool_cases (links v roster e t))
 
 -- ── the search ──
-pub other_at : (f : ℕ → Triple) (k i : ℕ) (test : Triple → Bool) (u : Triple) (r : Bool) → (k ≡ i → ⊥) → u ≡ f k → r ≡ test u → r ≡ true → OtherAt f k i test
-other_at f k i test u r o e q h = record { other = o; passes = ap test (sym e) ∙ sym q ∙ h }
-
-pub found_at : (f : ℕ → Triple) (n i k : ℕ) (test : Triple → Bool) → k < n → OtherAt f k i test → Elsewhere f n i test
-found_at f n i k test h o = record { place = k; inside = h; there = o }
-
--- at the side of the sources
-pub at_source : (f : ℕ → Triple) (n i : ℕ) (t : Triple) (b r : Bool) → b ≡ true → (r ≡ true → Elsewhere f n i (at_side (side_of true) t))
-    → r ≡ true → Elsewhere f n i (at_side (side_of b) t)
-at_source f n i t b r e h q = subst (λ (x : Bool). Elsewhere f n i (at_side (side_of x) t)) (sym e) (h q)
-
-pub none_found : {P : Type 0} → false ≡ true → P
-none_found e = absurd (true≢false (sym e))
-
 -- ── the tests ──
-pub same-property : (e : Side) (t u : Triple) (r : Bool) → u.property ≡ t.property → r ≡ eqb (end e u) (end e t) → r ≡ at_side e t u
-unfolding at_side
-same-property e t u r p q = q ∙ ap (λ (b : Bool). b && eqb (end e u) (end e t)) (sym (eq-eqb _ _ p))
-
-pub other-property : (e : Side) (t u : Triple) → (u.property ≡ t.property → ⊥) → false ≡ at_side e t u
-unfolding at_side
-other-property e t u p = ap (λ (b : Bool). b && eqb (end e u) (end e t)) (sym (ne_eqb _ _ p))
-
-pub end-subject : (c : ℕ) (u : Triple) → u.subject ≡ c → true ≡ at_end c u
-unfolding at_end
-end-subject c u e = ap (λ (b : Bool). b || eqb u.object c) (sym (eq-eqb _ _ e))
-
-pub end-object : (c : ℕ) (u : Triple) (r : Bool) → (u.subject ≡ c → ⊥) → r ≡ eqb u.object c → r ≡ at_end c u
-unfolding at_end
-end-object c u r e q = q ∙ ap (λ (b : Bool). b || eqb u.object c) (sym (ne_eqb _ _ e))
-
--- ── an end, and both ──
-module _ (v : Vocabulary) (roster : List ℕ) (f : ℕ → Triple) (n i : ℕ) (t : Triple) where
-  pub kept-at-side : (e : Side) (r : Bool) → links v roster e t ≡ true → (r ≡ true → Elsewhere f n i (at_side e t)) → r ≡ true → EndKept v roster f n i t e
-  kept-at-side e r l g h = record { linked = λ x. g h; free = λ x. absurd (true≢false (sym l ∙ x)) }
-
-  pub kept_as_node : (e : Side) (c : ℕ) (r : Bool) → links v roster e t ≡ false → c ≡ end e t → (r ≡ true → Elsewhere f n i (at_end c)) → r ≡ true → EndKept v roster f n i t e
-  kept_as_node e c r l q g h =
-      record {
-        linked = λ x. absurd (true≢false (sym x ∙ l));
-        free = λ x. subst (λ (z : ℕ). Elsewhere f n i (at_end z)) q (g h);
-      }
-
-  pub both-kept : (r : Bool) → EndKept v roster f n i t source → (r ≡ true → EndKept v roster f n i t target) → r ≡ true → EndsKept v roster f n i t
-  both-kept r x y h source = x
-  both-kept r x y h target = y h

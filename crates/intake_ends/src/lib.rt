@@ -13,23 +13,19 @@ use model::{Triple, Vocabulary};
 use roster_checks::{links_at, side_end};
 
 // Whether u has t's property and, at that side, t's end.
+#[tactic(auto, unfolding(crate::specs::Ends::at_side))]
 fn same_side(sources: bool, u: Triple, t: Triple) -> bool
     ensures { result ≡ at_side (side_of sources) t u }
 {
-    if u.property == t.property {
-        return side_end(sources, u) == side_end(sources, t);
-    }
-    false
+    u.property == t.property && side_end(sources, u) == side_end(sources, t)
 }
 
 // Whether u has c as an end.
+#[tactic(auto, unfolding(crate::specs::Ends::at_end))]
 fn has_end(u: Triple, c: u32) -> bool
     ensures { result ≡ at_end c u }
 {
-    if u.subject == c {
-        return true;
-    }
-    u.object == c
+    u.subject == c || u.object == c
 }
 
 // Whether place k is another than i, and the triple there has t's property and, at that side, t's end.
@@ -37,10 +33,7 @@ fn same_side_at(list: &[u32], k: usize, i: usize, sources: bool, t: Triple) -> b
     requires { 3 * k + 2 < length list.now }
     ensures { result ≡ true → OtherAt (at list.now) k i (at_side (side_of sources) t) }
 {
-    if k == i {
-        return false;
-    }
-    same_side(sources, triple_at(list, k), t)
+    k != i && same_side(sources, triple_at(list, k), t)
 }
 
 // Whether place k is another than i, and the triple there has c as an end.
@@ -48,10 +41,7 @@ fn has_end_at(list: &[u32], k: usize, i: usize, c: u32) -> bool
     requires { 3 * k + 2 < length list.now }
     ensures { result ≡ true → OtherAt (at list.now) k i (at_end c) }
 {
-    if k == i {
-        return false;
-    }
-    has_end(triple_at(list, k), c)
+    k != i && has_end(triple_at(list, k), c)
 }
 
 // The same of a place that may be `count` or more.
@@ -66,20 +56,14 @@ fn same_side_within(
     requires { 3 * count ≤ length list.now }
     ensures { result ≡ true → Elsewhere (at list.now) count i (at_side (side_of sources) t) }
 {
-    if k < count {
-        return same_side_at(list, k, i, sources, t);
-    }
-    false
+    k < count && same_side_at(list, k, i, sources, t)
 }
 
 fn has_end_within(list: &[u32], count: usize, k: usize, i: usize, c: u32) -> bool
     requires { 3 * count ≤ length list.now }
     ensures { result ≡ true → Elsewhere (at list.now) count i (at_end c) }
 {
-    if k < count {
-        return has_end_at(list, k, i, c);
-    }
-    false
+    k < count && has_end_at(list, k, i, c)
 }
 
 // Whether the triple before or behind place i has t's property and subject: in a rising list such triples stand side by side.
@@ -87,13 +71,8 @@ fn subject_beside(list: &[u32], count: usize, i: usize, t: Triple) -> bool
     requires { (i < count) × (3 * count ≤ length list.now) }
     ensures { result ≡ true → Elsewhere (at list.now) count i (at_side (side_of true) t) }
 {
-    if same_side_within(list, count, i + 1, i, true, t) {
-        return true;
-    }
-    if i == 0 {
-        return false;
-    }
-    same_side_within(list, count, i - 1, i, true, t)
+    same_side_within(list, count, i + 1, i, true, t)
+        || (i != 0 && same_side_within(list, count, i - 1, i, true, t))
 }
 
 // Whether the triple before or behind place i has c as an end.
@@ -101,13 +80,7 @@ fn end_beside(list: &[u32], count: usize, i: usize, c: u32) -> bool
     requires { (i < count) × (3 * count ≤ length list.now) }
     ensures { result ≡ true → Elsewhere (at list.now) count i (at_end c) }
 {
-    if has_end_within(list, count, i + 1, i, c) {
-        return true;
-    }
-    if i == 0 {
-        return false;
-    }
-    has_end_within(list, count, i - 1, i, c)
+    has_end_within(list, count, i + 1, i, c) || (i != 0 && has_end_within(list, count, i - 1, i, c))
 }
 
 // Whether another of the first `count` triples than the one at place i has t's property and, at that side, t's end.
@@ -115,12 +88,10 @@ fn side_elsewhere(list: &[u32], count: usize, i: usize, sources: bool, t: Triple
     requires { 3 * count ≤ length list.now }
     ensures { result ≡ true → Elsewhere (at list.now) count i (at_side (side_of sources) t) }
 {
-    let mut k = 0;
-    while k < count {
+    for k in 0..count {
         if same_side_at(list, k, i, sources, t) {
             return true;
         }
-        k += 1;
     }
     false
 }
@@ -133,12 +104,10 @@ fn end_elsewhere(list: &[u32], count: usize, i: usize, c: u32) -> bool
     if end_beside(list, count, i, c) {
         return true;
     }
-    let mut k = 0;
-    while k < count {
+    for k in 0..count {
         if has_end_at(list, k, i, c) {
             return true;
         }
-        k += 1;
     }
     false
 }
@@ -177,8 +146,6 @@ pub fn ends_kept(
     requires { Below (length roster.now) t × (i < count) × (3 * count ≤ length list.now) }
     ensures { result ≡ true → EndsKept words roster.now (at list.now) count i t }
 {
-    if end_kept(words, roster, list, count, i, true, t) {
-        return end_kept(words, roster, list, count, i, false, t);
-    }
-    false
+    end_kept(words, roster, list, count, i, true, t)
+        && end_kept(words, roster, list, count, i, false, t)
 }
