@@ -12,13 +12,11 @@ use lists::{Code, triple_at};
 use model::{Triple, Vocabulary};
 
 // Whether a triple is a schema triple where these are wanted, or another where those are.
+#[tactic(auto, unfolding(crate::specs::Loading::chosen))]
 fn is_chosen(words: Vocabulary, t: Triple, schemas: bool) -> bool
     ensures { result ≡ chosen words schemas t }
 {
-    if Code(t.property).is_schema(words) {
-        return schemas;
-    }
-    !schemas
+    Code(t.property).is_schema(words) == schemas
 }
 
 // Offers a triple, where it is chosen.
@@ -49,21 +47,18 @@ pub fn load(
     requires { (3 * count ≤ length list.old) × RisingPart (at list.old) 0 count }
     ensures { Added words schemas (triples table.now) list.old list.new count result }
 {
-    let n = table.len() / 3;
     let mut state = Builder {
         base: count,
         sorted: count,
         filled: count,
         full: false,
     };
-    let mut i = 0;
-    while i < n {
+    for i in 0..table.len() / 3 {
         let t = triple_at(table, i);
         state = offer_chosen(words, list, state, t, schemas);
         if state.full {
             return state;
         }
-        i += 1;
     }
     state
 }
