@@ -24,13 +24,10 @@ fn append(list: &mut [u32], b: Builder, t: Triple) -> Builder
     requires { (3 * b.filled + 2 < length list.old) × Built list.old b × (known list.old b t ≡ false) }
     ensures { Offered list.old list.new b result t }
 {
-    let filled = b.filled;
-    put(list, filled, t);
+    put(list, b.filled, t);
     Builder {
-        base: b.base,
-        sorted: b.sorted,
-        filled: filled + 1,
-        full: false,
+        filled: b.filled + 1,
+        ..b
     }
 }
 
@@ -39,13 +36,11 @@ fn compacted(list: &mut [u32], b: Builder) -> Builder
     requires { Built list.old b }
     ensures { Compacted list.old list.new b result }
 {
-    let count = sort_distinct(list, b.base, b.filled);
-    let end = b.base + count;
+    let end = b.base + sort_distinct(list, b.base, b.filled);
     Builder {
-        base: b.base,
         sorted: end,
         filled: end,
-        full: false,
+        ..b
     }
 }
 
@@ -54,10 +49,7 @@ fn is_known(list: &[u32], b: Builder, t: Triple) -> bool
     requires { Built list.now b }
     ensures { result ≡ known list.now b t }
 {
-    if contains(list, 0, b.base, t) {
-        return true;
-    }
-    contains(list, b.base, b.sorted, t)
+    contains(list, 0, b.base, t) || contains(list, b.base, b.sorted, t)
 }
 
 // Offers a triple where every slot is filled.
@@ -72,12 +64,7 @@ fn offer_full(list: &mut [u32], b: Builder, t: Triple) -> Builder
     if c.filled < list.len() / 3 {
         return append(list, c, t);
     }
-    Builder {
-        base: c.base,
-        sorted: c.sorted,
-        filled: c.filled,
-        full: true,
-    }
+    Builder { full: true, ..c }
 }
 
 // Offers a triple: it is held afterwards, or the builder is full.
@@ -100,7 +87,6 @@ pub fn finish(list: &mut [u32], filled: usize) -> usize
     ensures { Finished list.old list.new filled result }
 {
     let count = sort_distinct(list, 0, filled);
-    let n = list.len();
-    clear(list, 3 * count, n);
+    clear(list, 3 * count, list.len());
     count
 }

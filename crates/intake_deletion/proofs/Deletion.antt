@@ -1,15 +1,15 @@
--- Taking a triple out of the triples of a list, or a number out of numbers: the loops, what stands in front after it, and the whole list where
+-- Taking a triple out of the triples of a list, or a number out of numbers: what moves, what stands in front after it, and the whole list where
 -- zeros stand behind.
 -- Assumes nothing.
 use Prim.Native.Nat.{ℕ, zero, suc, ◌+◌, ◌-◌, ◌*◌, ◌<◌, ◌≤◌}
 use mathlib.Core.Path.{◌≡◌, refl, sym, ◌∙◌, ap, subst}
-use mathlib.Core.Logic.{inr}
 use mathlib.Core.Bool.{Bool, true, false, cond}
 use mathlib.Core.List.{List, ◌∷◌, ◌++◌, Memᴰ as Mem}
 use native.Mathlib.Omega.{arith}
 use native.Mathlib.Decide.{dec_lt}
 use lib.ListN.{length, get_or, set, length-set}
 use lib.Seq.{get_or-set_same, get_or-set_other}
+use Rattle.std.specs.List.{CopiedTo, SameBelow, SameFrom}
 use Rattle.model.specs.declared.Triple.{Triple}
 use Rattle.model.specs.Lists.{tabulate, padded}
 use Rattle.model.specs.Triples.{triple, same, before, without, listed}
@@ -19,44 +19,13 @@ use Rattle.theory.proofs.Lists.{tabulate-mem, mem-tabulate}
 use Rattle.theory.proofs.Order.{lt_irrefl, lt_trans, before-lt, same-eq, same_refl}
 use Rattle.theory.proofs.Flat.{padded-at, padded-past, padded-by}
 use Rattle.theory.proofs.Weights.{drop_at, length-drop, drop-front, drop-back}
-use Rattle.lists.specs.Flat.{at, put_at, RisingPart, Bound, Cleared}
+use Rattle.lists.specs.Flat.{at, RisingPart, Bound, Cleared}
 use Rattle.lists.proofs.Compare.{Cmp, lt, eq, gt, cmp}
-use Rattle.lists.proofs.Places.{put_same, put_other, put_rest, put-length}
 use Rattle.builder.specs.Builder.{first}
 use Rattle.intake_insertion.proofs.Listed.{listed-first, listed-rest, listed_by}
 use Rattle.intake_deletion.specs.Deletion.{Deleted, NumberDeleted, Lightened}
 
 -- ── triples move down ──
--- the triples behind place i up to place j have moved down by one
-pub record Moved (l m : List ℕ) (n i j : ℕ) : Type 0 where
-  pub size : length m ≡ length l
-  pub front : (k : ℕ) → k < i → at m k ≡ at l k
-  pub back : (k : ℕ) → i ≤ k → k < j → at m k ≡ at l (k + 1)
-  pub still : (k : ℕ) → j ≤ k → at m k ≡ at l k
-  pub rest : (w : ℕ) → 3 * n ≤ w → get_or m w 0 ≡ get_or l w 0
-
-pub moved-start : (l : List ℕ) (n i : ℕ) → Moved l l n i i
-moved-start l n i = record { size = refl; front = λ k h. refl; back = λ k x y. absurd (omega arith); still = λ k h. refl; rest = λ w h. refl }
-
-pub moved-step : (l m m' : List ℕ) (n i j : ℕ) (u : Triple) → Moved l m n i j → i ≤ j → j + 1 < n → 3 * n ≤ length l → u ≡ at m (j + 1) → m' ≡ put_at m j u → Moved l m' n i (j + 1)
-moved-step l m m' n i j u s x h room e q =
-    subst (λ (z : List ℕ). Moved l z n i (j + 1)) (sym q)
-    (record {
-      size = put-length m j u ∙ s.size;
-      front = λ k a. put_other m j u inside k (omega arith) ∙ s.front k a;
-      back = λ k a b. go k a b (cmp k j);
-      still = λ k a. put_other m j u inside k (omega arith) ∙ s.still k (omega arith);
-      rest = λ w a. put_rest m j u inside w (inr (omega arith)) ∙ s.rest w a;
-    })
-  where
-    inside : 3 * j + 2 < length m
-    inside = omega (arith, s.size)
-
-    go : (k : ℕ) → i ≤ k → k < j + 1 → Cmp k j → at (put_at m j u) k ≡ at l (k + 1)
-    go k a b (lt z) = put_other m j u inside k (omega arith) ∙ s.back k a z
-    go k a b (eq z) = ap (at (put_at m j u)) z ∙ put_same m j u inside ∙ e ∙ s.still (j + 1) (omega arith) ∙ ap (λ (w : ℕ). at l (w + 1)) (sym z)
-    go k a b (gt z) = absurd (omega arith)
-
 -- clearing behind a place leaves the triples before it
 clear_keeps : (m l' : List ℕ) (a b k : ℕ) → Cleared m l' a b → 3 * k + 2 < a → at l' k ≡ at m k
 unfolding at
@@ -66,53 +35,39 @@ clear_keeps m l' a b k c h =
     let z = c.rest (3 * k + 2) (λ q. absurd (omega arith)) in
     λ i. triple (x i) (y i) (z i)
 
-pub moved-end : (l m l' : List ℕ) (n i j last : ℕ) → Moved l m n i j → i < n → last ≡ n - 1 → last ≤ j → j ≤ last → Cleared m l' (3 * last) (3 * n) → Deleted l l' n i
-moved-end l m l' n i j last s h e x y c =
+at_moved : (l m : List ℕ) (a b : ℕ) → get_or m (3 * a) 0 ≡ get_or l (3 * b) 0 → get_or m (3 * a + 1) 0 ≡ get_or l (3 * b + 1) 0 → get_or m (3 * a + 2) 0 ≡ get_or l (3 * b + 2) 0 → at m a ≡ at l b
+unfolding at
+at_moved l m a b x y z = λ k. triple (x k) (y k) (z k)
+
+-- the numbers behind place i moved down by three, and the last three places cleared
+pub moved_clear : (l m l' : List ℕ) (n i : ℕ) → length m ≡ length l
+    → CopiedTo l m (3 * i + 3) (3 * i) (3 * n - (3 * i + 3)) → SameBelow l m (3 * i) → SameFrom l m (3 * i + (3 * n - (3 * i + 3)))
+    → i < n → Cleared m l' (3 * n - 3) (3 * n) → Deleted l l' n i
+moved_clear l m l' n i e copied below behind h c =
     record {
-      size = c.size ∙ s.size;
-      front = λ k a. clear_keeps m l' _ _ k c (omega arith) ∙ s.front k a;
-      back = λ k a b. clear_keeps m l' _ _ k c (omega arith) ∙ s.back k a (omega arith);
+      size = c.size ∙ e;
+      front = λ k a. clear_keeps m l' _ _ k c (omega arith) ∙ at_moved l m k k (below (3 * k) 0 (omega arith)) (below (3 * k + 1) 0 (omega arith)) (below (3 * k + 2) 0 (omega arith));
+      back = λ k a b. clear_keeps m l' _ _ k c (omega arith) ∙ at_moved l m k (k + 1) (down _ _ (omega arith) (omega arith) (omega arith)) (down _ _ (omega arith) (omega arith) (omega arith)) (down _ _ (omega arith) (omega arith) (omega arith));
       gone = λ w a b. c.zeros w (omega arith) b;
-      rest = λ w a. c.rest w (λ q. a) ∙ s.rest w a;
+      rest = λ w a. c.rest w (λ q. a) ∙ behind w 0 (omega arith);
     }
+  where
+    down : (w v : ℕ) → 3 * i ≤ w → w + 3 < 3 * n → v ≡ w + 3 → get_or m w 0 ≡ get_or l v 0
+    down w v a b c = copied w 0 (omega arith) (omega arith) ∙ ap (λ (x : ℕ). get_or l x 0) (omega arith)
 
 -- ── numbers move down ──
--- the numbers behind place j up to place k have moved down by one
-pub record NumbersMoved (l m : List ℕ) (j k : ℕ) : Type 0 where
-  pub size : length m ≡ length l
-  pub front : (w : ℕ) → w < j → get_or m w 0 ≡ get_or l w 0
-  pub back : (w : ℕ) → j ≤ w → w < k → get_or m w 0 ≡ get_or l (w + 1) 0
-  pub still : (w : ℕ) → k ≤ w → get_or m w 0 ≡ get_or l w 0
-
-pub numbers-start : (l : List ℕ) (j : ℕ) → NumbersMoved l l j j
-numbers-start l j = record { size = refl; front = λ w h. refl; back = λ w x y. absurd (omega arith); still = λ w h. refl }
-
-pub numbers-step : (l m m' : List ℕ) (j k x : ℕ) → NumbersMoved l m j k → j ≤ k → k < length l → x ≡ get_or m (k + 1) 0 → m' ≡ set m k x → NumbersMoved l m' j (k + 1)
-numbers-step l m m' j k x s h room e q =
-    subst (λ (z : List ℕ). NumbersMoved l z j (k + 1)) (sym q)
-    (record {
-      size = length-set m k x ∙ s.size;
-      front = λ w a. get_or-set_other m k w x 0 (omega arith) ∙ s.front w a;
-      back = λ w a b. go w a b (cmp w k);
-      still = λ w a. get_or-set_other m k w x 0 (omega arith) ∙ s.still w (omega arith);
-    })
-  where
-    go : (w : ℕ) → j ≤ w → w < k + 1 → Cmp w k → get_or (set m k x) w 0 ≡ get_or l (w + 1) 0
-    go w a b (lt z) = get_or-set_other m k w x 0 (omega arith) ∙ s.back w a z
-    go w a b (eq z) =
-        ap (λ (y : ℕ). get_or (set m k x) y 0) z ∙ get_or-set_same m k x 0 (omega (arith, s.size))
-        ∙ e ∙ s.still (k + 1) (omega arith) ∙ ap (λ (y : ℕ). get_or l (y + 1) 0) (sym z)
-    go w a b (gt z) = absurd (omega arith)
-
-pub numbers-end : (l m l' : List ℕ) (n j k last : ℕ) → NumbersMoved l m j k → j < n → n ≤ length l → last ≡ n - 1 → last ≤ k → k ≤ last → l' ≡ set m last 0 → NumberDeleted l l' n j
-numbers-end l m l' n j k last s h room e x y q =
+-- the numbers behind place j moved down by one, and the last place set to zero
+pub number_moved : (l m l' : List ℕ) (n j : ℕ) → length m ≡ length l
+    → CopiedTo l m (j + 1) j (n - (j + 1)) → SameBelow l m j → SameFrom l m (j + (n - (j + 1)))
+    → j < n → n ≤ length l → l' ≡ set m (n - 1) 0 → NumberDeleted l l' n j
+number_moved l m l' n j e copied below behind h room q =
     subst (λ (z : List ℕ). NumberDeleted l z n j) (sym q)
     (record {
-      size = length-set m last 0 ∙ s.size;
-      front = λ w a. get_or-set_other m last w 0 0 (omega arith) ∙ s.front w a;
-      back = λ w a b. get_or-set_other m last w 0 0 (omega arith) ∙ s.back w a (omega arith);
-      gone = λ w a. let p : w ≡ last = omega arith in ap (λ (z : ℕ). get_or (set m last 0) z 0) p ∙ get_or-set_same m last 0 0 (omega (arith, s.size));
-      rest = λ w a. get_or-set_other m last w 0 0 (omega arith) ∙ s.still w (omega arith);
+      size = length-set m (n - 1) 0 ∙ e;
+      front = λ w a. get_or-set_other m (n - 1) w 0 0 (omega arith) ∙ below w 0 a;
+      back = λ w a b. get_or-set_other m (n - 1) w 0 0 (omega arith) ∙ copied w 0 a (omega arith) ∙ ap (λ (z : ℕ). get_or l z 0) (omega arith);
+      gone = λ w a. let p : w ≡ n - 1 = omega arith in ap (λ (z : ℕ). get_or (set m (n - 1) 0) z 0) p ∙ get_or-set_same m (n - 1) 0 0 (omega (arith, e));
+      rest = λ w a. get_or-set_other m (n - 1) w 0 0 (omega arith) ∙ behind w 0 (omega arith);
     })
 
 -- ── the front after it ──
@@ -227,12 +182,6 @@ number_deleted w w' xs j is room h d =
 
 -- ── a line that weighs one less ──
 module _ (sums weighed : List ℕ) (n j : ℕ) where
-  pub line-lighter : 1 < get_or weighed j 0 → Lightened sums weighed n j n sums (set weighed j (get_or weighed j 0 - 1))
-  line-lighter h = record { less = λ x. (refl, refl, refl); goes = λ x. absurd (omega arith) }
-
-  pub line-goes : (sums' weighed' : List ℕ) → get_or weighed j 0 ≤ 1 → Deleted sums sums' n j → NumberDeleted weighed weighed' n j → Lightened sums weighed n j (n - 1) sums' weighed'
-  line-goes sums' weighed' h d e = record { less = λ x. absurd (omega arith); goes = λ x. (refl, d, e) }
-
   pub lightened_sizes : (r : ℕ) (sums' weighed' : List ℕ) → Lightened sums weighed n j r sums' weighed' → (length sums' ≡ length sums) × (length weighed' ≡ length weighed) × (r ≤ n)
   lightened_sizes r sums' weighed' s = go (dec_lt 1 (get_or weighed j 0))
     where

@@ -4,21 +4,15 @@
 ghost use Rattle.std.specs.Prelude.{◌*◌, ◌<◌, ◌≤◌, length};
 ghost use Rattle.intake_deletion.specs.Deletion.{Deleted, NumberDeleted, Lightened};
 
-use lists::{clear, put, triple_at};
+use lists::clear;
 
 // Takes the triple at place i out of the first `count`; those behind it move down by one, and the last of these places becomes zero.
 pub fn delete_at(list: &mut [u32], count: usize, i: usize)
     requires { (i < count) × (3 * count ≤ length list.old) }
     ensures { Deleted list.old list.new count i }
 {
-    let last = count - 1;
-    let mut j = i;
-    while j < last {
-        let u = triple_at(list, j + 1);
-        put(list, j, u);
-        j += 1;
-    }
-    clear(list, 3 * last, 3 * count);
+    list.copy_within(3 * i + 3..3 * count, 3 * i);
+    clear(list, 3 * count - 3, 3 * count);
 }
 
 // The same for numbers.
@@ -26,13 +20,8 @@ fn delete_number(list: &mut [u32], count: usize, j: usize)
     requires { (j < count) × (count ≤ length list.old) }
     ensures { NumberDeleted list.old list.new count j }
 {
-    let last = count - 1;
-    let mut k = j;
-    while k < last {
-        list[k] = list[k + 1];
-        k += 1;
-    }
-    list[last] = 0;
+    list.copy_within(j + 1..count, j);
+    list[count - 1] = 0;
 }
 
 // Takes one off the weight of the line at place j. A line that then stands for no triple goes. Answers the number of lines
@@ -46,6 +35,6 @@ pub fn lighten(summary: &mut [u32], weights: &mut [u32], count: usize, j: usize)
         delete_number(weights, count, j);
         return count - 1;
     }
-    weights[j] = weights[j] - 1;
+    weights[j] -= 1;
     count
 }

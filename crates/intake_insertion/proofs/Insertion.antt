@@ -1,14 +1,15 @@
--- Putting a triple between the triples of a list: the loop, and that a rising front stays rising.
+-- Putting a triple between the triples of a list, and that a rising front stays rising.
 -- Assumes nothing.
 use Prim.Native.Nat.{ℕ, ◌+◌, ◌-◌, ◌*◌, ◌<◌, ◌≤◌}
-use mathlib.Core.Path.{◌≡◌, refl, sym, ◌∙◌, ap, subst}
+use mathlib.Core.Path.{◌≡◌, sym, ◌∙◌, ap, subst}
 use mathlib.Core.Logic.{inr, ⊎_elim}
 use mathlib.Core.Bool.{false, true≢false}
 use mathlib.Core.List.{List, Memᴰ as Mem}
 use native.Mathlib.Omega.{arith}
 use lib.ListN.{length, get_or}
 use Rattle.model.specs.declared.Triple.{Triple}
-use Rattle.model.specs.Triples.{same, holds, insert}
+use Rattle.std.specs.List.{CopiedTo, SameBelow, SameFrom}
+use Rattle.model.specs.Triples.{triple, same, holds, insert}
 use Rattle.model.specs.Order.{Lt}
 use Rattle.theory.proofs.Tests.{not_true_false}
 use Rattle.theory.proofs.Lists.{tabulate-mem, mem-tabulate}
@@ -19,49 +20,29 @@ use Rattle.lists.proofs.Places.{put_same, put_other, put_rest, put-length, place
 use Rattle.builder.specs.Builder.{first}
 use Rattle.intake_insertion.specs.Insertion.{Inserted}
 
--- the first n triples of l, those from place j on moved up by one; place j is free
-pub record Shifted (l l' : List ℕ) (n j : ℕ) : Type 0 where
-  pub size : length l' ≡ length l
-  pub front : (k : ℕ) → k < j → at l' k ≡ at l k
-  pub back : (k : ℕ) → j ≤ k → k < n → at l' (k + 1) ≡ at l k
-  pub rest : (w : ℕ) → 3 * n + 3 ≤ w → get_or l' w 0 ≡ get_or l w 0
+at_moved : (l m : List ℕ) (a b : ℕ) → get_or m (3 * a) 0 ≡ get_or l (3 * b) 0 → get_or m (3 * a + 1) 0 ≡ get_or l (3 * b + 1) 0 → get_or m (3 * a + 2) 0 ≡ get_or l (3 * b + 2) 0 → at m a ≡ at l b
+unfolding at
+at_moved l m a b x y z = λ k. triple (x k) (y k) (z k)
 
-pub shifted_start : (l : List ℕ) (n : ℕ) → Shifted l l n n
-shifted_start l n = record { size = refl; front = λ k h. refl; back = λ k a b. absurd (omega arith); rest = λ w h. refl }
-
-pub shifted_step : (l m m' : List ℕ) (n j : ℕ) (u : Triple) → Shifted l m n j → j ≤ n → 0 < j → 3 * n + 2 < length l → u ≡ at m (j - 1) → m' ≡ put_at m j u → Shifted l m' n (j - 1)
-shifted_step l m m' n j u s h z room e q =
-    subst (λ (x : List ℕ). Shifted l x n (j - 1)) (sym q)
-    (record {
-      size = put-length m j u ∙ s.size;
-      front = λ k a. put_other m j u inside k (omega arith) ∙ s.front k (omega arith);
-      back = λ k a b. at_back k a b (cmp (j - 1) k);
-      rest = λ w a. put_rest m j u inside w (inr (omega arith)) ∙ s.rest w a;
-    })
-  where
-    inside : 3 * j + 2 < length m
-    inside = omega (arith, s.size)
-
-    at_back : (k : ℕ) → j - 1 ≤ k → k < n → Cmp (j - 1) k → at (put_at m j u) (k + 1) ≡ at l k
-    at_back k a b (lt x) = put_other m j u inside (k + 1) (omega arith) ∙ s.back k (omega arith) b
-    at_back k a b (eq x) =
-        let p : k + 1 ≡ j = omega arith in
-        ap (at (put_at m j u)) p ∙ put_same m j u inside ∙ e ∙ s.front (j - 1) (omega arith) ∙ ap (at l) x
-    at_back k a b (gt x) = absurd (omega arith)
-
-pub shifted_end : (l m m' : List ℕ) (n i j : ℕ) (t : Triple) → Shifted l m n j → j ≡ i → i ≤ n → 3 * n + 2 < length l → m' ≡ put_at m i t → Inserted l m' n i t
-shifted_end l m m' n i j t s e h room q =
+-- the numbers from place i on moved up by three, and t put there
+pub moved_put : (l m m' : List ℕ) (n i : ℕ) (t : Triple) → length m ≡ length l
+    → CopiedTo l m (3 * i) (3 * i + 3) (3 * n - 3 * i) → SameBelow l m (3 * i + 3) → SameFrom l m (3 * i + 3 + (3 * n - 3 * i))
+    → i ≤ n → 3 * n + 2 < length l → m' ≡ put_at m i t → Inserted l m' n i t
+moved_put l m m' n i t e copied below behind h room q =
     subst (λ (x : List ℕ). Inserted l x n i t) (sym q)
     (record {
-      size = put-length m i t ∙ s.size;
-      front = λ k a. put_other m i t inside k (omega arith) ∙ s.front k (omega arith);
+      size = put-length m i t ∙ e;
+      front = λ k a. put_other m i t inside k (omega arith) ∙ at_moved l m k k (below (3 * k) 0 (omega arith)) (below (3 * k + 1) 0 (omega arith)) (below (3 * k + 2) 0 (omega arith));
       new = put_same m i t inside;
-      back = λ k a b. put_other m i t inside (k + 1) (omega arith) ∙ s.back k (omega arith) b;
-      rest = λ w a. put_rest m i t inside w (inr (omega arith)) ∙ s.rest w a;
+      back = λ k a b. put_other m i t inside (k + 1) (omega arith) ∙ at_moved l m (k + 1) k (up _ _ (omega arith) (omega arith) (omega arith)) (up _ _ (omega arith) (omega arith) (omega arith)) (up _ _ (omega arith) (omega arith) (omega arith));
+      rest = λ w a. put_rest m i t inside w (inr (omega arith)) ∙ behind w 0 (omega arith);
     })
   where
     inside : 3 * i + 2 < length m
-    inside = omega (arith, s.size)
+    inside = omega (arith, e)
+
+    up : (w v : ℕ) → 3 * i ≤ w → w < 3 * n → v ≡ w + 3 → get_or m v 0 ≡ get_or l w 0
+    up w v a b c = copied v 0 (omega arith) (omega arith) ∙ ap (λ (x : ℕ). get_or l x 0) (omega arith)
 
 -- ── the front after it ──
 -- what stands at a place of the new front

@@ -18,12 +18,7 @@ pub fn insert_at(list: &mut [u32], count: usize, i: usize, t: Triple)
     requires { (i ≤ count) × (3 * count + 2 < length list.old) }
     ensures { Inserted list.old list.new count i t }
 {
-    let mut j = count;
-    while i < j {
-        let u = triple_at(list, j - 1);
-        put(list, j, u);
-        j -= 1;
-    }
+    list.copy_within(3 * i..3 * count, 3 * i + 3);
     put(list, i, t);
 }
 
@@ -59,9 +54,9 @@ pub fn image_place(summary: &[u32], summarised: usize, map: &[u32], t: Triple) -
         return ImageAt::Unknown;
     }
     let image = Triple {
-        subject: subject,
-        property: t.property,
-        object: object,
+        subject,
+        object,
+        ..t
     };
     let i = lower_bound(summary, 0, summarised, image);
     if stands_at(summary, summarised, i, image) {
@@ -75,17 +70,11 @@ pub fn held_wrong(words: Vocabulary, list: &[u32], count: usize, roster: &[u8]) 
     requires { 3 * count ≤ length list.now }
     ensures { result ≡ any (bad words roster.now) (first list.now count) }
 {
-    let n = roster.len();
-    let mut i = 0;
-    while i < count {
+    for i in 0..count {
         let t = triple_at(list, i);
-        if triple_wrong(words, t, n) {
+        if triple_wrong(words, t, roster.len()) || !covers_triple(words, roster, t) {
             return true;
         }
-        if !covers_triple(words, roster, t) {
-            return true;
-        }
-        i += 1;
     }
     false
 }

@@ -58,8 +58,7 @@ fn draw_partners(
     let key = partner_key(words, r, driver);
     let base = b.base;
     let mut state = b;
-    let mut i = lower_bound(list, 0, base, key);
-    while i < base {
+    for i in lower_bound(list, 0, base, key)..base {
         let partner = triple_at(list, i);
         if !same_front(partner, key) {
             return state;
@@ -68,7 +67,6 @@ fn draw_partners(
         if state.full {
             return state;
         }
-        i += 1;
     }
     state
 }
@@ -91,14 +89,12 @@ fn draw_rule(words: Vocabulary, list: &mut [u32], b: Builder, r: Rule) -> Builde
 {
     let base = b.base;
     let mut state = b;
-    let mut i = 0;
-    while i < base {
+    for i in 0..base {
         let driver = triple_at(list, i);
         state = draw_driver(words, list, state, r, driver);
         if state.full {
             return state;
         }
-        i += 1;
     }
     state
 }
@@ -114,14 +110,11 @@ pub fn round(words: Vocabulary, list: &mut [u32], count: usize, low: usize, high
         filled: count,
         full: false,
     };
-    let mut k = low;
-    while k < high {
-        let r = rule_at(k);
-        state = draw_rule(words, list, state, r);
+    for k in low..high {
+        state = draw_rule(words, list, state, rule_at(k));
         if state.full {
             return state;
         }
-        k += 1;
     }
     state
 }

@@ -47,21 +47,18 @@ pub fn load(
     requires { (3 * count ≤ length list.old) × RisingPart (at list.old) 0 count }
     ensures { Added words schemas (triples table.now) list.old list.new count result }
 {
-    let n = table.len() / 3;
     let mut state = Builder {
         base: count,
         sorted: count,
         filled: count,
         full: false,
     };
-    let mut i = 0;
-    while i < n {
+    for i in 0..table.len() / 3 {
         let t = triple_at(table, i);
         state = offer_chosen(words, list, state, t, schemas);
         if state.full {
             return state;
         }
-        i += 1;
     }
     state
 }

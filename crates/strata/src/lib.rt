@@ -39,7 +39,7 @@ fn close(words: Vocabulary, list: &mut [u32], filled: usize) -> Builder
     let mut state = Builder {
         base: 0,
         sorted: 0,
-        filled: filled,
+        filled,
         full: false,
     };
     while state.base < state.filled {

@@ -1,14 +1,10 @@
 use mathlib.Core.Path.{refl, sym, ◌∙◌}
-use native.Mathlib.Omega.{arith}
 use Rattle.builder.proofs.Offers.{offered_known, offered_after, offered_full}
 use Rattle.builder.proofs.offer_full.Goals as goal
 
 pub returns-then-is_known : goal.returns-then-is_known
 returns-then-is_known c = offered_after _ _ _ _ _ _ _ c.compacted-c.ensures
     (offered_known _ _ _ c.compacted-c.ensures.built (sym c.is_known.ensures ∙ c.if-is_known.true))
-
-pub append-requires : goal.append-requires
-append-requires c = (omega (arith, c.if-c-list.true), c.compacted-c.ensures.built, sym c.is_known.ensures ∙ c.if-is_known.false)
 
 pub returns-then-c-list : goal.returns-then-c-list
 returns-then-c-list c = offered_after _ _ _ _ _ _ _ c.compacted-c.ensures c.append.ensures

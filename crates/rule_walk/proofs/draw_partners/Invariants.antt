@@ -1,11 +1,6 @@
-use Prim.Native.Nat.{◌-◌}
-use mathlib.Core.Path.{◌≡◌}
 use Rattle.model.specs.Rules.{numbered}
 use Rattle.rule_walk.proofs.Sweeps.{Partners}
 use Rattle.rule_walk.proofs.draw_partners.Given as goal
 
 abbrev pub invariant-loop-i : goal.invariant-loop-i
-invariant-loop-i l = (l.base ≡ l.initial.state.base) × Partners l.words l.initial.list l.list l.initial.state l.state (numbered l.r) l.driver l.i
-
-abbrev pub decreases-loop-i : goal.decreases-loop-i
-decreases-loop-i l = l.base - l.i
+invariant-loop-i l = Partners l.words l.initial.list l.list l.initial.state l.state (numbered l.r) l.driver l.i

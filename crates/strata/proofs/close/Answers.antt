@@ -5,9 +5,6 @@ use Rattle.strata.proofs.close.Goals as goal
 pub loop-state-init : goal.loop-state-init
 loop-state-init c = closing_start _ _ _ c.requires
 
-pub sort_distinct-count-requires : goal.sort_distinct-count-requires
-sort_distinct-count-requires c = (omega arith, c.loop-state.invariant.room)
-
 pub round-state-requires : goal.round-state-requires
 round-state-requires c = let r = round-ready _ _ _ _ _ _ _ c.loop-state.invariant c.sort_distinct-count.ensures in (r.0, r.1, omega arith)
 
@@ -27,9 +24,6 @@ loop-state-smaller c = omega (
 
 pub loop-state-preserved : goal.loop-state-preserved
 loop-state-preserved c = closing_next _ _ _ _ _ _ _ c.loop-state.invariant c.sort_distinct-count.ensures _ _ c.round-state.ensures c.if-state.false
-
-pub shape_of-list : goal.shape_of-list
-shape_of-list c = c.loop-state.invariant.size
 
 pub returns : goal.returns
 returns c = closing_end _ _ _ _ _ c.loop-state.invariant c.loop-state-test.false
