@@ -44,10 +44,6 @@ pub fn junk(list: &mut [u32]) {
     }
 }
 
-pub fn junk_marks(roster: &mut [u8]) {
-    roster.fill(77);
-}
-
 fn by_engine(
     call: Call,
     site: Site<'_>,
