@@ -1,6 +1,8 @@
 // The checks before a call, each over all its input; the own roster.
 #![tactic(auto)]
 
+ghost use Rattle.std.specs.Prelude.{false, ◌≡◌, ◌↔◌, IsOk, IfErr};
+
 mod rosters;
 
 use naive_lists::{Refusal, Triple, Words, triples_of};
@@ -79,7 +81,10 @@ pub fn covered(words: Words, roster: &[u8], t: Triple) -> bool {
 }
 
 // Refuses a call if something is wrong.
-pub fn refuse_if(wrong: bool, refusal: Refusal) -> Result<(), Refusal> {
+pub fn refuse_if(wrong: bool, refusal: Refusal) -> Result<(), Refusal>
+    ensures passes { IsOk result ↔ (wrong ≡ false) }
+    ensures refuses { IfErr result (λ e. e ≡ refusal) }
+{
     if wrong { Err(refusal) } else { Ok(()) }
 }
 
