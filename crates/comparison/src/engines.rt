@@ -85,7 +85,13 @@ fn by_plain(
         Call::OwnRoster => naive_checks::own_roster(site.words, site.table, marks).into(),
         Call::Saturate => naive_saturation::saturate(site, res).into(),
         Call::Cliques => naive_cliques::cliques(site, first, second).into(),
-        Call::Strong => naive_summary::summarise(site, Equivalence::Strong, res, first, second).into(),
+        Call::Strong => naive_summary::summarise(
+            site,
+            Equivalence::Strong,
+            res,
+            first,
+            second,
+        ).into(),
         _ => naive_summary::summarise(site, Equivalence::Weak, res, first, second).into(),
     }
 }

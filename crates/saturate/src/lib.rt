@@ -32,7 +32,12 @@ fn derive(words: Vocabulary, table: &[u32], list: &mut [u32]) -> Builder
 }
 
 // Saturates a table into the result: 01's "saturate".
-pub fn saturate(words: Vocabulary, table: &[u32], roster: &[u8], res: &mut [u32]) -> Result<usize, Refusal>
+pub fn saturate(
+    words: Vocabulary,
+    table: &[u32],
+    roster: &[u8],
+    res: &mut [u32],
+) -> Result<usize, Refusal>
     ensures { (outcome_of result ≡ saturate_outcome words table.now roster.now res.old) × (res.new ≡ saturate_leaves words table.now roster.now res.old) }
 {
     table_refusal(words, false, table, roster)?;

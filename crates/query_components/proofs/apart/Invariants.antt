@@ -3,4 +3,3 @@ use Rattle.query_components.proofs.apart.Given as goal
 
 abbrev pub invariant-loop-j : goal.invariant-loop-j
 invariant-loop-j l = ApartTo l.bindings l.q l.k l.z l.j
-
