@@ -8,7 +8,7 @@ ghost use Rattle.intake_calls.specs.Calls.{Ready};
 ghost use Rattle.intake_adding.specs.Adding.{AddCall};
 
 use intake_calls::{CalledCounts, with_counts};
-use intake_insertion::{ImageAt, held_wrong, image_place, insert_at};
+use intake_insertion::{held_wrong, image_place, insert_at};
 use intake_weighing::{increment, renew};
 use lists::clear;
 use model::{Refusal, Reply, Triple, Vocabulary};
@@ -63,7 +63,7 @@ pub fn add(
         (at_entry triples summary weights map held summarised) work.old t i (replied result.answer)
         (at_exit triples summary weights map result.counts.held result.counts.summarised) work.new }
 {
-    let ImageAt::At(j) = image_place(summary, summarised, map, t) else {
+    let Some(j) = image_place(summary, summarised, map, t) else {
         return add_anew(
             held, summarised, words, roster, triples, summary, weights, map, work, t, i,
         );

@@ -37,8 +37,8 @@ use Rattle.lists.proofs.Places.{rising-places}
 use Rattle.lists.proofs.Search.{cleared-all}
 use Rattle.builder.specs.Builder.{first}
 use Rattle.intake_opening.specs.Opening.{state_with}
-use Rattle.intake_insertion.specs.declared.ImageAt.{ImageAt}
-use Rattle.intake_insertion.specs.declared.ImageAt.TheVariants.{Unknown, At}
+use Rattle.std.specs.declared.option.Option.{Option}
+use Rattle.std.specs.declared.option.Option.TheVariants.{None, Some}
 use Rattle.intake_insertion.specs.Places.{KnownAt, ImageFound, bad}
 use Rattle.intake_calls.specs.Calls.{Ready}
 use Rattle.intake_calls.proofs.AnyState.{alters_nothing, alters-less}
@@ -53,14 +53,14 @@ use Rattle.intake_cutting.specs.Cutting.{KeptImage, CutCall}
 
 -- ── where the image is known and the ends are kept ──
 module _ (v : Vocabulary) (roster triples : List ℕ) (held i : ℕ) (sums : List ℕ) (n : ℕ) (map₀ : List ℕ) (t : Triple) where
-  pub not_kept : KeptImage v roster triples held i sums n map₀ t Unknown
+  pub not_kept : KeptImage v roster triples held i sums n map₀ t None
   unfolding KeptImage
   not_kept = tt
 
-  pub kept-found : (r : ImageAt) → EndsKept v roster (at triples) held i t → ImageFound sums n map₀ t r → KeptImage v roster triples held i sums n map₀ t r
+  pub kept-found : (r : Option ℕ) → EndsKept v roster (at triples) held i t → ImageFound sums n map₀ t r → KeptImage v roster triples held i sums n map₀ t r
   unfolding KeptImage ImageFound
-  kept-found Unknown E f = tt
-  kept-found (At j) E f = (E, f)
+  kept-found None E f = tt
+  kept-found (Some j) E f = (E, f)
 
 module _ (v : Vocabulary) (roster triples sums weighed map₀ work : List ℕ) (held summarised i : ℕ)
     (R : Ready v roster triples sums weighed map₀ work (at triples i)) (low : i < held) (fits : held ≤ length triples / 3) where
@@ -87,7 +87,7 @@ module _ (v : Vocabulary) (roster triples sums weighed map₀ work : List ℕ) (
     pub kept-asks : Below (length roster) u × Below (length map₀) u × (i < held) × (3 * held ≤ length triples)
     kept-asks = (subst (Below (length roster)) (sym e) below-roster, subst (Below (length map₀)) (sym e) below-map, low, omega (arith, fits))
 
-    pub kept_at : (r : ImageAt) (j : ℕ) → KeptImage v roster triples held i sums summarised map₀ u r → r ≡ At j
+    pub kept_at : (r : Option ℕ) (j : ℕ) → KeptImage v roster triples held i sums summarised map₀ u r → r ≡ Some j
         → EndsKept v roster (at triples) held i t × KnownAt sums summarised map₀ t j
     unfolding KeptImage
     kept_at r j f q =

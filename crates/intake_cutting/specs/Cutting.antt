@@ -7,16 +7,16 @@ use Rattle.model.specs.Triples.{without}
 use Rattle.model.specs.Outcomes.{Outcome, accepted, Answer, answer, Said, removed}
 use Rattle.model.specs.Intake.{State, removing, OwnOrAccepted, state_of, Valid, InAnyState}
 use Rattle.lists.specs.Flat.{at}
-use Rattle.intake_insertion.specs.declared.ImageAt.{ImageAt}
-use Rattle.intake_insertion.specs.declared.ImageAt.TheVariants.{Unknown, At}
+use Rattle.std.specs.declared.option.Option.{Option}
+use Rattle.std.specs.declared.option.Option.TheVariants.{None, Some}
 use Rattle.intake_insertion.specs.Places.{KnownAt}
 use Rattle.intake_ends.specs.Ends.{EndsKept}
 
 module _ (v : Vocabulary) where
   -- where a place is answered, the others keep t's ends, and its image stands there
-  unfoldable pub KeptImage : (roster triples : List ℕ) (held i : ℕ) (summary : List ℕ) (n : ℕ) (map : List ℕ) (t : Triple) → ImageAt → Type 0
-  KeptImage roster triples held i summary n map t Unknown = Unit {0}
-  KeptImage roster triples held i summary n map t (At j) = EndsKept v roster (at triples) held i t × KnownAt summary n map t j
+  unfoldable pub KeptImage : (roster triples : List ℕ) (held i : ℕ) (summary : List ℕ) (n : ℕ) (map : List ℕ) (t : Triple) → Option ℕ → Type 0
+  KeptImage roster triples held i summary n map t None = Unit {0}
+  KeptImage roster triples held i summary n map t (Some j) = EndsKept v roster (at triples) held i t × KnownAt summary n map t j
 
   module _ (roster : List ℕ) (s : State) (work : List ℕ) where
     -- the triple at place i

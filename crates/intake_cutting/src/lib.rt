@@ -12,7 +12,7 @@ ghost use Rattle.intake_cutting.specs.Cutting.{KeptImage, CutCall};
 use intake_calls::{CalledCounts, with_counts};
 use intake_deletion::{delete_at, lighten};
 use intake_ends::ends_kept;
-use intake_insertion::{ImageAt, held_wrong, image_place};
+use intake_insertion::{held_wrong, image_place};
 use intake_weighing::renew;
 use lists::{clear, triple_at};
 use model::{Refusal, Reply, Triple, Vocabulary};
@@ -29,14 +29,14 @@ fn kept_image(
     summarised: usize,
     map: &[u32],
     t: Triple,
-) -> ImageAt
+) -> Option<usize>
     requires { Below (length roster.now) t × Below (length map.now) t × (i < held) × (3 * held ≤ length triples.now) }
     ensures { KeptImage words roster.now triples.now held i summary.now summarised map.now t result }
 {
     if ends_kept(words, roster, triples, held, i, t) {
         return image_place(summary, summarised, map, t);
     }
-    ImageAt::Unknown
+    None
 }
 
 // Takes out the triple at place i where a class may change: summary, weights and map are made anew. Only an intake altered by hand
@@ -88,7 +88,7 @@ pub fn cut(
         (at_exit triples summary weights map result.counts.held result.counts.summarised) work.new }
 {
     let t = triple_at(triples, i);
-    let ImageAt::At(j) = kept_image(words, roster, triples, held, i, summary, summarised, map, t)
+    let Some(j) = kept_image(words, roster, triples, held, i, summary, summarised, map, t)
     else {
         return cut_anew(
             held, summarised, words, roster, triples, summary, weights, map, work, i,

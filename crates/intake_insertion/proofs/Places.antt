@@ -25,8 +25,8 @@ use Rattle.lists.specs.Flat.{at}
 use Rattle.lists.proofs.Places.{same_default}
 use Rattle.lists.proofs.Search.{bound-here, bound-past}
 use Rattle.builder.specs.Builder.{first}
-use Rattle.intake_insertion.specs.declared.ImageAt.{ImageAt}
-use Rattle.intake_insertion.specs.declared.ImageAt.TheVariants.{Unknown, At}
+use Rattle.std.specs.declared.option.Option.{Option}
+use Rattle.std.specs.declared.option.Option.TheVariants.{None, Some}
 use Rattle.intake_insertion.specs.Places.{StandsAt, KnownAt, ImageFound, bad}
 
 -- ── a triple at a place ──
@@ -46,17 +46,17 @@ module _ (l : List ℕ) (n i : ℕ) (t : Triple) where
 
 -- ── the image of a triple ──
 module _ (summary : List ℕ) (n : ℕ) (map : List ℕ) (t : Triple) where
-  pub not_found : ImageFound summary n map t Unknown
+  pub not_found : ImageFound summary n map t None
   unfolding ImageFound
   not_found = tt
 
-  pub found_at : (r : ImageAt) (j : ℕ) → ImageFound summary n map t r → r ≡ At j → KnownAt summary n map t j
+  pub found_at : (r : Option ℕ) (j : ℕ) → ImageFound summary n map t r → r ≡ Some j → KnownAt summary n map t j
   unfolding ImageFound
   found_at r j f e = subst (ImageFound summary n map t) e f
 
 module _ (summary : List ℕ) (n : ℕ) (map : List ℕ) (t : Triple) (below : Below (length map) t) (fits : n ≤ length summary / 3) where
   pub known_is : (a b : ℕ) → a ≡ t.subject → b ≡ t.object → eqb (get_or map a 0) absent ≡ false → eqb (get_or map b 0) absent ≡ false
-      → (i : ℕ) (r : Bool) → StandsAt summary n i (triple (get_or map a 0) t.property (get_or map b 0)) r → r ≡ true → ImageFound summary n map t (At i)
+      → (i : ℕ) (r : Bool) → StandsAt summary n i (triple (get_or map a 0) t.property (get_or map b 0)) r → r ≡ true → ImageFound summary n map t (Some i)
   unfolding ImageFound
   known_is a b p q x y i r w h =
       let s : get_or map a 0 ≡ label map t.subject = ap (λ (z : ℕ). get_or map z 0) p ∙ same_default map t.subject 0 absent below.subject in

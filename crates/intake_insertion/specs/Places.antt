@@ -10,8 +10,8 @@ use Rattle.model.specs.Partition.{label}
 use Rattle.model.specs.Summary.{moved}
 use Rattle.lists.specs.Flat.{at, RisingPart, Bound}
 use Rattle.builder.specs.Builder.{first}
-use Rattle.intake_insertion.specs.declared.ImageAt.{ImageAt}
-use Rattle.intake_insertion.specs.declared.ImageAt.TheVariants.{Unknown, At}
+use Rattle.std.specs.declared.option.Option.{Option}
+use Rattle.std.specs.declared.option.Option.TheVariants.{None, Some}
 
 -- a yes means that t stands at place i, below n; where the first n triples rise and i is the place at which t belongs, the answer is whether t is
 -- one of them
@@ -28,9 +28,9 @@ pub record KnownAt (summary : List ℕ) (n : ℕ) (map : List ℕ) (t : Triple) 
   pub image : at summary j ≡ moved (label map) t
 
 -- where a place is answered, the image stands there
-unfoldable pub ImageFound : (summary : List ℕ) (n : ℕ) (map : List ℕ) (t : Triple) → ImageAt → Type 0
-ImageFound summary n map t Unknown = Unit {0}
-ImageFound summary n map t (At j) = KnownAt summary n map t j
+unfoldable pub ImageFound : (summary : List ℕ) (n : ℕ) (map : List ℕ) (t : Triple) → Option ℕ → Type 0
+ImageFound summary n map t None = Unit {0}
+ImageFound summary n map t (Some j) = KnownAt summary n map t j
 
 -- a wrong code, or a role that is not marked
 unfoldable pub bad : Vocabulary → List ℕ → Triple → Bool

@@ -30,28 +30,22 @@ pub fn stands_at(list: &[u32], count: usize, i: usize, t: Triple) -> bool
     i < count && t == triple_at(list, i)
 }
 
-// Where the image of a triple stands in the summary; unknown where an end is no node or the image is not there.
-#[derive(Clone, Copy)]
-pub enum ImageAt {
-    Unknown,
-    At(usize),
-}
-
-// The place of t's image. Where it is known, taking t in changes neither the map nor the summary; of taking t out it says nothing.
-pub fn image_place(summary: &[u32], summarised: usize, map: &[u32], t: Triple) -> ImageAt
+// The place of t's image in the summary; None where an end is no node or the image is not there. Where there is one, taking t in changes
+// neither the map nor the summary; of taking t out it says nothing.
+pub fn image_place(summary: &[u32], summarised: usize, map: &[u32], t: Triple) -> Option<usize>
     requires { Below (length map.now) t }
     ensures { ImageFound summary.now summarised map.now t result }
 {
     if summary.len() / 3 < summarised {
-        return ImageAt::Unknown;
+        return None;
     }
     let subject = map[wide(t.subject)];
     if Code(subject).is_absent() {
-        return ImageAt::Unknown;
+        return None;
     }
     let object = map[wide(t.object)];
     if Code(object).is_absent() {
-        return ImageAt::Unknown;
+        return None;
     }
     let image = Triple {
         subject,
@@ -60,9 +54,9 @@ pub fn image_place(summary: &[u32], summarised: usize, map: &[u32], t: Triple) -
     };
     let i = lower_bound(summary, 0, summarised, image);
     if stands_at(summary, summarised, i, image) {
-        return ImageAt::At(i);
+        return Some(i);
     }
-    ImageAt::Unknown
+    None
 }
 
 // Whether one of the first `count` triples has a wrong code or is not covered.

@@ -49,14 +49,12 @@ fn weigh(
         × (work.new ≡ zeros (length work.old)) }
 {
     clear(weights, 0, weights.len());
-    let mut i = 0;
-    while i < count {
+    for i in 0..count {
         let t = triple_at(triples, i);
         let p = wide(t.property);
         let j = place_near(summary, k, wide(work[p]), image(map, t));
         work[p] = narrow(j);
-        weights[j] = weights[j] + 1;
-        i += 1;
+        weights[j] += 1;
     }
     clear(work, 0, work.len());
 }

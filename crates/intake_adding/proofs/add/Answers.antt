@@ -15,7 +15,7 @@ increment-requires c = let a = c.args in
     let p = c.requires in
     weight-there _ a.roster.now a.triples.now a.summary.now a.weights.now a.map.now a.work.now a.held a.summarised
     a.t a.i p.0 p.1 p.2 _ c.insert_at.ensures _
-    (found_at _ _ _ _ _ _ c.image_place.ensures c.in-At.is)
+    (found_at _ _ _ _ _ _ c.image_place.ensures c.in-Some.is)
 
 pub returns : goal.returns
 returns c = let a = c.args in
@@ -23,4 +23,4 @@ returns c = let a = c.args in
     as_counted (AddCall _ a.roster.now _ a.work.now a.t a.i) _ _ _ _ c.with_counts.ensures _ _ _ _ _
     (added_quick _ a.roster.now a.triples.now a.summary.now a.weights.now a.map.now a.work.now a.held a.summarised
     a.t a.i p.0 p.1 p.2 _ c.insert_at.ensures _
-    (found_at _ _ _ _ _ _ c.image_place.ensures c.in-At.is) _ c.increment.ensures _ c.clear.ensures)
+    (found_at _ _ _ _ _ _ c.image_place.ensures c.in-Some.is) _ c.increment.ensures _ c.clear.ensures)

@@ -12,7 +12,7 @@ kept_image-requires c = kept-asks _ c.args.roster.now c.args.triples.now c.args.
 pub lighten-lines-requires : goal.lighten-lines-requires
 lighten-lines-requires c = let k = kept_at _ c.args.roster.now c.args.triples.now c.args.summary.now c.args.weights.now
     c.args.map.now c.args.work.now c.args.held c.args.summarised c.args.i c.requires.0
-    c.requires.1 c.requires.2 _ c.triple_at-t.ensures _ _ c.kept_image.ensures c.in-At.is in lightable _
+    c.requires.1 c.requires.2 _ c.triple_at-t.ensures _ _ c.kept_image.ensures c.in-Some.is in lightable _
     c.args.roster.now c.args.triples.now c.args.summary.now c.args.weights.now c.args.map.now
     c.args.work.now c.args.held c.args.summarised c.args.i c.requires.0 c.requires.1 c.requires.2 _
     c.delete_at.ensures k.0 _ k.1
@@ -23,7 +23,7 @@ overflow_sub-held c = omega (arith, c.requires.1)
 pub returns : goal.returns
 returns c = let k = kept_at _ c.args.roster.now c.args.triples.now c.args.summary.now c.args.weights.now
     c.args.map.now c.args.work.now c.args.held c.args.summarised c.args.i c.requires.0
-    c.requires.1 c.requires.2 _ c.triple_at-t.ensures _ _ c.kept_image.ensures c.in-At.is in as_counted
+    c.requires.1 c.requires.2 _ c.triple_at-t.ensures _ _ c.kept_image.ensures c.in-Some.is in as_counted
     (CutCall _ c.args.roster.now _ c.args.work.now c.args.i) _ _ _ _ c.with_counts.ensures _ _ _ _ _
     (cut_quick _ c.args.roster.now c.args.triples.now c.args.summary.now c.args.weights.now
     c.args.map.now c.args.work.now c.args.held c.args.summarised c.args.i c.requires.0
