@@ -65,13 +65,13 @@ fn pair(source: Source<'_>, pool: &mut Pool, i: usize) -> [Call; 2] {
     [feed(source, pool, i), feed(source, pool, i.min(60) + 1)]
 }
 
-fn fill_calls(source: Source<'_>, calls: &mut [Call; 60]) {
+fn fill_calls(source: Source<'_>, calls: &mut [Call]) {
     let mut pool = Pool {
         places: [0; 33],
         count: 0,
         slots: room(source.seed) / 3,
     };
-    for k in 0..30 {
+    for k in 0..calls.len() / 2 {
         let both = pair(source, &mut pool, 2 * k);
         calls[2 * k..2 * k + 2].copy_from_slice(&both);
     }
@@ -79,7 +79,7 @@ fn fill_calls(source: Source<'_>, calls: &mut [Call; 60]) {
 
 pub fn all(rt: &impl Print, tally: &mut Tally) -> io::Result<()> {
     for seed in 3000000..3010000 {
-        play(rt, tally, seed, fill_calls)?;
+        play::<60, _>(rt, tally, seed, fill_calls)?;
     }
     Ok(())
 }

@@ -120,7 +120,7 @@ fn case_of(seed: u64, n: usize, calls: usize) -> Case {
 }
 
 // A site that is drawn, with its calls: how many, and how they are filled in from a source.
-pub fn play<const CALLS: usize, F: Fn(Source<'_>, &mut [Call; CALLS])>(
+pub fn play<const CALLS: usize, F: Fn(Source<'_>, &mut [Call])>(
     rt: &impl Print,
     tally: &mut Tally,
     seed: u64,
@@ -158,16 +158,16 @@ pub fn play<const CALLS: usize, F: Fn(Source<'_>, &mut [Call; CALLS])>(
     Ok(())
 }
 
-// The 30 triples of a table, one after the other.
-fn fill_feeds(source: Source<'_>, calls: &mut [Call; 30]) {
-    for i in 0..30 {
+// The triples of a table, one after the other.
+fn fill_feeds(source: Source<'_>, calls: &mut [Call]) {
+    for i in 0..calls.len() {
         calls[i] = source.feed(i, i);
     }
 }
 
 pub fn all(rt: &impl Print, tally: &mut Tally) -> io::Result<()> {
     for seed in 2000000..2030000 {
-        play(rt, tally, seed, fill_feeds)?;
+        play::<30, _>(rt, tally, seed, fill_feeds)?;
     }
     Ok(())
 }
