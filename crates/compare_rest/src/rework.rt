@@ -109,7 +109,7 @@ fn summary_of(call: Call, site: Site<'_>, res: &mut [u32], map: &mut [u32]) -> u
     } = site;
     let mut work = [0u32; 48];
     let w = 2 * roster.len().min(24);
-    let got = condense(call, words, table, roster, res, map, &mut work[0..w]).into();
+    let got: Answer = condense(call, words, table, roster, res, map, &mut work[0..w]).into();
     triples_end(got.count, res.len())
 }
 
@@ -122,7 +122,7 @@ pub fn closure(site: Site<'_>, closed: &mut [u32]) -> usize
         table,
         roster,
     } = site;
-    let got = saturate::saturate(words, table, roster, closed).into();
+    let got: Answer = saturate::saturate(words, table, roster, closed).into();
     triples_end(got.count, closed.len())
 }
 

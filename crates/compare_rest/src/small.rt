@@ -90,7 +90,7 @@ impl Case<'_> {
         let mut closed = [0u32; 60];
         let table = self.table;
         let roster = &mut roster[..self.map.len().min(24)];
-        naive_checks::own_roster(plain_words(rdfs_words()), table, roster);
+        let _ = naive_checks::own_roster(plain_words(rdfs_words()), table, roster);
         let site = Site {
             words: rdfs_words(),
             table,

@@ -155,7 +155,7 @@ pub fn saturate_and_print(
     requires { (site.now.asks ≤ most_asks) × CheckedTable site.now.words table.now (length roster.old) × (length list.old ≡ 3 * printer_slots) }
     ensures { Put out.old 0 (shown (saturation_outcome site.now.words (length roster.old) (triples table.now) site.now.queries site.now.asks)) out.new result }
 {
-    own_roster(site.words, table, roster);
+    let _ = own_roster(site.words, table, roster); // a checked table has one
     let Ok(k) = saturate(site.words, table, roster, list) else {
         return refuse(out, Refusal::Slots);
     };
