@@ -86,7 +86,7 @@ fn leaves(site: Site<'_>, list: &[u32]) -> bool {
     let n = roster.len().min(32);
     let result = &mut space[..list.len().min(42)];
     junk(result);
-    summarise_strong::summarise_strong(
+    let _ = summarise_strong::summarise_strong(
         words,
         table,
         roster,
