@@ -2,7 +2,7 @@
 ghost use Rattle.std.specs.Prelude.{◌≡◌, ◌≤◌, IfOk, OnErr, length};
 
 use super::maps::{carries, own_map};
-use comparison::answers::{answer, of_counted};
+use comparison::answers::{Answer, of_counted};
 use comparison::calls::table_call;
 use comparison::engines::{junk_marks, left, of_lengths};
 use comparison_report::digest::{Run, Seen, same};
@@ -30,7 +30,7 @@ fn left_with(
     left(
         rt,
         run,
-        answer(0, summary.len() / 3),
+        Answer::from(summary.len() / 3),
         marks,
         summary,
         first,
