@@ -18,7 +18,7 @@ use Rattle.model.specs.declared.Refusal.{Refusal}
 use Rattle.model.specs.Outcomes.{refused, refusal_number, outcome_by, outcome_of}
 use Rattle.query.specs.declared.Asked.{Asked}
 use Rattle.query.specs.declared.Asked.TheVariants.{Maybe, None}
-use Rattle.query.specs.Ask.{asked}
+use Rattle.query.specs.Ask.{asked, says_maybe}
 use Rattle.site_form.specs.Text.{bytes, numeral}
 use Rattle.site_form.specs.Printing.{refused_line, summary_line, pair_line, node_line, node_lines, maybe_line, none_line, retired_line, answer_line}
 use Rattle.site_bytes.specs.Calls.{Room, Put}
@@ -201,11 +201,11 @@ module _ (from : ℕ) {xs ys : List ℕ} (e : xs ≡ ys) where
 
 -- ── the line of an answer ──
 module _ (a : Result Asked Refusal) where
-  pub line-maybe : a ≡ Maybe → answer_line (asked a) ≡ maybe_line
+  pub line-maybe : a ≡ Ok Maybe → answer_line (asked a) ≡ maybe_line
   unfolding answer_line outcome_by says_maybe
   line-maybe e = ap (λ (x : Result Asked Refusal). answer_line (asked x)) e
 
-  pub line-none : a ≡ None → answer_line (asked a) ≡ none_line
+  pub line-none : a ≡ Ok None → answer_line (asked a) ≡ none_line
   unfolding answer_line outcome_by says_maybe
   line-none e = ap (λ (x : Result Asked Refusal). answer_line (asked x)) e
 

@@ -21,7 +21,7 @@ use Rattle.query.specs.declared.Asked.{Asked}
 use Rattle.query.specs.declared.Asked.TheVariants.{Maybe, None}
 use Rattle.query.specs.declared.Pattern.{Pattern}
 use Rattle.query.specs.declared.Query.{Query}
-use Rattle.query.specs.Ask.{asked, ask_outcome}
+use Rattle.query.specs.Ask.{asked, ask_outcome, says_maybe}
 use Rattle.site_form.specs.Reading.{query_of, queries_of}
 use Rattle.site_form.specs.Printing.{is_wrong, query_answers}
 use Rattle.site_report.specs.Lines.{answer_at, answers_in}
@@ -29,11 +29,11 @@ use Rattle.table_printing.specs.Outcomes.{no_query, asked_of}
 
 -- ── one answer ──
 module _ (a : Result Asked Refusal) where
-  pub not_maybe : a ≡ Maybe → false ≡ is_wrong (asked a)
+  pub not_maybe : a ≡ Ok Maybe → false ≡ is_wrong (asked a)
   unfolding outcome_by says_maybe
   not_maybe e = ap (λ (x : Result Asked Refusal). is_wrong (asked x)) (sym e)
 
-  pub not_none : a ≡ None → false ≡ is_wrong (asked a)
+  pub not_none : a ≡ Ok None → false ≡ is_wrong (asked a)
   unfolding outcome_by says_maybe
   not_none e = ap (λ (x : Result Asked Refusal). is_wrong (asked x)) (sym e)
 
@@ -70,7 +70,7 @@ module _ (v : Vocabulary) where
       pub size : length answers ≡ 16
       pub same : (j : ℕ) → j < i → answer_at answers j ≡ outcome_at j
 
-    pub asks-start : Asking (replicate 16 Maybe) 0
+    pub asks-start : Asking (replicate 16 (Ok Maybe)) 0
     asks-start = record { size = refl; same = λ j h. absurd (omega arith) }
 
     pub asks-step : (answers : List Result Asked Refusal) (i : ℕ) → Asking answers i → i < 16 → (a : Result Asked Refusal) → asked a ≡ outcome_at i → Asking (set answers i a) (i + 1)
@@ -80,10 +80,10 @@ module _ (v : Vocabulary) where
     }
       where
         go : (j : ℕ) → j < i + 1 → Cmp j i → answer_at (set answers i a) j ≡ outcome_at j
-        go j m (lt x) = ap asked (get_or-set_other answers i j a Maybe (omega arith)) ∙ h.same j x
+        go j m (lt x) = ap asked (get_or-set_other answers i j a (Ok Maybe) (omega arith)) ∙ h.same j x
         go j m (eq x) =
             ap (λ (z : ℕ). answer_at (set answers i a) z) x
-            ∙ ap asked (get_or-set_same answers i a Maybe (omega (arith, h.size)))
+            ∙ ap asked (get_or-set_same answers i a (Ok Maybe) (omega (arith, h.size)))
             ∙ e
             ∙ ap outcome_at (sym x)
         go j m (gt x) = absurd (omega arith)
