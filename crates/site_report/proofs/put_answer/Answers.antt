@@ -2,19 +2,19 @@ use Rattle.site_report.proofs.Lines.{room_as, put_as, line-maybe, line-none, lin
 use Rattle.site_report.proofs.put_answer.Goals as goal
 
 pub put-requires : goal.put-requires
-put-requires c = room_as _ (line-maybe _ c.in-Maybe.is) c.requires
+put-requires c = room_as _ (line-maybe _ c.in-Ok-Maybe.is) c.requires
 
-pub put-requires-in-None : goal.put-requires-in-None
-put-requires-in-None c = room_as _ (line-none _ c.in-None.is) c.requires
+pub put-requires-in-Ok-None : goal.put-requires-in-Ok-None
+put-requires-in-Ok-None c = room_as _ (line-none _ c.in-Ok-None.is) c.requires
 
 pub put_refused_query-requires : goal.put_refused_query-requires
-put_refused_query-requires c = room_as _ (line_refused _ _ c.in-Refused.is) c.requires
+put_refused_query-requires c = room_as _ (line_refused _ _ c.in-Err.is) c.requires
 
-pub returns-in-Maybe : goal.returns-in-Maybe
-returns-in-Maybe c = record { put = put_as _ (line-maybe _ c.in-Maybe.is) _ _ _ c.put.ensures.put; lent = c.put.ensures.lent }
+pub returns-in-Ok-Maybe : goal.returns-in-Ok-Maybe
+returns-in-Ok-Maybe c = record { put = put_as _ (line-maybe _ c.in-Ok-Maybe.is) _ _ _ c.put.ensures.put; lent = c.put.ensures.lent }
 
-pub returns-in-None : goal.returns-in-None
-returns-in-None c = record { put = put_as _ (line-none _ c.in-None.is) _ _ _ c.put-in-None.ensures.put; lent = c.put-in-None.ensures.lent }
+pub returns-in-Ok-None : goal.returns-in-Ok-None
+returns-in-Ok-None c = record { put = put_as _ (line-none _ c.in-Ok-None.is) _ _ _ c.put-in-Ok-None.ensures.put; lent = c.put-in-Ok-None.ensures.lent }
 
-pub returns-in-Refused : goal.returns-in-Refused
-returns-in-Refused c = record { put = put_as _ (line_refused _ _ c.in-Refused.is) _ _ _ c.put_refused_query.ensures.put; lent = c.put_refused_query.ensures.lent }
+pub returns-in-Err : goal.returns-in-Err
+returns-in-Err c = record { put = put_as _ (line_refused _ _ c.in-Err.is) _ _ _ c.put_refused_query.ensures.put; lent = c.put_refused_query.ensures.lent }
