@@ -185,10 +185,10 @@ module _ {A : Type 0} (f : A → List ℕ) (g : ℕ → A) where
   collect-numbers i zero = refl
   collect-numbers i (suc n) = ap (λ (x : List ℕ). f (g i) ++ x) (collect-numbers (suc i) n)
 
-abbrev pub line_at : List Result Asked Refusal → ℕ → List ℕ
+abbrev pub line_at : List (Result Asked Refusal) → ℕ → List ℕ
 line_at answers i = answer_line (answer_at answers i)
 
-pub answers_are : (answers : List Result Asked Refusal) (n : ℕ) → collect answer_line (answers_in answers n) ≡ numbered (line_at answers) n
+pub answers_are : (answers : List (Result Asked Refusal)) (n : ℕ) → collect answer_line (answers_in answers n) ≡ numbered (line_at answers) n
 unfolding answers_in
 answers_are answers n = collect-numbers answer_line (answer_at answers) 0 n
 
