@@ -27,20 +27,6 @@ use Rattle.site_form.specs.Printing.{is_wrong, query_answers}
 use Rattle.site_report.specs.Lines.{answer_at, answers_in}
 use Rattle.table_printing.specs.Outcomes.{no_query, asked_of}
 
--- ── one answer ──
-module _ (a : Result Asked Refusal) where
-  pub not_maybe : a ≡ Ok Maybe → false ≡ is_wrong (asked a)
-  unfolding outcome_by says_maybe
-  not_maybe e = ap (λ (x : Result Asked Refusal). is_wrong (asked x)) (sym e)
-
-  pub not_none : a ≡ Ok None → false ≡ is_wrong (asked a)
-  unfolding outcome_by says_maybe
-  not_none e = ap (λ (x : Result Asked Refusal). is_wrong (asked x)) (sym e)
-
-  pub if_refused : (r : Refusal) (t : Bool) → a ≡ Err r → t ≡ eqb (refusal_number r) 12 → not t ≡ is_wrong (asked a)
-  unfolding outcome_by says_maybe
-  if_refused r t e h = ap not h ∙ ap (λ (x : Result Asked Refusal). is_wrong (asked x)) (sym e)
-
 -- ── some answer ──
 pub wrong-by : (answers : List (Result Asked Refusal)) (n : ℕ) {b : Bool} → b ≡ any is_wrong (tabulate (answer_at answers) 0 n) → b ≡ any is_wrong (answers_in answers n)
 unfolding answers_in
