@@ -12,6 +12,7 @@ ghost use Rattle.rule_walk.specs.Rounds.{RoundReady, Drawn, DrawnPartners, Drawn
 use builder::{Builder, Full, offer};
 use lists::{lower_bound, triple_at};
 use model::{Rule, Triple, Vocabulary};
+use std::ops::Range;
 use rule_premises::{drives, fits, gives, partner_key, rule_at, same_front, second_drives};
 
 // Draws the conclusion of a rule from two triples of the frozen part, where they fit.
@@ -93,13 +94,18 @@ fn draw_rule(words: Vocabulary, list: &mut [u32], b: Builder, r: Rule) -> Result
     Ok(state)
 }
 
-// One round: all conclusions of the rules at the table's places low..high from the first `count` triples, which are in rising order.
-pub fn round(words: Vocabulary, list: &mut [u32], count: usize, low: usize, high: usize) -> Result<Builder, Full>
-    requires { (3 * count ≤ length list.old) × RisingPart (at list.old) 0 count × (high ≤ rule_count) }
-    ensures { Rounded words list.old list.new count low high result }
+// One round: all conclusions of the rules at these places of the table from the first `count` triples, which are in rising order.
+pub fn round(
+    words: Vocabulary,
+    list: &mut [u32],
+    count: usize,
+    places: Range<usize>,
+) -> Result<Builder, Full>
+    requires { (3 * count ≤ length list.old) × RisingPart (at list.old) 0 count × (places.end ≤ rule_count) }
+    ensures { Rounded words list.old list.new count places.start places.end result }
 {
     let mut state = Builder::new(count, count);
-    for k in low..high {
+    for k in places.start..places.end {
         state = draw_rule(words, list, state, rule_at(k))?;
     }
     Ok(state)

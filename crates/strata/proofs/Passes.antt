@@ -34,7 +34,6 @@ use Rattle.strata.specs.Strata.{Closed, Swept, FreeEnds, Grounded, Stratified, r
 use Rattle.strata.proofs.Closing.{front-sorted}
 use Rattle.schema_load.proofs.Loading.{kind-schema, chosen-schema, part-mem, mem-part, parts}
 use Rattle.theory.proofs.Lists.{tabulate-mem}
-use Rattle.strata.specs.declared.Stratum.{Stratum}
 
 module _ (v : Vocabulary) where
   -- ── behind a front that is sorted first ──
@@ -94,19 +93,19 @@ module _ (v : Vocabulary) where
 
   -- ── three passes ──
   -- the rules of a pass stand at its places of the table
-  abbrev rules_of : Stratum → List Rule
-  rules_of s = tabulate (λ k. get_or rules k no_rule) s.low (s.high - s.low)
+  abbrev rules_of : ℕ × ℕ → List Rule
+  rules_of s = tabulate (λ k. get_or rules k no_rule) s.0 (s.1 - s.0)
 
-  draws_of : (s : Stratum) (X Y : List Triple) → Draws v s.low s.high X Y → (r : Rule) → Mem r (rules_of s) → (a b : Triple) → Mem a X → Mem b X → fits v r a b ≡ true → Mem (gives v r a b) Y
+  draws_of : (s : ℕ × ℕ) (X Y : List Triple) → Draws v s.0 s.1 X Y → (r : Rule) → Mem r (rules_of s) → (a b : Triple) → Mem a X → Mem b X → fits v r a b ≡ true → Mem (gives v r a b) Y
   draws_of s X Y D r m a b x y =
-      let z = tabulate-mem (λ k. get_or rules k no_rule) s.low (s.high - s.low) m in
+      let z = tabulate-mem (λ k. get_or rules k no_rule) s.0 (s.1 - s.0) m in
       subst (λ (q : Rule). fits v q a b ≡ true → Mem (gives v q a b) Y) (sym z.3) (D z.0 z.1 (omega (arith, z.2)) a b x y)
 
-  pub strata-first : (l m : List ℕ) (filled : ℕ) (y : Full) → Swept v l m filled retyping.low retyping.high (Err y) → Stratified v l m filled (Err y)
+  pub strata-first : (l m : List ℕ) (filled : ℕ) (y : Full) → Swept v l m filled retyping.0 retyping.1 (Err y) → Stratified v l m filled (Err y)
   strata-first l m filled y P = record { size = P.size; room = tt; exact = tt; over = P.over }
 
-  module _ (l m : List ℕ) (filled : ℕ) (b : Builder) (P : Swept v l m filled retyping.low retyping.high (Ok b)) where
-    pub strata-second : (n : List ℕ) (y : Full) → Swept v m n b.filled typing.low typing.high (Err y) → Stratified v l n filled (Err y)
+  module _ (l m : List ℕ) (filled : ℕ) (b : Builder) (P : Swept v l m filled retyping.0 retyping.1 (Ok b)) where
+    pub strata-second : (n : List ℕ) (y : Full) → Swept v m n b.filled typing.0 typing.1 (Err y) → Stratified v l n filled (Err y)
     strata-second n y Q =
         record {
           size = Q.size ∙ P.size;
@@ -115,8 +114,8 @@ module _ (v : Vocabulary) where
           over = λ out h. subst (λ (z : ℕ). z / 3 < length out) P.size (Q.over out (λ u d. h u (derives_cut v P.derived d)));
         }
 
-    module _ (n : List ℕ) (c : Builder) (Q : Swept v m n b.filled typing.low typing.high (Ok c)) where
-      pub strata-third : (o : List ℕ) (x : Result Builder Full) → Swept v n o c.filled renaming.low renaming.high x → Stratified v l o filled x
+    module _ (n : List ℕ) (c : Builder) (Q : Swept v m n b.filled typing.0 typing.1 (Ok c)) where
+      pub strata-third : (o : List ℕ) (x : Result Builder Full) → Swept v n o c.filled renaming.0 renaming.1 x → Stratified v l o filled x
       unfolding tabulate
       strata-third o (Ok d) R =
           record {

@@ -13,17 +13,16 @@ use Rattle.builder.specs.Builder.{first}
 use Rattle.rule_walk.specs.Rounds.{Draws}
 use Rattle.schema_load.specs.declared.Share.TheVariants.{Schema}
 use Rattle.schema_load.specs.Loading.{part}
-use Rattle.strata.specs.declared.Stratum.{Stratum}
 
--- the rules of each pass: which retype, which type an end, which rename
-abbrev pub retyping : Stratum
-retyping = record { low = 4; high = 5 }
+-- the places of the rules of each pass, from one to before another: which retype, which type an end, which rename
+abbrev pub retyping : ℕ × ℕ
+retyping = (4, 5)
 
-abbrev pub typing : Stratum
-typing = record { low = 0; high = 2 }
+abbrev pub typing : ℕ × ℕ
+typing = (0, 2)
 
-abbrev pub renaming : Stratum
-renaming = record { low = 3; high = 4 }
+abbrev pub renaming : ℕ × ℕ
+renaming = (3, 4)
 
 module _ (v : Vocabulary) where
   -- what the rules derive from G, or this is more than the slots

@@ -15,22 +15,16 @@ use model::{RULE_COUNT, Vocabulary};
 use rule_walk::round;
 use schema_load::{Share, load};
 use sorting::sort_distinct;
+use std::ops::Range;
 
-// The rules of one pass: those at the table's places from `low` to before `high`.
-#[derive(Clone, Copy)]
-pub struct Stratum {
-    pub low: usize,
-    pub high: usize,
-}
+// The places of the rules that retype: rule 5.
+const RETYPING: Range<usize> = 4..5;
 
-// The rules that retype: rule 5.
-const RETYPING: Stratum = Stratum { low: 4, high: 5 };
+// The places of the rules that type an end: 1 and 2.
+const TYPING: Range<usize> = 0..2;
 
-// The rules that type an end: 1 and 2.
-const TYPING: Stratum = Stratum { low: 0, high: 2 };
-
-// The rules that rename: rule 4.
-const RENAMING: Stratum = Stratum { low: 3, high: 4 };
+// The places of the rules that rename: rule 4.
+const RENAMING: Range<usize> = 3..4;
 
 // Rounds until one adds nothing.
 fn close(words: Vocabulary, list: &mut [u32], filled: usize) -> Result<Builder, Full>
@@ -40,7 +34,7 @@ fn close(words: Vocabulary, list: &mut [u32], filled: usize) -> Result<Builder, 
     let mut state = Builder::new(0, filled);
     while state.base < state.filled {
         let count = sort_distinct(list, 0, state.filled);
-        state = round(words, list, count, 0, RULE_COUNT)?;
+        state = round(words, list, count, 0..RULE_COUNT)?;
     }
     Ok(state)
 }
@@ -62,13 +56,18 @@ pub fn add_others(words: Vocabulary, table: &[u32], list: &mut [u32], filled: us
     load(words, table, list, count, Share::Other)
 }
 
-// One pass with the rules at the table's places low..high over the first `filled` triples.
-fn pass(words: Vocabulary, list: &mut [u32], filled: usize, low: usize, high: usize) -> Result<Builder, Full>
-    requires { (3 * filled ≤ length list.old) × (high ≤ rule_count) }
-    ensures { Swept words list.old list.new filled low high result }
+// One pass with the rules at these places of the table over the first `filled` triples.
+fn pass(
+    words: Vocabulary,
+    list: &mut [u32],
+    filled: usize,
+    places: Range<usize>,
+) -> Result<Builder, Full>
+    requires { (3 * filled ≤ length list.old) × (places.end ≤ rule_count) }
+    ensures { Swept words list.old list.new filled places.start places.end result }
 {
     let count = sort_distinct(list, 0, filled);
-    round(words, list, count, low, high)
+    round(words, list, count, places)
 }
 
 // The rules that give no schema triple, each once: rule 5, then 1 and 2, then 4. Closed schema triples give with a triple of the table, in
@@ -77,7 +76,7 @@ pub fn draw_strata(words: Vocabulary, list: &mut [u32], filled: usize) -> Result
     requires { 3 * filled ≤ length list.old }
     ensures { Stratified words list.old list.new filled result }
 {
-    let retyped = pass(words, list, filled, RETYPING.low, RETYPING.high)?;
-    let typed = pass(words, list, retyped.filled, TYPING.low, TYPING.high)?;
-    pass(words, list, typed.filled, RENAMING.low, RENAMING.high)
+    let retyped = pass(words, list, filled, RETYPING)?;
+    let typed = pass(words, list, retyped.filled, TYPING)?;
+    pass(words, list, typed.filled, RENAMING)
 }
