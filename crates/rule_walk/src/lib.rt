@@ -12,11 +12,18 @@ ghost use Rattle.rule_walk.specs.Rounds.{RoundReady, Drawn, DrawnPartners, Drawn
 use builder::{Builder, Full, offer};
 use lists::{lower_bound, triple_at};
 use model::{Rule, Triple, Vocabulary};
-use std::ops::Range;
 use rule_premises::{drives, fits, gives, partner_key, rule_at, same_front, second_drives};
+use std::ops::Range;
 
 // Draws the conclusion of a rule from two triples of the frozen part, where they fit.
-fn draw(words: Vocabulary, list: &mut [u32], b: Builder, r: Rule, a: Triple, p: Triple) -> Result<Builder, Full>
+fn draw(
+    words: Vocabulary,
+    list: &mut [u32],
+    b: Builder,
+    r: Rule,
+    a: Triple,
+    p: Triple,
+) -> Result<Builder, Full>
     requires { Built list.old b }
     ensures { Drawn words list.old list.new b result (numbered r) a p }
 {
@@ -70,7 +77,13 @@ fn draw_partners(
 }
 
 // Draws from a triple of the frozen part, where it is a driving premise, and each of its partners.
-fn draw_driver(words: Vocabulary, list: &mut [u32], b: Builder, r: Rule, driver: Triple) -> Result<Builder, Full>
+fn draw_driver(
+    words: Vocabulary,
+    list: &mut [u32],
+    b: Builder,
+    r: Rule,
+    driver: Triple,
+) -> Result<Builder, Full>
     requires { RoundReady words list.old b × Mem (numbered r) rules × Mem driver (first list.old b.base) }
     ensures { DrawnPartners words list.old list.new b result (numbered r) driver }
 {

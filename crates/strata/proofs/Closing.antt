@@ -26,7 +26,6 @@ use Rattle.lists.proofs.Places.{places-rising, rising-places}
 use Rattle.sorting.specs.Sorting.{Distinct}
 use Rattle.builder.specs.declared.Builder.{Builder}
 use Rattle.builder.specs.declared.Full.{Full}
-use Rattle.std.specs.declared.result.Result.{Result}
 use Rattle.std.specs.declared.result.Result.TheVariants.{Ok, Err}
 use Rattle.builder.specs.Builder.{first, opening}
 use Rattle.builder.proofs.Parts.{sorted_more}

@@ -48,7 +48,12 @@ pub fn derive_schema(words: Vocabulary, table: &[u32], list: &mut [u32]) -> Resu
 }
 
 // The table's other triples behind the first `filled`, or the slots are too few.
-pub fn add_others(words: Vocabulary, table: &[u32], list: &mut [u32], filled: usize) -> Result<Builder, Full>
+pub fn add_others(
+    words: Vocabulary,
+    table: &[u32],
+    list: &mut [u32],
+    filled: usize,
+) -> Result<Builder, Full>
     requires { 3 * filled ≤ length list.old }
     ensures { Added words Other (triples table.now) list.old list.new filled result }
 {
