@@ -25,6 +25,9 @@ use Rattle.lists.proofs.Compare.{Cmp, lt, eq, gt, cmp}
 use Rattle.lists.proofs.Places.{put_same, put_other, put-length, rising-places, flat-places, tabulate-agree}
 use Rattle.sorting.specs.Sorting.{Distinct}
 use Rattle.builder.specs.declared.Builder.{Builder}
+use Rattle.builder.specs.declared.Full.{Full}
+use Rattle.std.specs.declared.result.Result.{Result}
+use Rattle.std.specs.declared.result.Result.TheVariants.{Ok, Err}
 use Rattle.builder.specs.Builder.{first, Built, known, SameBase, Compacted, Offered, Finished}
 use Rattle.builder.proofs.Parts.{Stands, stands, member, Injective, rising_injective, sorted-count, sorted_more, at_agree}
 
@@ -66,24 +69,25 @@ module _ (l : List ℕ) (b : Builder) (t : Triple) where
         go (eq x) = run (omega arith)
         go (gt x) = run (omega arith)
 
-    same_base : SameBase l l b b
-    same_base = record { size = refl; base = refl; places = λ i h. refl }
+    same_base : SameBase l l b
+    same_base = record { size = refl; places = λ i h. refl }
 
     -- a known triple changes nothing
-    pub offered_known : known l b t ≡ true → Offered l l b b t
+    pub offered_known : known l b t ≡ true → Offered l l b (Ok b) t
     offered_known k =
         record {
           same_base = same_base;
-          taken = λ f. record {
+          taken = record {
+            base = refl;
             built = B;
             members = λ u. (λ m. inl m, λ w. ⊎_elim (λ m. m) (λ (e : u ≡ t). subst (λ (z : Triple). Mem z (first l b.filled)) (sym e) (known-held k)) w);
           };
-          over = λ f. absurd (true≢false (sym f ∙ B.not_full));
+          over = tt;
         }
 
 -- ── a triple put behind the tail ──
 module _ (l l' : List ℕ) (b b' : Builder) (t : Triple) (B : Built l b) (k : known l b t ≡ false) (h : 3 * b.filled + 2 < length l) (e : l' ≡ put_at l b.filled t)
-    (eb : b' ≡ record { base = b.base; sorted = b.sorted; filled = b.filled + 1; full = false }) where
+    (eb : b' ≡ record { base = b.base; sorted = b.sorted; filled = b.filled + 1 }) where
   there' : at l' b.filled ≡ t
   there' = ap (λ (x : List ℕ). at x b.filled) e ∙ put_same l b.filled t h
 
@@ -91,7 +95,7 @@ module _ (l l' : List ℕ) (b b' : Builder) (t : Triple) (B : Built l b) (k : kn
   off i x = ap (λ (z : List ℕ). at z i) e ∙ put_other l b.filled t h i (omega arith)
 
   abbrev next : Builder
-  next = record { base = b.base; sorted = b.sorted; filled = b.filled + 1; full = false }
+  next = record { base = b.base; sorted = b.sorted; filled = b.filled + 1 }
 
   append-built : Built l' next
   append-built =
@@ -102,7 +106,6 @@ module _ (l l' : List ℕ) (b b' : Builder) (t : Triple) (B : Built l b) (k : kn
         base_rising = λ i j x y z. moved i j (omega (arith, B.base_end, B.sorted_end)) (omega (arith, B.base_end, B.sorted_end)) (B.base_rising i j x y z);
         run_rising = λ i j x y z. moved i j (omega (arith, B.sorted_end)) (omega (arith, B.sorted_end)) (B.run_rising i j x y z);
         apart = λ i j x y z q. far i j x y (cmp j b.filled) z (sym (off i (omega (arith, B.base_end, B.sorted_end))) ∙ q);
-        not_full = refl;
       }
     where
       moved : (i j : ℕ) → i < b.filled → j < b.filled → Lt (at l i) (at l j) → Lt (at l' i) (at l' j)
@@ -127,17 +130,17 @@ module _ (l l' : List ℕ) (b b' : Builder) (t : Triple) (B : Built l b) (k : kn
       to s (eq x) = inr (s.is ∙ ap (at l') x ∙ there')
       to s (gt x) = absurd (omega (arith, s.high))
 
-  pub offered_append : Offered l l' b b' t
+  pub offered_append : Offered l l' b (Ok b') t
   offered_append =
-      subst (λ (z : Builder). Offered l l' b z t) (sym eb)
+      subst (λ (z : Builder). Offered l l' b (Ok z) t) (sym eb)
       (record {
-        same_base = record { size = ap {B = ℕ} (λ (x : List ℕ). length x) e ∙ put-length l b.filled t; base = refl; places = λ i x. off i (omega (arith, B.base_end, B.sorted_end)) };
-        taken = λ f. record { built = append-built; members = append-members };
-        over = λ f. absurd (true≢false (sym f));
+        same_base = record { size = ap {B = ℕ} (λ (x : List ℕ). length x) e ∙ put-length l b.filled t; places = λ i x. off i (omega (arith, B.base_end, B.sorted_end)) };
+        taken = record { base = refl; built = append-built; members = append-members };
+        over = tt;
       })
 
 -- ── compaction ──
-module _ (l l' : List ℕ) (b b' : Builder) (r : ℕ) (B : Built l b) (D : Distinct l l' b.base b.filled r) (eb : b' ≡ record { base = b.base; sorted = b.base + r; filled = b.base + r; full = false }) where
+module _ (l l' : List ℕ) (b b' : Builder) (r : ℕ) (B : Built l b) (D : Distinct l l' b.base b.filled r) (eb : b' ≡ record { base = b.base; sorted = b.base + r; filled = b.base + r }) where
   base_same : (i : ℕ) → i < b.base → at l' i ≡ at l i
   base_same i h = at_agree l l' i (D.rest (3 * i) (inl (omega arith))) (D.rest (3 * i + 1) (inl (omega arith))) (D.rest (3 * i + 2) (inl (omega arith)))
 
@@ -152,7 +155,7 @@ module _ (l l' : List ℕ) (b b' : Builder) (r : ℕ) (B : Built l b) (D : Disti
   end = b.base + r
 
   abbrev packed : Builder
-  packed = record { base = b.base; sorted = end; filled = end; full = false }
+  packed = record { base = b.base; sorted = end; filled = end }
 
   packed-built : Built l' packed
   packed-built =
@@ -165,7 +168,6 @@ module _ (l l' : List ℕ) (b b' : Builder) (r : ℕ) (B : Built l b) (D : Disti
         apart = λ i j x y z q.
             let s = stands (at l) b.base (b.filled - b.base) (at l' j) (run-to (at l' j) (member (at l') b.base r (at l' j) (record { place = j; low = y; high = z; is = refl }))) in
             B.apart i s.place x s.low (omega (arith, s.high, B.base_end, B.sorted_end)) (sym (base_same i x) ∙ q ∙ s.is);
-        not_full = refl;
       }
 
   packed-members : (u : Triple) → Mem u (first l' end) ↔ Mem u (first l b.filled)
@@ -199,45 +201,56 @@ module _ (l l' : List ℕ) (b b' : Builder) (r : ℕ) (B : Built l b) (D : Disti
   pub compacted_is : Compacted l l' b b'
   compacted_is =
       subst (Compacted l l' b) (sym eb)
-      (record { same_base = record { size = D.size; base = refl; places = base_same }; built = packed-built; all_sorted = refl; members = packed-members })
+      (record { same_base = record { size = D.size; places = base_same }; base = refl; built = packed-built; all_sorted = refl; members = packed-members })
 
 -- ── after a compaction ──
 -- an offer to the compacted list is one to the list before
-pub offered_after : (l m n : List ℕ) (b c d : Builder) (t : Triple) → Compacted l m b c → Offered m n c d t → Offered l n b d t
-offered_after l m n b c d t C O =
-    record {
-      same_base = record {
-        size = O.same_base.size ∙ C.same_base.size;
-        base = O.same_base.base ∙ C.same_base.base;
-        places = λ i h. O.same_base.places i (subst (λ (z : ℕ). i < z) (sym C.same_base.base) h) ∙ C.same_base.places i h;
-      };
-      taken = λ f. let T = O.taken f in record {
-        built = T.built;
-        members = λ u. (
-          λ x. ⊎_elim (λ y. inl ((C.members u).0 y)) (λ y. inr y) ((T.members u).0 x),
-          λ w. (T.members u).1 (⊎_elim (λ y. inl ((C.members u).1 y)) (λ y. inr y) w),
-        );
-      };
-      over = λ f. subst (λ (k : ℕ). length l / 3 < k) (same_count t) (subst (λ (k : ℕ). k / 3 < length (sorted (t ∷ first m c.filled))) C.same_base.size (O.over f));
-    }
-  where
-    same_count : (t : Triple) → length (sorted (t ∷ first m c.filled)) ≡ length (sorted (t ∷ first l b.filled))
-    same_count t = ap {B = ℕ} (λ (x : List Triple). length x) (sorted-members (t ∷ first m c.filled) (t ∷ first l b.filled)
-        (λ u. (
-          λ x. ⊎_elim (λ e. here e) (λ y. there ((C.members u).0 y)) (mem-cases x),
-          λ x. ⊎_elim (λ e. here e) (λ y. there ((C.members u).1 y)) (mem-cases x),
-        )))
+module _ (l m n : List ℕ) (b c : Builder) (t : Triple) (C : Compacted l m b c) where
+  same_count : length (sorted (t ∷ first m c.filled)) ≡ length (sorted (t ∷ first l b.filled))
+  same_count =
+      ap {B = ℕ} (λ (x : List Triple). length x) (sorted-members (t ∷ first m c.filled) (t ∷ first l b.filled)
+      (λ u. (
+        λ x. ⊎_elim (λ e. here e) (λ y. there ((C.members u).0 y)) (mem-cases x),
+        λ x. ⊎_elim (λ e. here e) (λ y. there ((C.members u).1 y)) (mem-cases x),
+      )))
+
+  same_after : SameBase m n c → SameBase l n b
+  same_after S =
+      record {
+        size = S.size ∙ C.same_base.size;
+        places = λ i h. S.places i (subst (λ (z : ℕ). i < z) (sym C.base) h) ∙ C.same_base.places i h;
+      }
+
+  pub offered_after : (r : Result Builder Full) → Offered m n c r t → Offered l n b r t
+  offered_after (Ok d) O =
+      let T = O.taken in
+      record {
+        same_base = same_after O.same_base;
+        taken = record {
+          base = T.base ∙ C.base;
+          built = T.built;
+          members = λ u. (
+            λ x. ⊎_elim (λ y. inl ((C.members u).0 y)) (λ y. inr y) ((T.members u).0 x),
+            λ w. (T.members u).1 (⊎_elim (λ y. inl ((C.members u).1 y)) (λ y. inr y) w),
+          );
+        };
+        over = tt;
+      }
+  offered_after (Err e) O =
+      record {
+        same_base = same_after O.same_base;
+        taken = tt;
+        over = subst (λ (k : ℕ). length l / 3 < k) same_count (subst (λ (k : ℕ). k / 3 < length (sorted (t ∷ first m c.filled))) C.same_base.size O.over);
+      }
 
 -- every slot holds a triple of its own, and t is none of them
-pub offered_full : (l : List ℕ) (b d : Builder) (t : Triple) → Built l b → b.sorted ≡ b.filled → known l b t ≡ false → length l / 3 ≤ b.filled
-    → d ≡ record { base = b.base; sorted = b.sorted; filled = b.filled; full = true } → Offered l l b d t
-offered_full l b d t B s k h e =
-    subst (λ (z : Builder). Offered l l b z t) (sym e)
-    (record {
-      same_base = record { size = refl; base = refl; places = λ i x. refl };
-      taken = λ f. absurd (true≢false f);
-      over = λ f. omega (arith, sorted_more t (first l b.filled) fresh, sorted-count (at l) 0 b.filled apart);
-    })
+pub offered_full : (l : List ℕ) (b : Builder) (t : Triple) (e : Full) → Built l b → b.sorted ≡ b.filled → known l b t ≡ false → length l / 3 ≤ b.filled → Offered l l b (Err e) t
+offered_full l b t e B s k h =
+    record {
+      same_base = record { size = refl; places = λ i x. refl };
+      taken = tt;
+      over = omega (arith, sorted_more t (first l b.filled) fresh, sorted-count (at l) 0 b.filled apart);
+    }
   where
     fresh : Mem t (first l b.filled) → ⊥
     fresh m = let w = stands (at l) 0 b.filled t m in unknown l b t B k w.place (omega (arith, w.high)) (sym w.is)

@@ -3,8 +3,8 @@
 // tail. When the slots are full, the part behind the base is sorted and its repeats are removed.
 #![tactic(auto)]
 
-ghost use Rattle.std.specs.Prelude.{false, ◌≡◌, ◌+◌, ◌*◌, ◌/◌, ◌<◌, ◌≤◌, length};
-ghost use Rattle.builder.specs.Builder.{Built, known, Compacted, Offered, Finished};
+ghost use Rattle.std.specs.Prelude.{Ok, false, ◌≡◌, ◌+◌, ◌*◌, ◌/◌, ◌<◌, ◌≤◌, length};
+ghost use Rattle.builder.specs.Builder.{opening, Built, known, Compacted, Offered, Finished};
 
 use lists::{clear, contains, put};
 use model::Triple;
@@ -15,14 +15,29 @@ pub struct Builder {
     pub base: usize,
     pub sorted: usize,
     pub filled: usize,
-    // More distinct triples were offered than there are slots.
-    pub full: bool,
+}
+
+// More distinct triples were offered than there are slots.
+#[derive(Clone, Copy, PartialEq, Eq)]
+pub struct Full;
+
+impl Builder {
+    // The first `base` triples frozen, and a tail behind them up to `filled`.
+    pub fn new(base: usize, filled: usize) -> Self
+        ensures { result ≡ opening base filled }
+    {
+        Self {
+            base,
+            sorted: base,
+            filled,
+        }
+    }
 }
 
 // Puts a triple behind the tail.
 fn append(list: &mut [u32], b: Builder, t: Triple) -> Builder
     requires { (3 * b.filled + 2 < length list.old) × Built list.old b × (known list.old b t ≡ false) }
-    ensures { Offered list.old list.new b result t }
+    ensures { Offered list.old list.new b (Ok result) t }
 {
     put(list, b.filled, t);
     Builder {
@@ -53,30 +68,30 @@ fn is_known(list: &[u32], b: Builder, t: Triple) -> bool
 }
 
 // Offers a triple where every slot is filled.
-fn offer_full(list: &mut [u32], b: Builder, t: Triple) -> Builder
+fn offer_full(list: &mut [u32], b: Builder, t: Triple) -> Result<Builder, Full>
     requires { Built list.old b × (length list.old / 3 ≤ b.filled) }
     ensures { Offered list.old list.new b result t }
 {
     let c = compacted(list, b);
     if is_known(list, c, t) {
-        return c;
+        return Ok(c);
     }
     if c.filled < list.len() / 3 {
-        return append(list, c, t);
+        return Ok(append(list, c, t));
     }
-    Builder { full: true, ..c }
+    Err(Full)
 }
 
-// Offers a triple: it is held afterwards, or the builder is full.
-pub fn offer(list: &mut [u32], b: Builder, t: Triple) -> Builder
+// Offers a triple: it is held afterwards, or the slots are too few.
+pub fn offer(list: &mut [u32], b: Builder, t: Triple) -> Result<Builder, Full>
     requires { Built list.old b }
     ensures { Offered list.old list.new b result t }
 {
     if is_known(list, b, t) {
-        return b;
+        return Ok(b);
     }
     if b.filled < list.len() / 3 {
-        return append(list, b, t);
+        return Ok(append(list, b, t));
     }
     offer_full(list, b, t)
 }

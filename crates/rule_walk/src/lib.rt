@@ -9,20 +9,28 @@ ghost use Rattle.builder.specs.Builder.{first, Built};
 ghost use Rattle.rule_premises.specs.Premises.{rule_count, first_of, second_of};
 ghost use Rattle.rule_walk.specs.Rounds.{RoundReady, Drawn, DrawnPartners, DrawnRule, Rounded};
 
-use builder::{Builder, offer};
+use builder::{Builder, Full, offer};
 use lists::{lower_bound, triple_at};
 use model::{Rule, Triple, Vocabulary};
 use rule_premises::{drives, fits, gives, partner_key, rule_at, same_front, second_drives};
+use std::ops::Range;
 
 // Draws the conclusion of a rule from two triples of the frozen part, where they fit.
-fn draw(words: Vocabulary, list: &mut [u32], b: Builder, r: Rule, a: Triple, p: Triple) -> Builder
+fn draw(
+    words: Vocabulary,
+    list: &mut [u32],
+    b: Builder,
+    r: Rule,
+    a: Triple,
+    p: Triple,
+) -> Result<Builder, Full>
     requires { Built list.old b }
     ensures { Drawn words list.old list.new b result (numbered r) a p }
 {
     if fits(words, r, a, p) {
         return offer(list, b, gives(words, r, a, p));
     }
-    b
+    Ok(b)
 }
 
 // Draws from a driving premise and a partner.
@@ -34,7 +42,7 @@ fn draw_pair(
     r: Rule,
     driver: Triple,
     partner: Triple,
-) -> Builder
+) -> Result<Builder, Full>
     requires { Built list.old b }
     ensures { Drawn words list.old list.new b result (numbered r) (first_of (numbered r) driver partner) (second_of (numbered r) driver partner) }
 {
@@ -51,7 +59,7 @@ fn draw_partners(
     b: Builder,
     r: Rule,
     driver: Triple,
-) -> Builder
+) -> Result<Builder, Full>
     requires { RoundReady words list.old b × Mem (numbered r) rules × Mem driver (first list.old b.base) }
     ensures { DrawnPartners words list.old list.new b result (numbered r) driver }
 {
@@ -61,29 +69,32 @@ fn draw_partners(
     for i in lower_bound(list, 0, base, key)..base {
         let partner = triple_at(list, i);
         if !same_front(partner, key) {
-            return state;
+            return Ok(state);
         }
-        state = draw_pair(words, list, state, r, driver, partner);
-        if state.full {
-            return state;
-        }
+        state = draw_pair(words, list, state, r, driver, partner)?;
     }
-    state
+    Ok(state)
 }
 
 // Draws from a triple of the frozen part, where it is a driving premise, and each of its partners.
-fn draw_driver(words: Vocabulary, list: &mut [u32], b: Builder, r: Rule, driver: Triple) -> Builder
+fn draw_driver(
+    words: Vocabulary,
+    list: &mut [u32],
+    b: Builder,
+    r: Rule,
+    driver: Triple,
+) -> Result<Builder, Full>
     requires { RoundReady words list.old b × Mem (numbered r) rules × Mem driver (first list.old b.base) }
     ensures { DrawnPartners words list.old list.new b result (numbered r) driver }
 {
     if !drives(words, r, driver) {
-        return b;
+        return Ok(b);
     }
     draw_partners(words, list, b, r, driver)
 }
 
 // Draws with one rule from each driving premise of the frozen part.
-fn draw_rule(words: Vocabulary, list: &mut [u32], b: Builder, r: Rule) -> Builder
+fn draw_rule(words: Vocabulary, list: &mut [u32], b: Builder, r: Rule) -> Result<Builder, Full>
     requires { RoundReady words list.old b × Mem (numbered r) rules }
     ensures { DrawnRule words list.old list.new b result (numbered r) }
 {
@@ -91,30 +102,24 @@ fn draw_rule(words: Vocabulary, list: &mut [u32], b: Builder, r: Rule) -> Builde
     let mut state = b;
     for i in 0..base {
         let driver = triple_at(list, i);
-        state = draw_driver(words, list, state, r, driver);
-        if state.full {
-            return state;
-        }
+        state = draw_driver(words, list, state, r, driver)?;
     }
-    state
+    Ok(state)
 }
 
-// One round: all conclusions of the rules at the table's places low..high from the first `count` triples, which are in rising order.
-pub fn round(words: Vocabulary, list: &mut [u32], count: usize, low: usize, high: usize) -> Builder
-    requires { (3 * count ≤ length list.old) × RisingPart (at list.old) 0 count × (high ≤ rule_count) }
-    ensures { Rounded words list.old list.new count low high result }
+// One round: all conclusions of the rules at these places of the table from the first `count` triples, which are in rising order.
+pub fn round(
+    words: Vocabulary,
+    list: &mut [u32],
+    count: usize,
+    places: Range<usize>,
+) -> Result<Builder, Full>
+    requires { (3 * count ≤ length list.old) × RisingPart (at list.old) 0 count × (places.end ≤ rule_count) }
+    ensures { Rounded words list.old list.new count places.start places.end result }
 {
-    let mut state = Builder {
-        base: count,
-        sorted: count,
-        filled: count,
-        full: false,
-    };
-    for k in low..high {
-        state = draw_rule(words, list, state, rule_at(k));
-        if state.full {
-            return state;
-        }
+    let mut state = Builder::new(count, count);
+    for k in places.start..places.end {
+        state = draw_rule(words, list, state, rule_at(k))?;
     }
-    state
+    Ok(state)
 }

@@ -2,7 +2,7 @@
 -- Assumes nothing.
 use Prim.Native.Nat.{ℕ, ◌/◌, ◌<◌, ◌≤◌}
 use mathlib.Core.Path.{◌≡◌, sym, ◌∙◌, ap, subst}
-use mathlib.Core.Bool.{true, false}
+use mathlib.Core.Bool.{false}
 use mathlib.Core.List.{List}
 use native.Mathlib.Omega.{arith}
 use lib.ListN.{length}
@@ -25,6 +25,7 @@ use Rattle.table_checks.proofs.Laws.{passed, passed-right, refused-more, refused
 use Rattle.lists.specs.Flat.{at, Cleared}
 use Rattle.lists.proofs.Search.{cleared-all}
 use Rattle.builder.specs.declared.Builder.{Builder}
+use Rattle.builder.specs.declared.Full.{Full}
 use Rattle.builder.specs.Builder.{first, Finished}
 use Rattle.strata.specs.Strata.{Closed, FreeEnds}
 
@@ -58,21 +59,21 @@ module _ (v : Vocabulary) where
       right : Right v roster (triples table)
       right = passed-right v false table roster passes
 
-      module _ (m : List ℕ) (b : Builder) (C : Closed v (In (triples table)) l m b) where
-        pub answer-slots : b.full ≡ true → (n : List ℕ) → Cleared m n 0 (length m) → Answers (Err Slots) n
+      module _ (m : List ℕ) where
+        pub answer-slots : (y : Full) → Closed v (In (triples table)) l m (Err y) → (n : List ℕ) → Cleared m n 0 (length m) → Answers (Err Slots) n
         unfolding outcome_by refusal_number saturate_outcome saturate_leaves saturated slots
-        answer-slots f n z =
+        answer-slots y C n z =
             let sat = saturated v table roster in
-            let long : length l / 3 < length sat = C.over f sat (λ u d. (saturation-exact v (length roster) (type-below right) (triples table) (below v roster (triples table) right) u).1 d) in
+            let long : length l / 3 < length sat = C.over sat (λ u d. (saturation-exact v (length roster) (type-below right) (triples table) (below v roster (triples table) right) u).1 d) in
             let q = too_few (table_checks v false table roster) (length l / 3) (length sat) passes long in
             (sym q, cleared-all m n (length m) z (omega arith) ∙ ap zeros C.size ∙ sym (left-zeros _ _ _ q))
 
-        module _ (f : b.full ≡ false) (n : List ℕ) (r : ℕ) (F : Finished m n b.filled r) where
+        module _ (b : Builder) (C : Closed v (In (triples table)) l m (Ok b)) (n : List ℕ) (r : ℕ) (F : Finished m n b.filled r) where
           is-saturation : sorted (first m b.filled) ≡ saturated v table roster
           unfolding saturated
           is-saturation =
               saturation_unique v (length roster) (type-below right) (triples table) (sorted (first m b.filled)) (below v roster (triples table) right) (sorted-rising _)
-              (λ t. let x = C.exact f t in (λ k. x.0 (sorted-mem t _ k), λ d. mem-sorted t _ (x.1 d)))
+              (λ t. let x = C.exact t in (λ k. x.0 (sorted-mem t _ k), λ d. mem-sorted t _ (x.1 d)))
 
           count-is : r ≡ length (saturated v table roster)
           count-is = F.count ∙ ap {B = ℕ} (λ (x : List Triple). length x) is-saturation
@@ -83,6 +84,6 @@ module _ (v : Vocabulary) where
               let sat = saturated v table roster in
               let few = sorted-length (first m b.filled) in
               let size = length-tabulate (at m) 0 b.filled in
-              let fits : length sat ≤ length l / 3 = omega (arith, count-is, F.count, few, size, C.room f, C.size) in
+              let fits : length sat ≤ length l / 3 = omega (arith, count-is, F.count, few, size, C.room, C.size) in
               let q = enough (table_checks v false table roster) (length l / 3) (length sat) passes fits in
               (ap (λ (k : ℕ). accepted k) count-is ∙ sym q, F.list ∙ (λ i. listed (C.size i) (is-saturation i)) ∙ sym (left_after _ _ _ _ q))

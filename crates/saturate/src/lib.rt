@@ -8,26 +8,20 @@ ghost use Rattle.model.specs.Outcomes.{outcome_of};
 ghost use Rattle.model.specs.Calls.{saturate_outcome, saturate_leaves};
 ghost use Rattle.strata.specs.Strata.{Closed, FreeEnds};
 
-use builder::{Builder, finish};
+use builder::{Builder, Full, finish};
 use lists::clear;
 use model::{Refusal, Vocabulary};
 use strata::{add_others, derive_schema, draw_strata};
 use table_checks::table_refusal;
 
-// All that the rules derive from the table, in any order, or the builder is full. The schema triples are closed first: no other triple
+// All that the rules derive from the table, in any order, or the slots are too few. The schema triples are closed first: no other triple
 // gives one.
-fn derive(words: Vocabulary, table: &[u32], list: &mut [u32]) -> Builder
+fn derive(words: Vocabulary, table: &[u32], list: &mut [u32]) -> Result<Builder, Full>
     requires { FreeEnds words (triples table.now) }
     ensures { Closed words (λ t. Mem t (triples table.now)) list.old list.new result }
 {
-    let schema = derive_schema(words, table, list);
-    if schema.full {
-        return schema;
-    }
-    let loaded = add_others(words, table, list, schema.filled);
-    if loaded.full {
-        return loaded;
-    }
+    let schema = derive_schema(words, table, list)?;
+    let loaded = add_others(words, table, list, schema.filled)?;
     draw_strata(words, list, loaded.filled)
 }
 
@@ -41,10 +35,11 @@ pub fn saturate(
     ensures { (outcome_of result ≡ saturate_outcome words table.now roster.now res.old) × (res.new ≡ saturate_leaves words table.now roster.now res.old) }
 {
     table_refusal(words, false, table, roster)?;
-    let state = derive(words, table, res);
-    if state.full {
-        clear(res, 0, res.len());
-        return Err(Refusal::Slots);
+    match derive(words, table, res) {
+        Ok(state) => Ok(finish(res, state.filled)),
+        Err(Full) => {
+            clear(res, 0, res.len());
+            Err(Refusal::Slots)
+        }
     }
-    Ok(finish(res, state.filled))
 }

@@ -3,7 +3,7 @@
 use Prim.Native.Nat.{ℕ, ◌+◌, ◌*◌, ◌/◌, ◌<◌, ◌≤◌}
 use mathlib.Core.Path.{◌≡◌, refl, sym, ◌∙◌, ap, subst}
 use mathlib.Core.Logic.{◌⊎◌, inl, inr, ⊎_elim}
-use mathlib.Core.Bool.{Bool, true, false, cond, not, true≢false}
+use mathlib.Core.Bool.{Bool, true, false, not, true≢false}
 use mathlib.Core.List.Memᴰ.{append_cases}
 use mathlib.Core.List.Memᴰ.{append_left}
 use mathlib.Core.List.Memᴰ.{append_right}
@@ -18,23 +18,33 @@ use Rattle.model.specs.declared.Vocabulary.{Vocabulary}
 use Rattle.model.specs.Codes.{kind, reserved, schema_property}
 use Rattle.model.specs.Lists.{tabulate, when}
 use Rattle.model.specs.Triples.{triples, sorted}
+use Rattle.model.specs.Order.{Rising}
 use Rattle.theory.proofs.Tests.{bool_cases, and_both}
 use Rattle.theory.proofs.Lists.{tabulate-mem, mem-tabulate, when-mem, mem-when, collect-mem, mem-collect}
 use Rattle.theory.proofs.Order.{sorted-rising, sorted-mem, mem-sorted, rising-length}
 use Rattle.lists.specs.Flat.{at, RisingPart}
 use Rattle.lists.proofs.Places.{triples-table}
 use Rattle.builder.specs.declared.Builder.{Builder}
-use Rattle.builder.specs.Builder.{first, Offered, GrownBy}
-use Rattle.builder.proofs.Collecting.{opening, offer_step, step-none, step_then}
+use Rattle.builder.specs.declared.Full.{Full}
+use Rattle.std.specs.declared.result.Result.{Result}
+use Rattle.std.specs.declared.result.Result.TheVariants.{Ok, Err}
+use Rattle.builder.specs.Builder.{first, opening, Offered, Growing, GrownBy}
+use Rattle.builder.proofs.Collecting.{offer_step, offer_held, step-none, step_then, frozen}
+use Rattle.schema_load.specs.declared.Share.{Share}
+use Rattle.schema_load.specs.declared.Share.TheVariants.{Schema, Other}
 use Rattle.schema_load.specs.Loading.{chosen, part, OfferedIf, Added}
 
 -- ── one offer ──
-pub offered_chosen : (c r : Bool) (l l' : List ℕ) (b b' : Builder) (t : Triple) → r ≡ c → r ≡ true → Offered l l' b b' t → OfferedIf c l l' b b' t
-offered_chosen c r l l' b b' t e h O =
-    record { steps = λ U X R S m. offer_step U X R l l' b b' t S (m (sym e ∙ h)) O; held = λ f k. ((O.taken f).members t).1 (inr refl) }
+module _ (c r : Bool) (l l' : List ℕ) (b : Builder) (t : Triple) (e : r ≡ c) (h : r ≡ true) where
+  steps : (x : Result Builder Full) → Offered l l' b x t → (U X : List Triple) → Rising U → Growing U X l b → (c ≡ true → Mem t U) → GrownBy U X l l' b x
+  steps x O U X R S m = offer_step U X R l l' b t S (m (sym e ∙ h)) x O
 
-pub offered_none : (c r : Bool) (l : List ℕ) (b : Builder) (t : Triple) → r ≡ c → r ≡ false → OfferedIf c l l b b t
-offered_none c r l b t e h = record { steps = λ U X R S m. step-none U X l b S; held = λ f k. absurd (true≢false (sym k ∙ sym e ∙ h)) }
+  pub offered_chosen : (x : Result Builder Full) → Offered l l' b x t → OfferedIf c l l' b x t
+  offered_chosen (Ok d) O = record { steps = steps (Ok d) O; held = λ k. offer_held l l' b d t O }
+  offered_chosen (Err y) O = record { steps = steps (Err y) O; held = tt }
+
+pub offered_none : (c r : Bool) (l : List ℕ) (b : Builder) (t : Triple) → r ≡ c → r ≡ false → OfferedIf c l l b (Ok b) t
+offered_none c r l b t e h = record { steps = λ U X R S m. step-none U X l b S; held = λ k. absurd (true≢false (sym k ∙ sym e ∙ h)) }
 
 module _ (v : Vocabulary) where
   -- ── the test ──
@@ -43,34 +53,33 @@ module _ (v : Vocabulary) where
   unfolding schema_property reserved
   kind-schema t l u = and_both (not (eqb (kind v t.property) 0)) (ltb (kind v t.property) 5) (ap not (ne_eqb (kind v t.property) 0 (λ z. omega arith))) (lt-ltb (kind v t.property) 5 (omega arith))
 
-  pub chosen-schema : (t : Triple) (w r : Bool) → r ≡ schema_property v t.property → r ≡ true → w ≡ chosen v w t
+  pub chosen-schema : (t : Triple) → schema_property v t.property ≡ true → chosen v Schema t ≡ true
   unfolding chosen
-  chosen-schema t w r e h = sym (ap (λ (b : Bool). cond b w (not w)) (sym e ∙ h))
+  chosen-schema t e = e
 
-  pub chosen-other : (t : Triple) (w r : Bool) → r ≡ schema_property v t.property → r ≡ false → not w ≡ chosen v w t
+  pub chosen-other : (t : Triple) → schema_property v t.property ≡ false → chosen v Other t ≡ true
   unfolding chosen
-  chosen-other t w r e h = sym (ap (λ (b : Bool). cond b w (not w)) (sym e ∙ h))
+  chosen-other t e = ap not e
 
   -- ── the parts ──
-  pub part-mem : (w : Bool) (ts : List Triple) (t : Triple) → Mem t (part v w ts) → Mem t ts × (chosen v w t ≡ true)
+  pub part-mem : (w : Share) (ts : List Triple) (t : Triple) → Mem t (part v w ts) → Mem t ts × (chosen v w t ≡ true)
   unfolding part
   part-mem w ts t m =
       let z = collect-mem (λ t. when (chosen v w t) t) ts m in
       let y = when-mem z.2 in
       (subst (λ (x : Triple). Mem x ts) (sym y.1) z.1, ap (chosen v w) y.1 ∙ y.0)
 
-  pub mem-part : (w : Bool) (ts : List Triple) (t : Triple) → Mem t ts → chosen v w t ≡ true → Mem t (part v w ts)
+  pub mem-part : (w : Share) (ts : List Triple) (t : Triple) → Mem t ts → chosen v w t ≡ true → Mem t (part v w ts)
   unfolding part
   mem-part w ts t m e = mem-collect (λ t. when (chosen v w t) t) ts t m (mem-when e)
 
   -- each triple is in one of the two parts
-  pub parts : (ts : List Triple) (t : Triple) → Mem t ts → Mem t (part v true ts) ⊎ Mem t (part v false ts)
+  pub parts : (ts : List Triple) (t : Triple) → Mem t ts → Mem t (part v Schema ts) ⊎ Mem t (part v Other ts)
   parts ts t m =
-      ⊎_elim (λ e. inl (mem-part true ts t m (sym (chosen-schema t true (schema_property v t.property) refl e))))
-      (λ e. inr (mem-part false ts t m (sym (chosen-other t false (schema_property v t.property) refl e)))) (bool_cases (schema_property v t.property))
+      ⊎_elim (λ e. inl (mem-part Schema ts t m (chosen-schema t e))) (λ e. inr (mem-part Other ts t m (chosen-other t e))) (bool_cases (schema_property v t.property))
 
   -- ── the loop ──
-  module _ (table : List ℕ) (w : Bool) (count : ℕ) (l₀ : List ℕ) where
+  module _ (table : List ℕ) (w : Share) (count : ℕ) (l₀ : List ℕ) where
     abbrev all : List Triple
     all = sorted (part v w (triples table) ++ first l₀ count)
 
@@ -79,70 +88,55 @@ module _ (v : Vocabulary) where
 
     -- the first i triples of the table, where they are chosen, are held
     pub record Loading (l : List ℕ) (s : Builder) (i : ℕ) : Type 0 where
-      pub going : s.full ≡ false
-      pub step : GrownBy all X l₀ l (opening count) s
+      pub step : GrownBy all X l₀ l (opening count count) (Ok s)
       pub done : (j : ℕ) → j < i → chosen v w (at table j) ≡ true → Mem (at table j) (first l s.filled)
 
-    pub loading_start : 3 * count ≤ length l₀ → RisingPart (at l₀) 0 count → Loading l₀ (opening count) 0
+    pub loading_start : 3 * count ≤ length l₀ → RisingPart (at l₀) 0 count → Loading l₀ (opening count count) 0
     loading_start h R =
         record {
-          going = refl;
-          step = step-none all X l₀ (opening count)
-              (record {
-                built = record {
-                  base_end = omega arith;
-                  sorted_end = omega arith;
-                  room = h;
-                  base_rising = R;
-                  run_rising = λ i j x y z. absurd (omega arith);
-                  apart = λ i j x y z q. omega arith;
-                  not_full = refl;
-                };
-                base_is = refl;
-                inside = λ u m. mem-sorted u _ (append_right (part v w (triples table)) m);
-              });
+          step = step-none all X l₀ (opening count count) (frozen all X l₀ count h R refl (λ u m. mem-sorted u _ (append_right (part v w (triples table)) m)));
           done = λ j h. absurd (omega arith);
         }
 
-    module _ (l m : List ℕ) (s c : Builder) (i : ℕ) (L : Loading l s i) (t : Triple) (h : i < length table / 3) (e : t ≡ at table i) (O : OfferedIf (chosen v w t) l m s c t) where
+    module _ (l m : List ℕ) (s : Builder) (i : ℕ) (L : Loading l s i) (t : Triple) (h : i < length table / 3) (e : t ≡ at table i) where
       in_table : Mem t (triples table)
       in_table =
           subst (Mem t) (sym (triples-table table))
           (subst (λ (z : Triple). Mem z (tabulate (at table) 0 (length table / 3))) (sym e)
           (mem-tabulate (at table) 0 (length table / 3) i (omega arith) (omega arith)))
 
-      one : GrownBy all X l m s c
-      one = O.steps all X (sorted-rising _) (L.step.goes_on L.going) (λ k. mem-sorted t _ (append_left X (mem-part w (triples table) t in_table k)))
+      one : (x : Result Builder Full) → OfferedIf (chosen v w t) l m s x t → GrownBy all X l m s x
+      one x O = O.steps all X (sorted-rising _) L.step.goes_on (λ k. mem-sorted t _ (append_left X (mem-part w (triples table) t in_table k)))
 
-      on : GrownBy all X l₀ m (opening count) c
-      on = step_then all X l₀ l m (opening count) s c L.going L.step one
+      on : (x : Result Builder Full) → OfferedIf (chosen v w t) l m s x t → GrownBy all X l₀ m (opening count count) x
+      on x O = step_then all X l₀ l m (opening count count) s x L.step (one x O)
 
-      pub loading_next : c.full ≡ false → Loading m c (i + 1)
-      loading_next g =
+      pub loading_next : (c : Builder) → OfferedIf (chosen v w t) l m s (Ok c) t → Loading m c (i + 1)
+      loading_next c O =
           record {
-            going = g;
-            step = on;
-            done = below_more _ i (λ j x k. one.keeps g _ (L.done j x k)) (subst (λ (z : Triple). chosen v w z ≡ true → Mem z (first m c.filled)) e (O.held g));
+            step = on (Ok c) O;
+            done = below_more _ i (λ j x k. (one (Ok c) O).keeps _ (L.done j x k)) (subst (λ (z : Triple). chosen v w z ≡ true → Mem z (first m c.filled)) e O.held);
           }
 
-      pub loading_full : c.full ≡ true → Added v w (triples table) l₀ m count c
-      loading_full g =
+      pub loading_full : (y : Full) → OfferedIf (chosen v w t) l m s (Err y) t → Added v w (triples table) l₀ m count (Err y)
+      loading_full y O =
+          let S = on (Err y) O in
           record {
-            size = on.size;
-            room = λ k. absurd (true≢false (sym g ∙ k));
-            members = λ k. absurd (true≢false (sym g ∙ k));
-            over = λ k out f.
+            size = S.size;
+            room = tt;
+            members = tt;
+            over = λ out f.
                 let few = rising-length all out (sorted-rising _) (λ u x. f u (append_cases (part v w (triples table)) (sorted-mem u _ x))) in
-                omega (arith, few, on.over k);
+                omega (arith, few, S.over);
           }
 
-    pub loading_end : (l : List ℕ) (s : Builder) (i : ℕ) → Loading l s i → length table / 3 ≤ i → Added v w (triples table) l₀ l count s
+    pub loading_end : (l : List ℕ) (s : Builder) (i : ℕ) → Loading l s i → length table / 3 ≤ i → Added v w (triples table) l₀ l count (Ok s)
     loading_end l s i L h =
         record {
           size = L.step.size;
-          room = λ g. (L.step.goes_on g).built.room;
-          members = λ g u. (λ m. append_cases (part v w (triples table)) (sorted-mem u _ ((L.step.goes_on g).inside u m)), λ x. ⊎_elim (λ m. held u m) (λ m. L.step.keeps L.going u m) x);
-          over = λ g. absurd (true≢false (sym g ∙ L.going));
+          room = L.step.goes_on.built.room;
+          members = λ u. (λ m. append_cases (part v w (triples table)) (sorted-mem u _ (L.step.goes_on.inside u m)), λ x. ⊎_elim (λ m. held u m) (λ m. L.step.keeps u m) x);
+          over = tt;
         }
       where
         held : (u : Triple) → Mem u (part v w (triples table)) → Mem u (first l s.filled)

@@ -7,16 +7,27 @@ ghost use Rattle.lists.specs.Flat.{at, RisingPart};
 ghost use Rattle.builder.specs.Builder.{Built};
 ghost use Rattle.schema_load.specs.Loading.{chosen, OfferedIf, Added};
 
-use builder::{Builder, offer};
+use builder::{Builder, Full, offer};
 use lists::{Code, triple_at};
 use model::{Triple, Vocabulary};
 
-// Whether a triple is a schema triple where these are wanted, or another where those are.
+// The part of a table that is wanted: its schema triples, or its others.
+#[derive(Clone, Copy, PartialEq, Eq)]
+pub enum Share {
+    Schema,
+    Other,
+}
+
+// Whether a triple is in a part.
 #[tactic(auto, unfolding(crate::specs::Loading::chosen))]
-fn is_chosen(words: Vocabulary, t: Triple, schemas: bool) -> bool
-    ensures { result ≡ chosen words schemas t }
+fn is_chosen(words: Vocabulary, t: Triple, share: Share) -> bool
+    ensures { result ≡ chosen words share t }
 {
-    Code(t.property).is_schema(words) == schemas
+    let is_schema = Code(t.property).is_schema(words);
+    match share {
+        Share::Schema => is_schema,
+        Share::Other => !is_schema,
+    }
 }
 
 // Offers a triple, where it is chosen.
@@ -25,40 +36,32 @@ fn offer_chosen(
     list: &mut [u32],
     b: Builder,
     t: Triple,
-    schemas: bool,
-) -> Builder
+    share: Share,
+) -> Result<Builder, Full>
     requires { Built list.old b }
-    ensures { OfferedIf (chosen words schemas t) list.old list.new b result t }
+    ensures { OfferedIf (chosen words share t) list.old list.new b result t }
 {
-    if is_chosen(words, t, schemas) {
+    if is_chosen(words, t, share) {
         return offer(list, b, t);
     }
-    b
+    Ok(b)
 }
 
-// The table's schema triples, or its others, behind the first `count` triples, which are in rising order; or the builder is full.
+// A part of the table behind the first `count` triples, which are in rising order; or the slots are too few.
 pub fn load(
     words: Vocabulary,
     table: &[u32],
     list: &mut [u32],
     count: usize,
-    schemas: bool,
-) -> Builder
+    share: Share,
+) -> Result<Builder, Full>
     requires { (3 * count ≤ length list.old) × RisingPart (at list.old) 0 count }
-    ensures { Added words schemas (triples table.now) list.old list.new count result }
+    ensures { Added words share (triples table.now) list.old list.new count result }
 {
-    let mut state = Builder {
-        base: count,
-        sorted: count,
-        filled: count,
-        full: false,
-    };
+    let mut state = Builder::new(count, count);
     for i in 0..table.len() / 3 {
         let t = triple_at(table, i);
-        state = offer_chosen(words, list, state, t, schemas);
-        if state.full {
-            return state;
-        }
+        state = offer_chosen(words, list, state, t, share)?;
     }
-    state
+    Ok(state)
 }

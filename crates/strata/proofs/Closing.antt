@@ -3,7 +3,6 @@
 use Prim.Native.Nat.{ℕ, ◌*◌, ◌/◌, ◌<◌, ◌≤◌}
 use mathlib.Core.Path.{◌≡◌, refl, sym, ◌∙◌, ap, subst}
 use mathlib.Core.Logic.{⊎_elim}
-use mathlib.Core.Bool.{true, false, true≢false}
 use mathlib.Core.List.Memᴰ.{cases_cons as mem-cases}
 use mathlib.Core.List.Memᴰ.{not-nil as no-mem}
 use mathlib.Core.List.{List, [], ◌∷◌, Memᴰ as Mem}
@@ -26,7 +25,9 @@ use Rattle.lists.specs.Flat.{at, RisingPart}
 use Rattle.lists.proofs.Places.{places-rising, rising-places}
 use Rattle.sorting.specs.Sorting.{Distinct}
 use Rattle.builder.specs.declared.Builder.{Builder}
-use Rattle.builder.specs.Builder.{first}
+use Rattle.builder.specs.declared.Full.{Full}
+use Rattle.std.specs.declared.result.Result.TheVariants.{Ok, Err}
+use Rattle.builder.specs.Builder.{first, opening}
 use Rattle.builder.proofs.Parts.{sorted_more}
 use Rattle.rule_premises.specs.Premises.{rule_count}
 use Rattle.rule_walk.specs.Rounds.{Rounded}
@@ -43,15 +44,11 @@ module _ (l m : List ℕ) (filled count : ℕ) where
   sorted-ready h D =
       (omega (arith, D.fits, D.size), λ i j x y z. rising-places (at m) 0 count (subst Rising (sym (front-sorted D)) (sorted-rising _)) i j x y (omega arith))
 
-abbrev pub from : ℕ → Builder
-from filled = record { base = 0; sorted = 0; filled = filled; full = false }
-
 module _ (v : Vocabulary) where
   -- ── rounds ──
   module _ (G : Graph) (l₀ : List ℕ) where
     -- the list between rounds: its base is what the last round began with
     pub record Closing (l : List ℕ) (s : Builder) : Type 0 where
-      pub going : s.full ≡ false
       pub size : length l ≡ length l₀
       pub room : 3 * s.filled ≤ length l
       pub within : s.base ≤ s.filled
@@ -88,50 +85,49 @@ module _ (v : Vocabulary) where
           wider : (u : Triple) → Mem u (first l s.base) → Mem u (first l s.filled)
           wider u k = let z = tabulate-mem (at l) 0 s.base k in in_first l s.filled z.0 u (omega (arith, z.2, C.within)) z.3
 
-      module _ (n : List ℕ) (c : Builder) (R : Rounded v m n count 0 rule_count c) where
-        begun : (u : Triple) → Mem u (first m count) → Derives v G u
-        begun u k = C.derived u (sorted-mem u _ (subst (Mem u) sorted-is k))
+      begun : (u : Triple) → Mem u (first m count) → Derives v G u
+      begun u k = C.derived u (sorted-mem u _ (subst (Mem u) sorted-is k))
 
-        all-derived : (u : Triple) → Mem u (round v (first m count)) → Derives v G u
-        all-derived u k = derives_cut v begun (round-derived v (first m count) u k)
+      all-derived : (u : Triple) → Mem u (round v (first m count)) → Derives v G u
+      all-derived u k = derives_cut v begun (round-derived v (first m count) u k)
 
-        pub closing_next : c.full ≡ false → Closing n c
-        closing_next f =
-            let B = R.built f in
-            record {
-              going = f;
-              size = R.size ∙ D.size ∙ C.size;
-              room = B.room;
-              within = omega (arith, B.base_end, B.sorted_end);
-              rising = B.base_rising;
-              apart = λ i h k q. B.apart i c.base h (omega arith) k q;
-              keeps = λ u g. R.keeps f u (subst (Mem u) (sym sorted-is) (mem-sorted u _ (C.keeps u g)));
-              derived = λ u k. all-derived u (R.inside f u k);
-              drawn = λ u k. all-rules v m n count c R f u (subst (λ (x : List Triple). Mem u (round v x)) (R.base f) k);
-            }
+      pub closing_next : (n : List ℕ) (c : Builder) → Rounded v m n count 0 rule_count (Ok c) → Closing n c
+      closing_next n c R =
+          let W = R.walked in
+          let B = W.built in
+          record {
+            size = R.size ∙ D.size ∙ C.size;
+            room = B.room;
+            within = omega (arith, B.base_end, B.sorted_end);
+            rising = B.base_rising;
+            apart = λ i h k q. B.apart i c.base h (omega arith) k q;
+            keeps = λ u g. W.keeps u (subst (Mem u) (sym sorted-is) (mem-sorted u _ (C.keeps u g)));
+            derived = λ u k. all-derived u (W.inside u k);
+            drawn = λ u k. all-rules v m n count c W u (subst (λ (x : List Triple). Mem u (round v x)) W.base k);
+          }
 
-        pub closing_full : c.full ≡ true → Closed v G l₀ n c
-        closing_full f =
-            record {
-              size = R.size ∙ D.size ∙ C.size;
-              room = λ g. absurd (true≢false (sym f ∙ g));
-              exact = λ g. absurd (true≢false (sym f ∙ g));
-              over = λ g out h.
-                  let few = rising-length (round v (first m count)) out (round-rising v _) (λ u k. h u (all-derived u k)) in
-                  let long = subst (λ (k : ℕ). k / 3 < length (round v (first m count))) (D.size ∙ C.size) (R.over g) in
-                  omega (arith, few, long);
-            }
+      pub closing_full : (n : List ℕ) (y : Full) → Rounded v m n count 0 rule_count (Err y) → Closed v G l₀ n (Err y)
+      closing_full n y R =
+          record {
+            size = R.size ∙ D.size ∙ C.size;
+            room = tt;
+            exact = tt;
+            over = λ out h.
+                let few = rising-length (round v (first m count)) out (round-rising v _) (λ u k. h u (all-derived u k)) in
+                let long = subst (λ (k : ℕ). k / 3 < length (round v (first m count))) (D.size ∙ C.size) R.over in
+                omega (arith, few, long);
+          }
 
-        pub closing_less : s.base < s.filled → c.full ≡ false → s.base < c.base
-        closing_less h f = omega (arith, base_grows h, R.base_count f)
+      pub closing_less : s.base < s.filled → (n : List ℕ) (c : Builder) → Rounded v m n count 0 rule_count (Ok c) → s.base < c.base
+      closing_less h n c R = omega (arith, base_grows h, R.walked.base_count)
 
-    pub closing_end : (l : List ℕ) (s : Builder) → Closing l s → s.filled ≤ s.base → Closed v G l₀ l s
+    pub closing_end : (l : List ℕ) (s : Builder) → Closing l s → s.filled ≤ s.base → Closed v G l₀ l (Ok s)
     closing_end l s C h =
         record {
           size = C.size;
-          room = λ f. C.room;
-          exact = λ f u. (C.derived u, λ d. closed-has v (first l s.filled) still (derives_cut v (λ t g. given (C.keeps t g)) d));
-          over = λ f. absurd (true≢false (sym f ∙ C.going));
+          room = C.room;
+          exact = λ u. (C.derived u, λ d. closed-has v (first l s.filled) still (derives_cut v (λ t g. given (C.keeps t g)) d));
+          over = tt;
         }
       where
         whole : s.base ≡ s.filled
@@ -144,11 +140,10 @@ module _ (v : Vocabulary) where
   round_nothing : (u : Triple) → Mem u (round v []) → ⊥
   round_nothing u m = ⊎_elim (λ k. no-mem k) (λ (g : DrawnBy v [] u). no-mem g.first_in) (round-mem v [] u m)
 
-  pub closing_start : (l : List ℕ) (filled : ℕ) → 3 * filled ≤ length l → Closing (In (first l filled)) l l (from filled)
+  pub closing_start : (l : List ℕ) (filled : ℕ) → 3 * filled ≤ length l → Closing (In (first l filled)) l l (opening 0 filled)
   unfolding tabulate
   closing_start l filled h =
       record {
-        going = refl;
         size = refl;
         room = h;
         within = omega arith;

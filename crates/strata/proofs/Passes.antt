@@ -1,9 +1,9 @@
 -- The strata of a table: its schema triples closed, its other triples, then one pass with each group of rules.
 -- Assumes nothing.
 use Prim.Native.Nat.{ℕ, ◌/◌, ◌<◌, ◌-◌}
-use mathlib.Core.Path.{◌≡◌, refl, sym, ◌∙◌, subst}
+use mathlib.Core.Path.{◌≡◌, sym, ◌∙◌, subst}
 use mathlib.Core.Logic.{◌⊎◌, inl, inr, ⊎_elim}
-use mathlib.Core.Bool.{true, false, true≢false, Bool}
+use mathlib.Core.Bool.{true}
 use mathlib.Core.List.Memᴰ.{not-nil as no-mem}
 use mathlib.Core.List.{List, Memᴰ as Mem}
 use native.Mathlib.Omega.{arith}
@@ -21,170 +21,192 @@ use Rattle.theory.proofs.Saturated.{round-rising, round-derived, derives_cut, de
 use Rattle.theory.proofs.Strata.{strata}
 use Rattle.sorting.specs.Sorting.{Distinct}
 use Rattle.builder.specs.declared.Builder.{Builder}
+use Rattle.builder.specs.declared.Full.{Full}
+use Rattle.std.specs.declared.result.Result.{Result}
+use Rattle.std.specs.declared.result.Result.TheVariants.{Ok, Err}
 use Rattle.builder.specs.Builder.{first}
 use Rattle.rule_premises.specs.Premises.{no_rule}
+use Rattle.schema_load.specs.declared.Share.{Share}
+use Rattle.schema_load.specs.declared.Share.TheVariants.{Schema, Other}
 use Rattle.schema_load.specs.Loading.{part, Added}
 use Rattle.rule_walk.specs.Rounds.{Draws, Rounded}
 use Rattle.strata.specs.Strata.{Closed, Swept, FreeEnds, Grounded, Stratified, retyping, typing, renaming}
 use Rattle.strata.proofs.Closing.{front-sorted}
 use Rattle.schema_load.proofs.Loading.{kind-schema, chosen-schema, part-mem, mem-part, parts}
 use Rattle.theory.proofs.Lists.{tabulate-mem}
-use Rattle.strata.specs.declared.Stratum.{Stratum}
 
 module _ (v : Vocabulary) where
-  -- ── a pass is a sort and a round ──
-  pub swept : (l m n : List ℕ) (filled count low high : ℕ) (c : Builder) → Distinct l m 0 filled count → Rounded v m n count low high c → Swept v l n filled low high c
-  swept l m n filled count low high c D R =
-      record {
-        size = R.size ∙ D.size;
-        room = λ f. (R.built f).room;
-        keeps = λ f u k. R.keeps f u (forth u k);
-        drawn = λ f k x y a b p q. R.drawn f k x y a b (forth a p) (forth b q);
-        derived = λ f u k. all-derived u (R.inside f u k);
-        over = λ f out h.
-            let few = rising-length (round v (first m count)) out (round-rising v _) (λ u k. h u (all-derived u k)) in
-            let long = subst (λ (k : ℕ). k / 3 < length (round v (first m count))) D.size (R.over f) in
-            omega (arith, few, long);
-      }
-    where
-      is : first m count ≡ sorted (first l filled)
-      is = front-sorted l m filled count D
-
-      forth : (u : Triple) → Mem u (first l filled) → Mem u (first m count)
-      forth u x = subst (Mem u) (sym is) (mem-sorted u _ x)
-
-      all-derived : (u : Triple) → Mem u (round v (first m count)) → Derives v (In (first l filled)) u
-      all-derived u k = derives_map v (λ t x. sorted-mem t _ (subst (Mem t) is x)) (round-derived v (first m count) u k)
-
   -- ── behind a front that is sorted first ──
-  pub added-sorted : (w : Bool) (ts : List Triple) (l m n : List ℕ) (filled count : ℕ) (c : Builder) → Distinct l m 0 filled count → Added v w ts m n count c → Added v w ts l n filled c
-  added-sorted w ts l m n filled count c D A =
-      record {
-        size = A.size ∙ D.size;
-        room = A.room;
-        members = λ f u. (λ k. ⊎_elim (λ x. inl x) (λ x. inr (back u x)) ((A.members f u).0 k), λ k. (A.members f u).1 (⊎_elim (λ x. inl x) (λ x. inr (forth u x)) k));
-        over = λ f out h. subst (λ (k : ℕ). k / 3 < length out) D.size (A.over f out (λ u k. h u (⊎_elim (λ x. inl x) (λ x. inr (back u x)) k)));
-      }
-    where
-      is : first m count ≡ sorted (first l filled)
-      is = front-sorted l m filled count D
+  module _ (l m : List ℕ) (filled count : ℕ) (D : Distinct l m 0 filled count) where
+    is : first m count ≡ sorted (first l filled)
+    is = front-sorted l m filled count D
 
-      back : (u : Triple) → Mem u (first m count) → Mem u (first l filled)
-      back u x = sorted-mem u _ (subst (Mem u) is x)
+    back : (u : Triple) → Mem u (first m count) → Mem u (first l filled)
+    back u x = sorted-mem u _ (subst (Mem u) is x)
 
-      forth : (u : Triple) → Mem u (first l filled) → Mem u (first m count)
-      forth u x = subst (Mem u) (sym is) (mem-sorted u _ x)
+    forth : (u : Triple) → Mem u (first l filled) → Mem u (first m count)
+    forth u x = subst (Mem u) (sym is) (mem-sorted u _ x)
+
+    all-derived : (u : Triple) → Mem u (round v (first m count)) → Derives v (In (first l filled)) u
+    all-derived u k = derives_map v (λ t x. back t x) (round-derived v (first m count) u k)
+
+    -- a pass is a sort and a round
+    pub swept : (n : List ℕ) (low high : ℕ) (x : Result Builder Full) → Rounded v m n count low high x → Swept v l n filled low high x
+    swept n low high (Ok c) R =
+        let W = R.walked in
+        record {
+          size = R.size ∙ D.size;
+          room = W.built.room;
+          keeps = λ u k. W.keeps u (forth u k);
+          drawn = λ k x y a b p q. W.drawn k x y a b (forth a p) (forth b q);
+          derived = λ u k. all-derived u (W.inside u k);
+          over = tt;
+        }
+    swept n low high (Err y) R =
+        record {
+          size = R.size ∙ D.size;
+          room = tt;
+          keeps = tt;
+          drawn = tt;
+          derived = tt;
+          over = λ out h.
+              let few = rising-length (round v (first m count)) out (round-rising v _) (λ u k. h u (all-derived u k)) in
+              let long = subst (λ (k : ℕ). k / 3 < length (round v (first m count))) D.size R.over in
+              omega (arith, few, long);
+        }
+
+    pub added-sorted : (w : Share) (ts : List Triple) (n : List ℕ) (x : Result Builder Full) → Added v w ts m n count x → Added v w ts l n filled x
+    added-sorted w ts n (Ok c) A =
+        record {
+          size = A.size ∙ D.size;
+          room = A.room;
+          members = λ u. (λ k. ⊎_elim (λ x. inl x) (λ x. inr (back u x)) ((A.members u).0 k), λ k. (A.members u).1 (⊎_elim (λ x. inl x) (λ x. inr (forth u x)) k));
+          over = tt;
+        }
+    added-sorted w ts n (Err y) A =
+        record {
+          size = A.size ∙ D.size;
+          room = tt;
+          members = tt;
+          over = λ out h. subst (λ (k : ℕ). k / 3 < length out) D.size (A.over out (λ u k. h u (⊎_elim (λ x. inl x) (λ x. inr (back u x)) k)));
+        }
 
   -- ── three passes ──
   -- the rules of a pass stand at its places of the table
-  abbrev rules_of : Stratum → List Rule
-  rules_of s = tabulate (λ k. get_or rules k no_rule) s.low (s.high - s.low)
+  abbrev rules_of : ℕ × ℕ → List Rule
+  rules_of s = tabulate (λ k. get_or rules k no_rule) s.0 (s.1 - s.0)
 
-  draws_of : (s : Stratum) (X Y : List Triple) → Draws v s.low s.high X Y → (r : Rule) → Mem r (rules_of s) → (a b : Triple) → Mem a X → Mem b X → fits v r a b ≡ true → Mem (gives v r a b) Y
+  draws_of : (s : ℕ × ℕ) (X Y : List Triple) → Draws v s.0 s.1 X Y → (r : Rule) → Mem r (rules_of s) → (a b : Triple) → Mem a X → Mem b X → fits v r a b ≡ true → Mem (gives v r a b) Y
   draws_of s X Y D r m a b x y =
-      let z = tabulate-mem (λ k. get_or rules k no_rule) s.low (s.high - s.low) m in
+      let z = tabulate-mem (λ k. get_or rules k no_rule) s.0 (s.1 - s.0) m in
       subst (λ (q : Rule). fits v q a b ≡ true → Mem (gives v q a b) Y) (sym z.3) (D z.0 z.1 (omega (arith, z.2)) a b x y)
 
-  module _ (l m : List ℕ) (filled : ℕ) (b : Builder) (P : Swept v l m filled retyping.low retyping.high b) where
-    pub strata-first : b.full ≡ true → Stratified v l m filled b
-    strata-first f = record { size = P.size; room = P.room; exact = λ g. absurd (true≢false (sym f ∙ g)); over = P.over }
+  pub strata-first : (l m : List ℕ) (filled : ℕ) (y : Full) → Swept v l m filled retyping.0 retyping.1 (Err y) → Stratified v l m filled (Err y)
+  strata-first l m filled y P = record { size = P.size; room = tt; exact = tt; over = P.over }
 
-    module _ (n : List ℕ) (c : Builder) (Q : Swept v m n b.filled typing.low typing.high c) (f : b.full ≡ false) where
-      pub strata-second : c.full ≡ true → Stratified v l n filled c
-      strata-second g =
-          record {
-            size = Q.size ∙ P.size;
-            room = Q.room;
-            exact = λ k. absurd (true≢false (sym g ∙ k));
-            over = λ k out h. subst (λ (z : ℕ). z / 3 < length out) P.size (Q.over k out (λ u d. h u (derives_cut v (P.derived f) d)));
-          }
+  module _ (l m : List ℕ) (filled : ℕ) (b : Builder) (P : Swept v l m filled retyping.0 retyping.1 (Ok b)) where
+    pub strata-second : (n : List ℕ) (y : Full) → Swept v m n b.filled typing.0 typing.1 (Err y) → Stratified v l n filled (Err y)
+    strata-second n y Q =
+        record {
+          size = Q.size ∙ P.size;
+          room = tt;
+          exact = tt;
+          over = λ out h. subst (λ (z : ℕ). z / 3 < length out) P.size (Q.over out (λ u d. h u (derives_cut v P.derived d)));
+        }
 
-      pub strata-third : (o : List ℕ) (d : Builder) → Swept v n o c.filled renaming.low renaming.high d → c.full ≡ false → Stratified v l o filled d
+    module _ (n : List ℕ) (c : Builder) (Q : Swept v m n b.filled typing.0 typing.1 (Ok c)) where
+      pub strata-third : (o : List ℕ) (x : Result Builder Full) → Swept v n o c.filled renaming.0 renaming.1 x → Stratified v l o filled x
       unfolding tabulate
-      strata-third o d R g =
+      strata-third o (Ok d) R =
           record {
             size = R.size ∙ Q.size ∙ P.size;
             room = R.room;
-            exact = λ k ts B u.
+            exact = λ ts B u.
                 strata v (In ts) B.free (In (first l filled)) (In (first m b.filled)) (In (first n c.filled)) (In (first o d.filled))
-                (λ t z. B.schema_in t (derives_map v (λ w x. mem-part v true ts w x.0 (sym (chosen-schema v w true _ refl (kind-schema v w x.1.0 x.1.1)))) z))
+                (λ t z. B.schema_in t (derives_map v (λ w x. mem-part v Schema ts w x.0 (chosen-schema v w (kind-schema v w x.1.0 x.1.1))) z))
                 B.all_in B.derived
-                (record { keeps = P.keeps f; draws = draws_of retyping _ _ (P.drawn f); derived = P.derived f })
-                (record { keeps = Q.keeps g; draws = draws_of typing _ _ (Q.drawn g); derived = Q.derived g })
-                (record { keeps = R.keeps k; draws = draws_of renaming _ _ (R.drawn k); derived = R.derived k }) u;
-            over = λ k out h.
+                (record { keeps = P.keeps; draws = draws_of retyping _ _ P.drawn; derived = P.derived })
+                (record { keeps = Q.keeps; draws = draws_of typing _ _ Q.drawn; derived = Q.derived })
+                (record { keeps = R.keeps; draws = draws_of renaming _ _ R.drawn; derived = R.derived }) u;
+            over = tt;
+          }
+      strata-third o (Err y) R =
+          record {
+            size = R.size ∙ Q.size ∙ P.size;
+            room = tt;
+            exact = tt;
+            over = λ out h.
                 subst (λ (z : ℕ). z / 3 < length out) (Q.size ∙ P.size)
-                (R.over k out (λ u x. h u (derives_cut v (λ t y. derives_cut v (P.derived f) (Q.derived g t y)) x)));
+                (R.over out (λ u x. h u (derives_cut v (λ t y. derives_cut v P.derived (Q.derived t y)) x)));
           }
 
   -- ── the schema triples closed ──
-  module _ (ts : List Triple) (l m : List ℕ) (b : Builder) (A : Added v true ts l m 0 b) where
+  module _ (ts : List Triple) (l m : List ℕ) where
     -- the list was empty before
-    only : (u : Triple) → Mem u (part v true ts) ⊎ Mem u (first l 0) → Mem u (part v true ts)
+    only : (u : Triple) → Mem u (part v Schema ts) ⊎ Mem u (first l 0) → Mem u (part v Schema ts)
     unfolding tabulate
     only u (inl x) = x
     only u (inr x) = absurd (no-mem x)
 
-    pub schema-loaded : b.full ≡ false → (n : List ℕ) (c : Builder) → Closed v (In (first m b.filled)) m n c → Closed v (In (part v true ts)) l n c
-    schema-loaded f n c C =
-        record {
-          size = C.size ∙ A.size;
-          room = C.room;
-          exact = λ g u. (λ k. derives_map v (λ t x. only t ((A.members f t).0 x)) ((C.exact g u).0 k), λ d. (C.exact g u).1 (derives_map v (λ t x. (A.members f t).1 (inl x)) d));
-          over = λ g out h. subst (λ (k : ℕ). k / 3 < length out) A.size (C.over g out (λ u d. h u (derives_map v (λ t x. only t ((A.members f t).0 x)) d)));
-        }
+    pub schema-full : (y : Full) → Added v Schema ts l m 0 (Err y) → Closed v (In (part v Schema ts)) l m (Err y)
+    schema-full y A = record { size = A.size; room = tt; exact = tt; over = λ out h. A.over out (λ u k. h u (given (only u k))) }
 
-    pub schema-full : b.full ≡ true → Closed v (In (part v true ts)) l m b
-    schema-full f =
-        record {
-          size = A.size;
-          room = λ g. absurd (true≢false (sym f ∙ g));
-          exact = λ g. absurd (true≢false (sym f ∙ g));
-          over = λ g out h. A.over g out (λ u k. h u (given (only u k)));
-        }
+    module _ (b : Builder) (A : Added v Schema ts l m 0 (Ok b)) where
+      from : {u : Triple} → Derives v (In (first m b.filled)) u → Derives v (In (part v Schema ts)) u
+      from d = derives_map v (λ t x. only t ((A.members t).0 x)) d
+
+      to : {u : Triple} → Derives v (In (part v Schema ts)) u → Derives v (In (first m b.filled)) u
+      to d = derives_map v (λ t x. (A.members t).1 (inl x)) d
+
+      pub schema-loaded : (n : List ℕ) (x : Result Builder Full) → Closed v (In (first m b.filled)) m n x → Closed v (In (part v Schema ts)) l n x
+      schema-loaded n (Ok c) C =
+          record { size = C.size ∙ A.size; room = C.room; exact = λ u. (λ k. from ((C.exact u).0 k), λ d. (C.exact u).1 (to d)); over = tt }
+      schema-loaded n (Err y) C =
+          record {
+            size = C.size ∙ A.size;
+            room = tt;
+            exact = tt;
+            over = λ out h. subst (λ (k : ℕ). k / 3 < length out) A.size (C.over out (λ u d. h u (from d)));
+          }
 
   -- ── all together ──
-  module _ (ts : List Triple) (free : FreeEnds v ts) (l m : List ℕ) (b : Builder) (C : Closed v (In (part v true ts)) l m b) where
-    wider : {u : Triple} → Derives v (In (part v true ts)) u → Derives v (In ts) u
-    wider d = derives_map v (λ t x. (part-mem v true ts t x).0) d
+  module _ (ts : List Triple) (free : FreeEnds v ts) (l m : List ℕ) where
+    wider : {u : Triple} → Derives v (In (part v Schema ts)) u → Derives v (In ts) u
+    wider d = derives_map v (λ t x. (part-mem v Schema ts t x).0) d
 
-    pub derived-schema-full : b.full ≡ true → Closed v (In ts) l m b
-    derived-schema-full f =
-        record {
-          size = C.size;
-          room = λ g. absurd (true≢false (sym f ∙ g));
-          exact = λ g. absurd (true≢false (sym f ∙ g));
-          over = λ g out h. C.over g out (λ u d. h u (wider d));
-        }
+    pub derived-schema-full : (y : Full) → Closed v (In (part v Schema ts)) l m (Err y) → Closed v (In ts) l m (Err y)
+    derived-schema-full y C = record { size = C.size; room = tt; exact = tt; over = λ out h. C.over out (λ u d. h u (wider d)) }
 
-    module _ (f : b.full ≡ false) (n : List ℕ) (c : Builder) (A : Added v false ts m n b.filled c) where
-      held : (u : Triple) → Mem u (part v false ts) ⊎ Mem u (first m b.filled) → Derives v (In ts) u
-      held u (inl x) = given (part-mem v false ts u x).0
-      held u (inr x) = wider ((C.exact f u).0 x)
+    module _ (b : Builder) (C : Closed v (In (part v Schema ts)) l m (Ok b)) (n : List ℕ) where
+      held : (u : Triple) → Mem u (part v Other ts) ⊎ Mem u (first m b.filled) → Derives v (In ts) u
+      held u (inl x) = given (part-mem v Other ts u x).0
+      held u (inr x) = wider ((C.exact u).0 x)
 
-      pub derived-others-full : c.full ≡ true → Closed v (In ts) l n c
-      derived-others-full g =
+      pub derived-others-full : (y : Full) → Added v Other ts m n b.filled (Err y) → Closed v (In ts) l n (Err y)
+      derived-others-full y A =
           record {
             size = A.size ∙ C.size;
-            room = λ k. absurd (true≢false (sym g ∙ k));
-            exact = λ k. absurd (true≢false (sym g ∙ k));
-            over = λ k out h. subst (λ (z : ℕ). z / 3 < length out) C.size (A.over k out (λ u x. h u (held u x)));
+            room = tt;
+            exact = tt;
+            over = λ out h. subst (λ (z : ℕ). z / 3 < length out) C.size (A.over out (λ u x. h u (held u x)));
           }
 
-      grounded : c.full ≡ false → Grounded v ts (first n c.filled)
-      grounded g =
-          record {
-            free = free;
-            schema_in = λ u d. (A.members g u).1 (inr ((C.exact f u).1 d));
-            all_in = λ u x. (A.members g u).1 (⊎_elim (λ y. inr ((C.exact f u).1 (given y))) (λ y. inl y) (parts v ts u x));
-            derived = λ u x. held u ((A.members g u).0 x);
-          }
+      module _ (c : Builder) (A : Added v Other ts m n b.filled (Ok c)) where
+        grounded : Grounded v ts (first n c.filled)
+        grounded =
+            record {
+              free = free;
+              schema_in = λ u d. (A.members u).1 (inr ((C.exact u).1 d));
+              all_in = λ u x. (A.members u).1 (⊎_elim (λ y. inr ((C.exact u).1 (given y))) (λ y. inl y) (parts v ts u x));
+              derived = λ u x. held u ((A.members u).0 x);
+            }
 
-      pub derived-all : (o : List ℕ) (d : Builder) → Stratified v n o c.filled d → c.full ≡ false → Closed v (In ts) l o d
-      derived-all o d S g =
-          record {
-            size = S.size ∙ A.size ∙ C.size;
-            room = S.room;
-            exact = λ k u. S.exact k ts (grounded g) u;
-            over = λ k out h. subst (λ (z : ℕ). z / 3 < length out) (A.size ∙ C.size) (S.over k out (λ u x. h u (derives_cut v (grounded g).derived x)));
-          }
+        pub derived-all : (o : List ℕ) (x : Result Builder Full) → Stratified v n o c.filled x → Closed v (In ts) l o x
+        derived-all o (Ok d) S = record { size = S.size ∙ A.size ∙ C.size; room = S.room; exact = λ u. S.exact ts grounded u; over = tt }
+        derived-all o (Err y) S =
+            record {
+              size = S.size ∙ A.size ∙ C.size;
+              room = tt;
+              exact = tt;
+              over = λ out h. subst (λ (z : ℕ). z / 3 < length out) (A.size ∙ C.size) (S.over out (λ u x. h u (derives_cut v grounded.derived x)));
+            }

@@ -32,6 +32,7 @@ use Rattle.lists.specs.Flat.{at, Cleared}
 use Rattle.lists.proofs.Places.{triples-table}
 use Rattle.lists.proofs.Search.{cleared-all}
 use Rattle.builder.specs.declared.Builder.{Builder}
+use Rattle.builder.specs.declared.Full.{Full}
 use Rattle.builder.specs.Builder.{first, CollectedFrom, Finished}
 use Rattle.summarise.specs.Condensed.{condensed_outcome, Imaged, Condensed, SummariseCallBy}
 
@@ -50,7 +51,7 @@ images-mapped f table count u = (there, back)
         subst (λ (x : Triple). Mem x (tabulate (λ i. f (at table i)) 0 count)) (sym (z.2 ∙ ap f w.3)) (mem-tabulate (λ i. f (at table i)) 0 count w.0 w.1 w.2)
 
 -- ── the images under a finished map ──
-module _ (table : List ℕ) (count : ℕ) (m result l : List ℕ) (b : Builder) (C : CollectedFrom (λ i. moved (label m) (at table i)) count result l b) where
+module _ (table : List ℕ) (count : ℕ) (m result l : List ℕ) where
   abbrev ts : List Triple
   ts = first table count
 
@@ -58,10 +59,10 @@ module _ (table : List ℕ) (count : ℕ) (m result l : List ℕ) (b : Builder) 
   unfolding condensed
   images_are = sorted-members _ _ (images-mapped (moved (label m)) table count)
 
-  pub imaged_full : b.full ≡ true → (n k : List ℕ) → Cleared l n 0 (length l) → Cleared m k 0 (length m) → Imaged m ts result (Err Slots) n k
+  pub imaged_full : (y : Full) → CollectedFrom (λ i. moved (label m) (at table i)) count result l (Err y) → (n k : List ℕ) → Cleared l n 0 (length l) → Cleared m k 0 (length m) → Imaged m ts result (Err Slots) n k
   unfolding outcome_by refusal_number slots
-  imaged_full f n k z y =
-      let long : length result / 3 < length (condensed m ts) = subst (λ (x : List Triple). length result / 3 < length x) images_are (C.over f) in
+  imaged_full x C n k z y =
+      let long : length result / 3 < length (condensed m ts) = subst (λ (x : List Triple). length result / 3 < length x) images_are C.over in
       let q = too_few [] (length result / 3) (length (condensed m ts)) no_checks long in
       record {
         answer = sym q;
@@ -69,9 +70,9 @@ module _ (table : List ℕ) (count : ℕ) (m result l : List ℕ) (b : Builder) 
         in_map = cleared-all m k (length m) y (omega arith) ∙ sym (left-zeros _ _ _ q);
       }
 
-  module _ (f : b.full ≡ false) (n : List ℕ) (r : ℕ) (F : Finished l n b.filled r) where
+  module _ (b : Builder) (C : CollectedFrom (λ i. moved (label m) (at table i)) count result l (Ok b)) (n : List ℕ) (r : ℕ) (F : Finished l n b.filled r) where
     collected_are : sorted (first l b.filled) ≡ condensed m ts
-    collected_are = sorted-members _ _ (C.members f) ∙ images_are
+    collected_are = sorted-members _ _ C.members ∙ images_are
 
     count-is : r ≡ length (condensed m ts)
     count-is = F.count ∙ ap {B = ℕ} (λ (x : List Triple). length x) collected_are
@@ -81,7 +82,7 @@ module _ (table : List ℕ) (count : ℕ) (m result l : List ℕ) (b : Builder) 
     imaged_count =
         let few = sorted-length (first l b.filled) in
         let full = length-tabulate (at l) 0 b.filled in
-        let fits : length (condensed m ts) ≤ length result / 3 = omega (arith, count-is, F.count, few, full, (C.built f).room, C.size) in
+        let fits : length (condensed m ts) ≤ length result / 3 = omega (arith, count-is, F.count, few, full, C.built.room, C.size) in
         let q = enough [] (length result / 3) (length (condensed m ts)) no_checks fits in
         record {
           answer = ap (λ (k : ℕ). accepted k) count-is ∙ sym q;

@@ -11,7 +11,7 @@ ghost use Rattle.lists.specs.Flat.{at};
 ghost use Rattle.builder.specs.Builder.{first, CollectedFrom};
 ghost use Rattle.summarise.specs.Condensed.{Imaged, Condensed, SummariseCall};
 
-use builder::{Builder, finish, offer};
+use builder::{Builder, Full, finish, offer};
 use checks::work_wrong;
 use lists::{clear, triple_at, wide};
 use model::{Refusal, Triple, Vocabulary};
@@ -30,25 +30,17 @@ pub fn image(map: &[u32], t: Triple) -> Triple
     }
 }
 
-// The images of the first `count` triples, each at least once, or the builder is full.
-fn images(table: &[u32], count: usize, map: &[u32], list: &mut [u32]) -> Builder
+// The images of the first `count` triples, each at least once, or the slots are too few.
+fn images(table: &[u32], count: usize, map: &[u32], list: &mut [u32]) -> Result<Builder, Full>
     requires { (3 * count ≤ length table.now) × AllBelow (length map.now) (first table.now count) }
     ensures { CollectedFrom (λ i. moved (label map.now) (at table.now i)) count list.old list.new result }
 {
-    let mut state = Builder {
-        base: 0,
-        sorted: 0,
-        filled: 0,
-        full: false,
-    };
+    let mut state = Builder::new(0, 0);
     for i in 0..count {
         let t = triple_at(table, i);
-        state = offer(list, state, image(map, t));
-        if state.full {
-            return state;
-        }
+        state = offer(list, state, image(map, t))?;
     }
-    state
+    Ok(state)
 }
 
 // The images of the first `count` triples under a finished map, each once, in rising order. Without the slots for them the result
@@ -62,13 +54,14 @@ pub fn condense_by(
     requires { (3 * count ≤ length table.now) × AllBelow (length map.old) (first table.now count) }
     ensures { Imaged map.old (first table.now count) res.old result res.new map.new }
 {
-    let state = images(table, count, map, res);
-    if state.full {
-        clear(res, 0, res.len());
-        clear(map, 0, map.len());
-        return Err(Refusal::Slots);
+    match images(table, count, map, res) {
+        Ok(state) => Ok(finish(res, state.filled)),
+        Err(Full) => {
+            clear(res, 0, res.len());
+            clear(map, 0, map.len());
+            Err(Refusal::Slots)
+        }
     }
-    Ok(finish(res, state.filled))
 }
 
 // Summarises the first `count` triples of a list, which pass the checks 1, 10, 2, 3, 4 with the words and the roster.

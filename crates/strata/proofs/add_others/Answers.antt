@@ -6,4 +6,4 @@ pub load-requires : goal.load-requires
 load-requires c = sorted-ready _ _ _ _ c.requires c.sort_distinct-count.ensures
 
 pub returns : goal.returns
-returns c = added-sorted _ _ _ _ _ _ _ _ _ c.sort_distinct-count.ensures c.load.ensures
+returns c = added-sorted _ _ _ _ _ c.sort_distinct-count.ensures _ _ _ _ c.load.ensures
