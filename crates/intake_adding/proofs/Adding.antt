@@ -20,7 +20,7 @@ use Rattle.model.specs.Partition.{label}
 use Rattle.model.specs.Cliques.{Node}
 use Rattle.model.specs.Classes.{map_of}
 use Rattle.model.specs.Summary.{moved, summary, weights}
-use Rattle.model.specs.Outcomes.{Outcome, Answer, answer, Said, new, refusal_number, zeroed, replied, outcome_by, outcome_of, reply}
+use Rattle.model.specs.Outcomes.{Outcome, Answer, answer, Said, new, refusal_number, zeroed, replied, outcome_by, reply}
 use Rattle.model.specs.Intake.{State, state_of, Valid}
 use Rattle.theory.proofs.Lists.{any_none, none_any, at_all, mem_get_d}
 use Rattle.theory.proofs.Order.{insert-mem, insert-new}

@@ -22,7 +22,9 @@ use Rattle.model.specs.Intake.{State, Kind, own_refusal, judged_as, held_then, w
 use Rattle.theory.proofs.Tests.{or_left, or_right, or-false, or_neither}
 use Rattle.theory.proofs.Checks.{passes-first, decided-passes, not_accepted, accepted-passes}
 use Rattle.table_checks.proofs.Laws.{first_of, refused-any, kept_by}
-use Rattle.intake_opening.specs.Opening.{wrong_lengths, state_with}
+use Rattle.intake_opening.specs.Opening.{wrong_lengths, state_with, state_in}
+use Rattle.intake_opening.specs.declared.Counts.{Counts}
+use Rattle.intake_opening.specs.declared.Lists.{Lists}
 use Rattle.intake_calls.specs.declared.CalledCounts.{CalledCounts}
 use Rattle.intake_calls.specs.Calls.{with_counts, CallVerdict, Ready, Passing}
 use Rattle.intake_calls.proofs.AnyState.{alters_nothing}
@@ -163,3 +165,11 @@ module _ (v : Vocabulary) where
               in_any_state = T.in_any_state;
               steps = λ H W. let z = T.steps H W in (z.0 ∙ sym (decided-passes cs (judged_as kind (slots triples) H t) passes), z.1);
             }
+
+        -- the same for a call that was passed the lists in a struct: what they hold once the struct is let go
+        pub by_lists : (kind : Kind) (o : Outcome (Answer Said)) (l : Lists) (n : Counts) (w : List ℕ) → Passing v roster kind s work t o (state_in l n) w
+            → (triples' sums' weighed' map' : List ℕ) → triples' ≡ l.triples.now → sums' ≡ l.summary.now → weighed' ≡ l.weights.now → map' ≡ l.map.now
+            → Promises v roster kind s work t o (state_with triples' sums' weighed' map' n.held n.summarised) w
+        by_lists kind o l n w T triples' sums' weighed' map' a b c d =
+            subst (λ (after : State). Promises v roster kind s work t o after w)
+            (λ i. state_with (sym a i) (sym b i) (sym c i) (sym d i) n.held n.summarised) (by_passing kind o (state_in l n) w T)

@@ -9,9 +9,10 @@ use Rattle.model.specs.declared.Vocabulary.{Vocabulary}
 use Rattle.model.specs.Codes.{wrong_words, most_triples}
 use Rattle.model.specs.Triples.{slots}
 use Rattle.model.specs.Roster.{covers_triple, wrong_roster, wrong_triple}
-use Rattle.model.specs.Outcomes.{Outcome, Answer, Said, checked, wrong_size, outcome_by, outcome_of}
+use Rattle.model.specs.Outcomes.{Outcome, Answer, Said, checked, wrong_size, outcome_of}
 use Rattle.model.specs.Intake.{State, Kind, OwnOrAccepted, judged_as, held_then, state_of, intake_checks, Valid, InAnyState}
 use Rattle.intake_opening.specs.Opening.{state_with}
+use Rattle.intake_opening.specs.declared.Lists.{Lists}
 use Rattle.intake_calls.specs.declared.CalledCounts.{CalledCounts}
 
 -- an answer with the counts after it
@@ -36,6 +37,10 @@ module _ (v : Vocabulary) where
     pub most : length triples / 3 ≤ most_triples
     pub weights_size : length weights ≡ length triples / 3
     pub work_size : length work ≡ 2 * length roster
+
+  -- the same of the lists in a struct
+  abbrev pub ReadyLists : (roster : List ℕ) → Lists → (work : List ℕ) → Triple → Type 0
+  ReadyLists roster l work t = Ready roster l.triples.now l.summary.now l.weights.now l.map.now work t
 
   -- a call that no check refuses
   module _ (roster : List ℕ) (kind : Kind) (s : State) (work : List ℕ) (t : Triple) where

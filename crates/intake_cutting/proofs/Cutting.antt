@@ -20,7 +20,7 @@ use Rattle.model.specs.Roster.{covers_triple, covers, wrong_triple, wrong_codes}
 use Rattle.model.specs.Partition.{label}
 use Rattle.model.specs.Classes.{map_of}
 use Rattle.model.specs.Summary.{moved, condensed, summary, weights_by, weights}
-use Rattle.model.specs.Outcomes.{Outcome, Answer, answer, Said, removed, refusal_number, zeroed, replied, outcome_by, outcome_of, reply}
+use Rattle.model.specs.Outcomes.{Outcome, Answer, answer, Said, removed, refusal_number, zeroed, replied, outcome_by, reply}
 use Rattle.model.specs.Intake.{State, state_of, Valid}
 use Rattle.theory.specs.Tables.{Below, AllBelow, Right}
 use Rattle.theory.proofs.Lists.{any_none, none_any, at_all, mem-tabulate}

@@ -5,14 +5,15 @@ ghost use Rattle.std.specs.Prelude.{◌*◌, ◌/◌, ◌<◌, ◌≤◌, length
 ghost use Rattle.model.specs.Outcomes.{replied};
 ghost use Rattle.theory.specs.Tables.{Below};
 ghost use Rattle.lists.specs.Flat.{at};
-ghost use Rattle.intake_opening.specs.Opening.{at_entry, at_exit};
-ghost use Rattle.intake_calls.specs.Calls.{Ready};
+ghost use Rattle.intake_opening.specs.Opening.{state_in, SameLists};
+ghost use Rattle.intake_calls.specs.Calls.{ReadyLists};
 ghost use Rattle.intake_cutting.specs.Cutting.{KeptImage, CutCall};
 
 use intake_calls::{CalledCounts, with_counts};
 use intake_deletion::{delete_at, lighten};
 use intake_ends::ends_kept;
 use intake_insertion::{held_wrong, image_place};
+use intake_opening::{Counts, Lists};
 use intake_weighing::renew;
 use lists::{clear, triple_at};
 use model::{Refusal, Reply, Triple, Vocabulary};
@@ -42,59 +43,66 @@ fn kept_image(
 // Takes out the triple at place i where a class may change: summary, weights and map are made anew. Only an intake altered by hand
 // holds wrong triples.
 fn cut_anew(
-    held: usize,
-    summarised: usize,
+    counts: Counts,
     words: Vocabulary,
     roster: &[u8],
-    triples: &mut [u32],
-    summary: &mut [u32],
-    weights: &mut [u32],
-    map: &mut [u32],
+    lists: &mut Lists,
     work: &mut [u32],
     i: usize,
 ) -> CalledCounts
-    requires { Ready words roster.now triples.old summary.old weights.old map.old work.old (at triples.old i)
-        × (i < held) × (held ≤ length triples.old / 3) }
-    ensures { CutCall words roster.now
-        (at_entry triples summary weights map held summarised) work.old i (replied result.answer)
-        (at_exit triples summary weights map result.counts.held result.counts.summarised) work.new }
+    requires { ReadyLists words roster.now lists.old work.old (at lists.old.triples.now i)
+        × (i < counts.held) × (counts.held ≤ length lists.old.triples.now / 3) }
+    ensures passes { CutCall words roster.now
+        (state_in lists.old counts) work.old i (replied result.answer)
+        (state_in lists.new result.counts) work.new }
+    ensures lent { SameLists lists.old lists.new }
 {
+    let Counts { held, summarised } = counts;
+    let triples = &mut *lists.triples;
     if held_wrong(words, triples, held, roster) {
         return with_counts(Err(Refusal::Missing), held, summarised);
     }
     delete_at(triples, held, i);
     let count = held - 1;
-    let k = renew(words, triples, count, roster, summary, weights, map, work);
+    let k = renew(
+        words,
+        triples,
+        count,
+        roster,
+        lists.summary,
+        lists.weights,
+        lists.map,
+        work,
+    );
     with_counts(Ok(Reply::Removed(i)), count, k)
 }
 
 // Takes out the triple at place i. Where the others keep its ends the map stays, and its line weighs one less or goes.
 pub fn cut(
-    held: usize,
-    summarised: usize,
+    counts: Counts,
     words: Vocabulary,
     roster: &[u8],
-    triples: &mut [u32],
-    summary: &mut [u32],
-    weights: &mut [u32],
-    map: &mut [u32],
+    lists: &mut Lists,
     work: &mut [u32],
     i: usize,
 ) -> CalledCounts
-    requires { Ready words roster.now triples.old summary.old weights.old map.old work.old (at triples.old i)
-        × (i < held) × (held ≤ length triples.old / 3) }
-    ensures { CutCall words roster.now
-        (at_entry triples summary weights map held summarised) work.old i (replied result.answer)
-        (at_exit triples summary weights map result.counts.held result.counts.summarised) work.new }
+    requires { ReadyLists words roster.now lists.old work.old (at lists.old.triples.now i)
+        × (i < counts.held) × (counts.held ≤ length lists.old.triples.now / 3) }
+    ensures passes { CutCall words roster.now
+        (state_in lists.old counts) work.old i (replied result.answer)
+        (state_in lists.new result.counts) work.new }
+    ensures lent { SameLists lists.old lists.new }
 {
+    let Counts { held, summarised } = counts;
+    let triples = &mut *lists.triples;
+    let summary = &mut *lists.summary;
+    let map = &mut *lists.map;
     let t = triple_at(triples, i);
     let Some(j) = kept_image(words, roster, triples, held, i, summary, summarised, map, t) else {
-        return cut_anew(
-            held, summarised, words, roster, triples, summary, weights, map, work, i,
-        );
+        return cut_anew(counts, words, roster, lists, work, i);
     };
     delete_at(triples, held, i);
-    let lines = lighten(summary, weights, summarised, j);
+    let lines = lighten(summary, lists.weights, summarised, j);
     clear(work, 0, work.len()); // as after a summary
     with_counts(Ok(Reply::Removed(i)), held - 1, lines)
 }

@@ -7,6 +7,7 @@ ghost use Rattle.model.specs.Intake.{Fed};
 ghost use Rattle.intake_opening.specs.Opening.{at_entry, at_exit};
 
 use intake_calls::{CalledCounts, call_refusal, with_counts};
+use intake_opening::{Counts, Lists};
 use intake_taking::take_in;
 use model::{Reply, Triple, Vocabulary};
 
@@ -36,8 +37,21 @@ pub fn feed_lists(
     };
     match call_refusal(words, roster, triples, summary, weights, map, work, t) {
         Err(r) => with_counts(Err(r), held, summarised),
-        Ok(()) => take_in(
-            held, summarised, words, roster, triples, summary, weights, map, work, t,
-        ),
+        Ok(()) => {
+            let mut lists = Lists {
+                triples,
+                summary,
+                weights,
+                map,
+            };
+            take_in(
+                Counts { held, summarised },
+                words,
+                roster,
+                &mut lists,
+                work,
+                t,
+            )
+        }
     }
 }

@@ -1,14 +1,12 @@
 -- Opening, answer by answer.
 -- Assumes nothing.
-use Prim.Native.Nat.{ℕ, ◌/◌, ◌<◌, ◌≤◌}
-use mathlib.Core.Path.{◌≡◌, refl, sym, subst, ◌∙◌, ap}
-use mathlib.Core.Bool.{Bool, true, false, cond, not, ◌||◌}
+use Prim.Native.Nat.{ℕ}
+use mathlib.Core.Path.{◌≡◌, refl, sym, subst, ◌∙◌}
+use mathlib.Core.Bool.{Bool, true, false, cond}
 use mathlib.Core.List.{List}
 use native.Mathlib.Omega.{arith}
-use lib.Dec.{eqb, ltb}
 use lib.ListN.{length, replicate, length-replicate, get_or-replicate}
 use lib.Seq.{ext_get_or}
-use borrow.Author.Tests.{ne_eqb, eq-eqb, lt-ltb, le-ltb}
 use Rattle.std.specs.declared.result.Result.{Result}
 use Rattle.std.specs.declared.result.Result.TheVariants.{Ok, Err}
 use Rattle.model.specs.declared.Refusal.{Refusal}
@@ -17,9 +15,8 @@ use Rattle.model.specs.declared.Vocabulary.{Vocabulary}
 use Rattle.model.specs.Codes.{wrong_words, absent}
 use Rattle.model.specs.Triples.{slots}
 use Rattle.model.specs.Roster.{wrong_roster}
-use Rattle.model.specs.Outcomes.{Outcome, refused, accepted, refusal_number, decided, wrong_size, outcome_by, outcome_of}
+use Rattle.model.specs.Outcomes.{Outcome, refused, accepted, refusal_number, decided, outcome_by, outcome_of}
 use Rattle.model.specs.Intake.{State, wrong_lists, open_outcome, opened, open_leaves}
-use Rattle.theory.proofs.Tests.{or_left, or_right}
 use Rattle.lists.specs.Flat.{Cleared}
 use Rattle.lists.proofs.Search.{cleared-all}
 use Rattle.lists.specs.Flat.{Emptied}

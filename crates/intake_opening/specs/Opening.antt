@@ -7,8 +7,10 @@ use Rattle.std.specs.Borrow.{MutBor}
 use denote.Triple.Both.{Both}
 use Rattle.model.specs.declared.Vocabulary.{Vocabulary}
 use Rattle.model.specs.Codes.{most_triples}
-use Rattle.model.specs.Outcomes.{Outcome, wrong_size, outcome_by, outcome_of}
+use Rattle.model.specs.Outcomes.{Outcome, wrong_size, outcome_of}
 use Rattle.model.specs.Intake.{State, open_outcome, open_leaves}
+use Rattle.intake_opening.specs.declared.Counts.{Counts}
+use Rattle.intake_opening.specs.declared.Lists.{Lists}
 
 -- the model's `wrong_lists`, by the lengths
 unfoldable pub wrong_lengths : (n triples summary weights map : ℕ) → Bool
@@ -31,6 +33,17 @@ at_entry triples summary weights map = state_with triples.entry.now summary.entr
 
 abbrev pub at_exit : Lent → Lent → Lent → Lent → ℕ → ℕ → State
 at_exit triples summary weights map = state_with triples.exit.now summary.exit.now weights.exit.now map.exit.now
+
+-- an intake in its lists and its record of counts
+abbrev pub state_in : Lists → Counts → State
+state_in l c = state_with l.triples.now l.summary.now l.weights.now l.map.now c.held c.summarised
+
+-- these are the lists that were lent as those
+pub record SameLists (l l' : Lists) : Type 0 where
+  pub triples : l'.triples.ghost_name ≡ l.triples.ghost_name
+  pub summary : l'.summary.ghost_name ≡ l.summary.ghost_name
+  pub weights : l'.weights.ghost_name ≡ l.weights.ghost_name
+  pub map : l'.map.ghost_name ≡ l.map.ghost_name
 
 module _ (v : Vocabulary) where
   -- the answer, and the four lists after the call, whatever the counts are

@@ -52,6 +52,15 @@ fn open_lists(
     Ok(())
 }
 
+// The lists that are lent to every call on an intake.
+#[derive(Drop)]
+pub struct Lists<'a> {
+    pub triples: &'a mut [u32],
+    pub summary: &'a mut [u32],
+    pub weights: &'a mut [u32],
+    pub map: &'a mut [u32],
+}
+
 // What an intake's record holds: how many triples are held, and how many their summary has.
 #[derive(Clone, Copy)]
 pub struct Counts {

@@ -7,13 +7,13 @@ use mathlib.Core.Bool.{Bool, true, false, cond}
 use mathlib.Core.List.{List}
 use native.Mathlib.Omega.{arith}
 use lib.ListN.{length}
-use Rattle.std.specs.declared.result.Result.TheVariants.{Ok, Err}
+use Rattle.std.specs.declared.result.Result.TheVariants.{Err}
 use Rattle.model.specs.declared.Triple.{Triple}
 use Rattle.model.specs.declared.Refusal.TheVariants.{Missing}
 use Rattle.model.specs.declared.Vocabulary.{Vocabulary}
 use Rattle.model.specs.Triples.{slots, holds, place, without}
 use Rattle.model.specs.Lists.{any}
-use Rattle.model.specs.Outcomes.{Outcome, refused, accepted, refusal_number, Answer, answer, Said, removed, replied, zeroed, outcome_by, outcome_of, reply}
+use Rattle.model.specs.Outcomes.{Outcome, refused, accepted, refusal_number, Answer, answer, Said, removed, replied, zeroed, outcome_by, reply}
 use Rattle.model.specs.Intake.{State, removing, judged_removal, after_saying, held_then, state_of, Valid, InAnyState}
 use Rattle.lists.specs.Flat.{at, Place}
 use Rattle.intake_opening.specs.Opening.{state_with}

@@ -16,7 +16,7 @@ use Rattle.model.specs.declared.Reply.TheVariants.{NotNew}
 use Rattle.model.specs.declared.Vocabulary.{Vocabulary}
 use Rattle.model.specs.Triples.{slots, holds, place, insert}
 use Rattle.model.specs.Lists.{any}
-use Rattle.model.specs.Outcomes.{Outcome, refused, accepted, refusal_number, Answer, answer, Said, new, not_new, replied, zeroed, outcome_by, outcome_of, reply}
+use Rattle.model.specs.Outcomes.{Outcome, refused, accepted, refusal_number, Answer, answer, Said, new, not_new, replied, zeroed, outcome_by, reply}
 use Rattle.model.specs.Intake.{State, feeding, judged, after_saying, held_then, state_of, Valid, InAnyState}
 use Rattle.lists.specs.Flat.{at, Cleared, Place}
 use Rattle.lists.proofs.Search.{cleared-all}

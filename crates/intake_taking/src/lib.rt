@@ -2,34 +2,34 @@
 #![tactic(auto)]
 
 ghost use Rattle.model.specs.Outcomes.{replied};
-ghost use Rattle.intake_opening.specs.Opening.{at_entry, at_exit};
+ghost use Rattle.intake_opening.specs.Opening.{state_in, SameLists};
 ghost use Rattle.model.specs.Intake.{feeding};
-ghost use Rattle.intake_calls.specs.Calls.{Ready, Passing};
+ghost use Rattle.intake_calls.specs.Calls.{ReadyLists, Passing};
 
 use intake_adding::add;
 use intake_calls::{CalledCounts, with_counts};
 use intake_insertion::stands_at;
+use intake_opening::{Counts, Lists};
 use lists::{clear, lower_bound};
 use model::{Refusal, Reply, Triple, Vocabulary};
 
 // A feed that no check refuses.
 pub fn take_in(
-    held: usize,
-    summarised: usize,
+    counts: Counts,
     words: Vocabulary,
     roster: &[u8],
-    triples: &mut [u32],
-    summary: &mut [u32],
-    weights: &mut [u32],
-    map: &mut [u32],
+    lists: &mut Lists,
     work: &mut [u32],
     t: Triple,
 ) -> CalledCounts
-    requires { Ready words roster.now triples.old summary.old weights.old map.old work.old t }
-    ensures { Passing words roster.now feeding
-        (at_entry triples summary weights map held summarised) work.old t (replied result.answer)
-        (at_exit triples summary weights map result.counts.held result.counts.summarised) work.new }
+    requires { ReadyLists words roster.now lists.old work.old t }
+    ensures passes { Passing words roster.now feeding
+        (state_in lists.old counts) work.old t (replied result.answer)
+        (state_in lists.new result.counts) work.new }
+    ensures lent { SameLists lists.old lists.new }
 {
+    let Counts { held, summarised } = counts;
+    let triples = &mut *lists.triples;
     let slots = triples.len() / 3;
     if slots < held {
         return with_counts(Err(Refusal::Full), held, summarised); // only where the record was altered by hand
@@ -40,9 +40,7 @@ pub fn take_in(
         return with_counts(Ok(Reply::NotNew(i)), held, summarised);
     }
     if held < slots {
-        return add(
-            held, summarised, words, roster, triples, summary, weights, map, work, t, i,
-        );
+        return add(counts, words, roster, lists, work, t, i);
     }
     with_counts(Err(Refusal::Full), held, summarised)
 }

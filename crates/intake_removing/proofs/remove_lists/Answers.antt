@@ -1,6 +1,7 @@
 use Rattle.model.specs.Triples.{triple}
 use Rattle.model.specs.Intake.{removing, Promises}
-use Rattle.intake_calls.proofs.Calls.{as_counted, by_refusal, ready, by_passing}
+use Rattle.intake_calls.proofs.Calls.{as_counted, by_refusal, ready, by_lists}
+use Rattle.std.proofs.Common.{rules}
 use Rattle.intake_removing.proofs.remove_lists.Goals as goal
 
 pub take_out-requires : goal.take_out-requires
@@ -16,5 +17,11 @@ returns-in-Err c = let a = c.args in
 
 pub returns-in-Ok : goal.returns-in-Ok
 returns-in-Ok c = let a = c.args in
-    by_passing _ a.roster.now a.triples.now a.summary.now a.weights.now a.map.now a.work.now a.held a.summarised
-    (triple a.s a.p a.o) _ c.call_refusal.ensures c.in-Ok.is removing _ _ _ c.take_out.ensures
+    let same = c.take_out.ensures.lent in
+    let triples = same.triples in
+    let summary = same.summary in
+    let weights = same.weights in
+    let map = same.map in
+    by_lists _ a.roster.now a.triples.now a.summary.now a.weights.now a.map.now a.work.now a.held a.summarised
+    (triple a.s a.p a.o) _ c.call_refusal.ensures c.in-Ok.is removing _ c.take_out.new.lists c.take_out.result.counts _ c.take_out.ensures.passes
+    _ _ _ _ (search rules) (search rules) (search rules) (search rules)
