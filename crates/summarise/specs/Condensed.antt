@@ -9,7 +9,7 @@ use Rattle.model.specs.Lists.{zeros}
 use Rattle.model.specs.Triples.{triples, slots, listed}
 use Rattle.model.specs.Classes.{map_of, strong_map_of}
 use Rattle.model.specs.Summary.{condensed}
-use Rattle.model.specs.Outcomes.{Outcome, check, checked, left, outcome_by, outcome_of}
+use Rattle.model.specs.Outcomes.{Outcome, check, checked, left, outcome_of}
 use Rattle.model.specs.Calls.{summarise_outcome_by, summarise_leaves_by}
 
 module _ (m : List ℕ) (ts : List Triple) where

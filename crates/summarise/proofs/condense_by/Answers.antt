@@ -5,9 +5,6 @@ pub returns-then-state : goal.returns-then-state
 returns-then-state c = imaged_full c.args.table.now c.args.count c.args.map.now c.args.res.now _ _ c.images-state.ensures
     c.if-state.true _ _ c.clear.ensures c.clear-then-state.ensures
 
-pub finish-requires : goal.finish-requires
-finish-requires c = (c.images-state.ensures.built c.if-state.false).room
-
 pub returns : goal.returns
 returns c = imaged_count c.args.table.now c.args.count c.args.map.now c.args.res.now _ _ c.images-state.ensures
     c.if-state.false _ _ c.finish.ensures
