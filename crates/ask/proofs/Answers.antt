@@ -20,7 +20,7 @@ use Rattle.theory.proofs.Tests.{neither_right}
 use Rattle.query.proofs.Exact.{node-below}
 use Rattle.query_places.specs.Places.{InOrder}
 use Rattle.query_settling.specs.Settling.{Searchable}
-use Rattle.query.specs.Ask.{unbound, search, wrong_query, retired, ask_checks, ask_outcome, asked}
+use Rattle.query.specs.Ask.{unbound, search, wrong_query, retired, ask_checks, ask_outcome, asked, says_maybe}
 
 -- what the checks give the search
 pub searchable : (v : Vocabulary) (table map : List ℕ) (q : Query) (rising : Bool)
@@ -68,10 +68,10 @@ module _ (v : Vocabulary) where
               retired-query h = rw (← e₁, h₁, ← e₂, h₂, ← e₀, h₀, ← e₃, h₃, ← e₄, h₄, ← e₅, h)
 
               module _ (h₅ : x₅ ≡ false) {x : Bool} (e : x ≡ search (triples table) map q.patterns q.count 0 unbound) where
-                pub answer-maybe : x ≡ true → asked Maybe ≡ ask_outcome v table map q
+                pub answer-maybe : x ≡ true → asked (Ok Maybe) ≡ ask_outcome v table map q
                 unfolding ask_outcome ask_checks decided outcome_by says_maybe
                 answer-maybe h = rw (← e₁, h₁, ← e₂, h₂, ← e₀, h₀, ← e₃, h₃, ← e₄, h₄, ← e₅, h₅, ← e, h)
 
-                pub answer-none : x ≡ false → asked None ≡ ask_outcome v table map q
+                pub answer-none : x ≡ false → asked (Ok None) ≡ ask_outcome v table map q
                 unfolding ask_outcome ask_checks decided outcome_by says_maybe
                 answer-none h = rw (← e₁, h₁, ← e₂, h₂, ← e₀, h₀, ← e₃, h₃, ← e₄, h₄, ← e₅, h₅, ← e, h)

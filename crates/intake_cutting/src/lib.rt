@@ -88,8 +88,7 @@ pub fn cut(
         (at_exit triples summary weights map result.counts.held result.counts.summarised) work.new }
 {
     let t = triple_at(triples, i);
-    let Some(j) = kept_image(words, roster, triples, held, i, summary, summarised, map, t)
-    else {
+    let Some(j) = kept_image(words, roster, triples, held, i, summary, summarised, map, t) else {
         return cut_anew(
             held, summarised, words, roster, triples, summary, weights, map, work, i,
         );

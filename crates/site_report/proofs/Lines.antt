@@ -15,10 +15,10 @@ use Rattle.model.specs.Codes.{absent}
 use Rattle.model.specs.Lists.{collect, tabulate}
 use Rattle.model.specs.Partition.{label}
 use Rattle.model.specs.declared.Refusal.{Refusal}
-use Rattle.model.specs.Outcomes.{refused, refusal_number, outcome_by, outcome_of}
+use Rattle.model.specs.Outcomes.{refused, refusal_number, outcome_by, outcome_of, accepted}
 use Rattle.query.specs.declared.Asked.{Asked}
 use Rattle.query.specs.declared.Asked.TheVariants.{Maybe, None}
-use Rattle.query.specs.Ask.{asked}
+use Rattle.query.specs.Ask.{asked, says_maybe}
 use Rattle.site_form.specs.Text.{bytes, numeral}
 use Rattle.site_form.specs.Printing.{refused_line, summary_line, pair_line, node_line, node_lines, maybe_line, none_line, retired_line, answer_line}
 use Rattle.site_bytes.specs.Calls.{Room, Put}
@@ -185,10 +185,10 @@ module _ {A : Type 0} (f : A → List ℕ) (g : ℕ → A) where
   collect-numbers i zero = refl
   collect-numbers i (suc n) = ap (λ (x : List ℕ). f (g i) ++ x) (collect-numbers (suc i) n)
 
-abbrev pub line_at : List Result Asked Refusal → ℕ → List ℕ
+abbrev pub line_at : List (Result Asked Refusal) → ℕ → List ℕ
 line_at answers i = answer_line (answer_at answers i)
 
-pub answers_are : (answers : List Result Asked Refusal) (n : ℕ) → collect answer_line (answers_in answers n) ≡ numbered (line_at answers) n
+pub answers_are : (answers : List (Result Asked Refusal)) (n : ℕ) → collect answer_line (answers_in answers n) ≡ numbered (line_at answers) n
 unfolding answers_in
 answers_are answers n = collect-numbers answer_line (answer_at answers) 0 n
 
@@ -200,18 +200,14 @@ module _ (from : ℕ) {xs ys : List ℕ} (e : xs ≡ ys) where
   put_as l out r p = subst (λ (x : List ℕ). Put l from x out r) (sym e) p
 
 -- ── the line of an answer ──
-module _ (a : Result Asked Refusal) where
-  pub line-maybe : a ≡ Maybe → answer_line (asked a) ≡ maybe_line
-  unfolding answer_line outcome_by says_maybe
-  line-maybe e = ap (λ (x : Result Asked Refusal). answer_line (asked x)) e
+module _ (a : Asked) where
+  pub line-maybe : a ≡ Maybe → answer_line (accepted (says_maybe a)) ≡ maybe_line
+  unfolding answer_line says_maybe
+  line-maybe e = ap (λ (x : Asked). answer_line (accepted (says_maybe x))) e
 
-  pub line-none : a ≡ None → answer_line (asked a) ≡ none_line
-  unfolding answer_line outcome_by says_maybe
-  line-none e = ap (λ (x : Result Asked Refusal). answer_line (asked x)) e
-
-  pub line_refused : (r : Refusal) → a ≡ Err r → answer_line (asked a) ≡ answer_line (refused (refusal_number r))
-  unfolding outcome_by says_maybe
-  line_refused r e = ap (λ (x : Result Asked Refusal). answer_line (asked x)) e
+  pub line-none : a ≡ None → answer_line (accepted (says_maybe a)) ≡ none_line
+  unfolding answer_line says_maybe
+  line-none e = ap (λ (x : Asked). answer_line (accepted (says_maybe x))) e
 
 module _ (n : ℕ) {t : Bool} (h : t ≡ eqb n 12) where
   pub line-retired : t ≡ true → answer_line (refused n) ≡ retired_line

@@ -11,8 +11,8 @@ use Rattle.query.specs.declared.Asked.TheVariants.{Maybe}
 use Rattle.query.specs.Ask.{asked}
 
 -- the outcomes of the first answers
-abbrev pub answer_at : List Result Asked Refusal → ℕ → Outcome Bool
-answer_at answers i = asked (get_or answers i Maybe)
+abbrev pub answer_at : List (Result Asked Refusal) → ℕ → Outcome Bool
+answer_at answers i = asked (get_or answers i (Ok Maybe))
 
-unfoldable pub answers_in : List Result Asked Refusal → ℕ → List (Outcome Bool)
+unfoldable pub answers_in : List (Result Asked Refusal) → ℕ → List (Outcome Bool)
 answers_in answers n = tabulate (answer_at answers) 0 n

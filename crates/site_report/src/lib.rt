@@ -3,8 +3,8 @@
 
 ghost use Rattle.std.specs.Prelude.{◌<◌, ◌≤◌, length};
 ghost use Rattle.model.specs.Lists.{collect};
-ghost use Rattle.model.specs.Outcomes.{refused, refusal_number};
-ghost use Rattle.query.specs.Ask.{asked};
+ghost use Rattle.model.specs.Outcomes.{refused, accepted, refusal_number};
+ghost use Rattle.query.specs.Ask.{asked, says_maybe};
 ghost use Rattle.site_form.specs.Text.{most_asks};
 ghost use Rattle.site_form.specs.Printing.{refused_line, summary_line, pair_line, node_line, node_lines, answer_line};
 ghost use Rattle.site_bytes.specs.Calls.{HasRoom, Wrote};
@@ -75,14 +75,26 @@ fn put_refused_query(page: &mut Page, refusal: Refusal)
     }
 }
 
+// Puts the line of an answer that is not refused.
+#[tactic(auto, unfolding(site_form::specs::Printing::answer_line, query::specs::Ask::says_maybe))]
+fn put_said(page: &mut Page, said: Asked)
+    requires { HasRoom page.old (answer_line (accepted (says_maybe said))) }
+    ensures { Wrote page.old (answer_line (accepted (says_maybe said))) page.new }
+{
+    match said {
+        Asked::Maybe => page.put(b"(ask maybe)\n"),
+        Asked::None => page.put(b"(ask none)\n"),
+    }
+}
+
 // Puts the line of an answer.
+#[tactic(auto, unfolding(model::specs::Outcomes::outcome_by))]
 fn put_answer(page: &mut Page, answer: Result<Asked, Refusal>)
     requires { HasRoom page.old (answer_line (asked answer)) }
     ensures { Wrote page.old (answer_line (asked answer)) page.new }
 {
     match answer {
-        Ok(Asked::Maybe) => page.put(b"(ask maybe)\n"),
-        Ok(Asked::None) => page.put(b"(ask none)\n"),
+        Ok(said) => put_said(page, said),
         Err(r) => put_refused_query(page, r),
     }
 }

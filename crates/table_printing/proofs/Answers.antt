@@ -21,28 +21,14 @@ use Rattle.query.specs.declared.Asked.{Asked}
 use Rattle.query.specs.declared.Asked.TheVariants.{Maybe, None}
 use Rattle.query.specs.declared.Pattern.{Pattern}
 use Rattle.query.specs.declared.Query.{Query}
-use Rattle.query.specs.Ask.{asked, ask_outcome}
+use Rattle.query.specs.Ask.{asked, ask_outcome, says_maybe}
 use Rattle.site_form.specs.Reading.{query_of, queries_of}
 use Rattle.site_form.specs.Printing.{is_wrong, query_answers}
 use Rattle.site_report.specs.Lines.{answer_at, answers_in}
 use Rattle.table_printing.specs.Outcomes.{no_query, asked_of}
 
--- ── one answer ──
-module _ (a : Result Asked Refusal) where
-  pub not_maybe : a ≡ Maybe → false ≡ is_wrong (asked a)
-  unfolding outcome_by says_maybe
-  not_maybe e = ap (λ (x : Result Asked Refusal). is_wrong (asked x)) (sym e)
-
-  pub not_none : a ≡ None → false ≡ is_wrong (asked a)
-  unfolding outcome_by says_maybe
-  not_none e = ap (λ (x : Result Asked Refusal). is_wrong (asked x)) (sym e)
-
-  pub if_refused : (r : Refusal) (t : Bool) → a ≡ Err r → t ≡ eqb (refusal_number r) 12 → not t ≡ is_wrong (asked a)
-  unfolding outcome_by says_maybe
-  if_refused r t e h = ap not h ∙ ap (λ (x : Result Asked Refusal). is_wrong (asked x)) (sym e)
-
 -- ── some answer ──
-pub wrong-by : (answers : List Result Asked Refusal) (n : ℕ) {b : Bool} → b ≡ any is_wrong (tabulate (answer_at answers) 0 n) → b ≡ any is_wrong (answers_in answers n)
+pub wrong-by : (answers : List (Result Asked Refusal)) (n : ℕ) {b : Bool} → b ≡ any is_wrong (tabulate (answer_at answers) 0 n) → b ≡ any is_wrong (answers_in answers n)
 unfolding answers_in
 wrong-by answers n e = e
 
@@ -66,24 +52,24 @@ module _ (v : Vocabulary) where
     abbrev pub outcome_at : ℕ → Outcome Bool
     outcome_at i = ask_outcome v table map (get_or queries i no_query)
 
-    pub record Asking (answers : List Result Asked Refusal) (i : ℕ) : Type 0 where
+    pub record Asking (answers : List (Result Asked Refusal)) (i : ℕ) : Type 0 where
       pub size : length answers ≡ 16
       pub same : (j : ℕ) → j < i → answer_at answers j ≡ outcome_at j
 
-    pub asks-start : Asking (replicate 16 Maybe) 0
+    pub asks-start : Asking (replicate 16 (Ok Maybe)) 0
     asks-start = record { size = refl; same = λ j h. absurd (omega arith) }
 
-    pub asks-step : (answers : List Result Asked Refusal) (i : ℕ) → Asking answers i → i < 16 → (a : Result Asked Refusal) → asked a ≡ outcome_at i → Asking (set answers i a) (i + 1)
+    pub asks-step : (answers : List (Result Asked Refusal)) (i : ℕ) → Asking answers i → i < 16 → (a : Result Asked Refusal) → asked a ≡ outcome_at i → Asking (set answers i a) (i + 1)
     asks-step answers i h k a e = record {
       size = length-set answers i a ∙ h.size;
       same = λ j m. go j m (cmp j i);
     }
       where
         go : (j : ℕ) → j < i + 1 → Cmp j i → answer_at (set answers i a) j ≡ outcome_at j
-        go j m (lt x) = ap asked (get_or-set_other answers i j a Maybe (omega arith)) ∙ h.same j x
+        go j m (lt x) = ap asked (get_or-set_other answers i j a (Ok Maybe) (omega arith)) ∙ h.same j x
         go j m (eq x) =
             ap (λ (z : ℕ). answer_at (set answers i a) z) x
-            ∙ ap asked (get_or-set_same answers i a Maybe (omega (arith, h.size)))
+            ∙ ap asked (get_or-set_same answers i a (Ok Maybe) (omega (arith, h.size)))
             ∙ e
             ∙ ap outcome_at (sym x)
         go j m (gt x) = absurd (omega arith)
@@ -93,7 +79,7 @@ module _ (v : Vocabulary) where
     same-table f g i zero h = refl
     same-table f g i (suc n) h = λ k. h i (omega arith) k ∷ same-table f g (suc i) n (λ j l. h j (omega arith)) k
 
-    pub asks-end : (answers : List Result Asked Refusal) (i n : ℕ) → Asking answers i → n ≤ i → answers_in answers n ≡ asked_of v table map queries n
+    pub asks-end : (answers : List (Result Asked Refusal)) (i n : ℕ) → Asking answers i → n ≤ i → answers_in answers n ≡ asked_of v table map queries n
     unfolding answers_in asked_of
     asks-end answers i n h k = same-table (answer_at answers) outcome_at 0 n (λ j l. h.same j (omega arith))
 

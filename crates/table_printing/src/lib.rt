@@ -39,12 +39,12 @@ pub fn refuse(out: &mut [u8], refusal: Refusal) -> usize
 }
 
 // Whether a query was refused, and not because it is retired.
+#[tactic(auto, unfolding(model::specs::Outcomes::outcome_by))]
 fn is_wrong(answer: Result<Asked, Refusal>) -> bool
     ensures { result ≡ is_wrong (asked answer) }
 {
     match answer {
-        Ok(Asked::Maybe) => false,
-        Ok(Asked::None) => false,
+        Ok(_) => false,
         Err(r) => !is_retired(r),
     }
 }

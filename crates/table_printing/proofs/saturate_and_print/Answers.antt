@@ -9,18 +9,18 @@ returns-in_default c = shows _ _ _ (sat-refused _ _ _ _ c.requires.1 c.requires.
 
 pub overflow_mul-k : goal.overflow_mul-k
 overflow_mul-k c = let h = sat-few _ _ _ _ c.requires.1 c.requires.2 _ _ c.own_roster.ensures _ _ c.saturate.ensures _
-    c.in-Count.is in omega arith
+    c.in-Ok.is in omega arith
 
 pub slice_bounds-print_saturated_table-end : goal.slice_bounds-print_saturated_table-end
-slice_bounds-print_saturated_table-end c = sat-end _ _ _ _ c.requires.1 c.requires.2 _ _ c.own_roster.ensures _ _ c.saturate.ensures _ c.in-Count.is
+slice_bounds-print_saturated_table-end c = sat-end _ _ _ _ c.requires.1 c.requires.2 _ _ c.own_roster.ensures _ _ c.saturate.ensures _ c.in-Ok.is
 
 pub print_saturated_table-requires : goal.print_saturated_table-requires
 print_saturated_table-requires c = (
   c.requires.0,
   sat-whole _ _ _ _ c.requires.1 c.requires.2 _ _ c.own_roster.ensures _ _ c.saturate.ensures _
-      c.in-Count.is,
+      c.in-Ok.is,
 )
 
 pub returns : goal.returns
-returns c = sat-put _ _ _ _ c.requires.1 c.requires.2 _ _ c.own_roster.ensures _ _ c.saturate.ensures _ c.in-Count.is _ _ _ _
+returns c = sat-put _ _ _ _ c.requires.1 c.requires.2 _ _ c.own_roster.ensures _ _ c.saturate.ensures _ c.in-Ok.is _ _ _ _
     _ c.print_saturated_table.ensures

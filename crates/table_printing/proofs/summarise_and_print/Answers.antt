@@ -8,22 +8,22 @@ returns-in_default c = absurd (never_refused _ _ _ _ _ _ c.requires.1 c.requires
 
 pub overflow_mul-k : goal.overflow_mul-k
 overflow_mul-k c = let h = sum-few _ _ _ _ _ _ c.requires.1 c.requires.2 c.requires.3 c.requires.4 _ _ _ _ c.summarise.ensures _
-    c.in-Count.is in omega arith
+    c.in-Ok.is in omega arith
 
 pub slice_bounds-ask_and_print-end : goal.slice_bounds-ask_and_print-end
-slice_bounds-ask_and_print-end c = sum-end _ _ _ _ _ _ c.requires.1 c.requires.2 c.requires.3 c.requires.4 _ _ _ _ c.summarise.ensures _ c.in-Count.is
+slice_bounds-ask_and_print-end c = sum-end _ _ _ _ _ _ c.requires.1 c.requires.2 c.requires.3 c.requires.4 _ _ _ _ c.summarise.ensures _ c.in-Ok.is
 
 pub ask_and_print-requires : goal.ask_and_print-requires
 ask_and_print-requires c = (
   c.requires.0,
   sum-table _ _ _ _ _ _ c.requires.1 c.requires.2 c.requires.3 c.requires.4 _ _ _ _ c.summarise.ensures _
-      c.in-Count.is,
+      c.in-Ok.is,
   sum-map _ _ _ _ _ _ c.requires.1 c.requires.2 c.requires.3 c.requires.4 _ _ _ _
-      c.summarise.ensures _ c.in-Count.is,
+      c.summarise.ensures _ c.in-Ok.is,
   sum_room _ _ _ _ _ _ c.requires.1 c.requires.2 c.requires.3 c.requires.4 _ _
-      _ _ c.summarise.ensures _ c.in-Count.is _ _ c.requires.0,
+      _ _ c.summarise.ensures _ c.in-Ok.is _ _ c.requires.0,
 )
 
 pub returns : goal.returns
-returns c = sum-put _ _ _ _ _ _ c.requires.1 c.requires.2 c.requires.3 c.requires.4 _ _ _ _ c.summarise.ensures _ c.in-Count.is _
+returns c = sum-put _ _ _ _ _ _ c.requires.1 c.requires.2 c.requires.3 c.requires.4 _ _ _ _ c.summarise.ensures _ c.in-Ok.is _
     _ c.requires.0 _ _ _ c.ask_and_print.ensures
