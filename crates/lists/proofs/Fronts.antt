@@ -12,9 +12,6 @@ use Rattle.lists.specs.Flat.{RisingPart}
 use Rattle.lists.proofs.Compare.{Cmp, lt, eq, gt, cmp}
 
 -- ── rising order ──
-pub rises-start : (f : ℕ → Triple) → RisingPart f 0 1
-rises-start f i j a b c = absurd (omega arith)
-
 pub rises-step : (f : ℕ → Triple) (i : ℕ) → 1 ≤ i → RisingPart f 0 i → (t : Triple) → t ≡ f i → before (f (i - 1)) t ≡ true → RisingPart f 0 (i + 1)
 rises-step f i low r t e h a b x y z = go (cmp b i)
   where

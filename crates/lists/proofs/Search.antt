@@ -2,14 +2,13 @@
 -- Assumes nothing.
 use Prim.Native.Nat.{ℕ, ◌+◌, ◌-◌, ◌<◌, ◌≤◌}
 use mathlib.Core.Bool.{Bool, true, false, true≢false}
-use mathlib.Core.Path.{◌≡◌, refl, sym, ◌∙◌, ap, subst}
+use mathlib.Core.Path.{◌≡◌, sym, ◌∙◌, ap, subst}
 use mathlib.Core.Logic.{⊎_elim}
 use mathlib.Core.List.{List, Memᴰ as Mem}
 use native.Mathlib.Omega.{arith}
-use lib.ListN.{length, get_or, set, length-set, replicate, length-replicate, get_or-replicate}
-use lib.Seq.{get_or-set_same, get_or-set_other, ext_get_or}
+use lib.ListN.{length, replicate, length-replicate, get_or-replicate}
+use lib.Seq.{ext_get_or}
 use Rattle.model.specs.declared.Triple.{Triple}
-use Rattle.model.specs.Codes.{absent}
 use Rattle.model.specs.Lists.{how_many, tabulate, zeros}
 use Rattle.model.specs.Triples.{before, same, holds, place}
 use Rattle.model.specs.Order.{Lt}
@@ -17,7 +16,7 @@ use Rattle.theory.proofs.Tests.{bool_cases, not_true_false}
 use Rattle.theory.proofs.Lists.{tabulate-mem, mem-tabulate}
 use Rattle.theory.proofs.Runs.{many-parts, run-many-all, run-many-none}
 use Rattle.theory.proofs.Order.{lt_trans, lt_irrefl, before-lt, lt-before, same-eq, same_refl, mem-holds, holds-mem}
-use Rattle.lists.specs.Flat.{RisingPart, Bound, Place, Cleared, Emptied}
+use Rattle.lists.specs.Flat.{RisingPart, Bound, Place, Cleared}
 use Rattle.lists.proofs.Compare.{Cmp, lt, eq, gt, cmp}
 
 -- all before `low` comes before t, all from `high` on does not
@@ -118,48 +117,9 @@ module _ (f : ℕ → Triple) (a b : ℕ) (t : Triple) (i : ℕ) (r : RisingPart
       absurd (lt_irrefl (subst (Lt (f z.0)) z.3 (w.below z.0 z.1 (omega (arith, z.1, z.2, w.low, w.high)))))))
 
 -- ── clearing ──
-pub cleared-start : (l : List ℕ) (a : ℕ) → Cleared l l a a
-cleared-start l a = record { size = refl; zeros = λ i x y. absurd (omega arith); rest = λ i h. refl }
-
-pub cleared-step : (l m : List ℕ) (a i : ℕ) → a ≤ i → i < length m → Cleared l m a i → Cleared l (set m i 0) a (i + 1)
-cleared-step l m a i h k c =
-    record {
-      size = length-set m i 0 ∙ c.size;
-      zeros = λ j x y. go j x y (cmp j i);
-      rest = λ j w. off j w (cmp j i);
-    }
-  where
-    go : (j : ℕ) → a ≤ j → j < i + 1 → Cmp j i → get_or (set m i 0) j 0 ≡ 0
-    go j x y (lt z) = get_or-set_other m i j 0 0 (omega arith) ∙ c.zeros j x z
-    go j x y (eq z) = rw z (get_or-set_same m i 0 0 k)
-    go j x y (gt z) = absurd (omega arith)
-
-    off : (j : ℕ) → (a ≤ j → i + 1 ≤ j) → Cmp j i → get_or (set m i 0) j 0 ≡ get_or l j 0
-    off j w (lt z) = get_or-set_other m i j 0 0 (omega arith) ∙ c.rest j (λ x. absurd (let q = w x in omega arith))
-    off j w (eq z) = absurd (let q = w (omega arith) in omega arith)
-    off j w (gt z) = get_or-set_other m i j 0 0 (omega arith) ∙ c.rest j (λ x. omega arith)
-
-pub cleared-end : (l m : List ℕ) (a b i : ℕ) → Cleared l m a i → i ≡ b → Cleared l m a b
-cleared-end l m a b i c e = subst (Cleared l m a) e c
-
 -- a list that is all cleared
 pub cleared-all : (l m : List ℕ) (i : ℕ) → Cleared l m 0 i → length l ≤ i → m ≡ zeros (length l)
 unfolding zeros
 cleared-all l m i c h =
     ext_get_or 0 m (replicate (length l) 0) (c.size ∙ sym (length-replicate (length l) 0))
     (λ k q. c.zeros k (omega arith) (omega (arith, c.size)) ∙ sym (get_or-replicate (length l) k 0 0 (omega (arith, c.size))))
-
--- ── every entry absent ──
-pub emptied_start : (l : List ℕ) → Emptied l l 0
-emptied_start l = record { size = refl; absents = λ x h. absurd (omega arith) }
-
-pub emptied_step : (l₀ l : List ℕ) (i : ℕ) → Emptied l₀ l i → i < length l → Emptied l₀ (set l i absent) (i + 1)
-emptied_step l₀ l i d h = record { size = length-set l i absent ∙ d.size; absents = λ x b. go x b (cmp x i) }
-  where
-    go : (x : ℕ) → x < i + 1 → Cmp x i → get_or (set l i absent) x 0 ≡ absent
-    go x b (lt z) = get_or-set_other l i x absent 0 (omega arith) ∙ d.absents x z
-    go x b (eq z) = rw z (get_or-set_same l i absent 0 h)
-    go x b (gt z) = absurd (omega arith)
-
-pub emptied_end : (l₀ l : List ℕ) (i : ℕ) → Emptied l₀ l i → length l ≤ i → Emptied l₀ l (length l₀)
-emptied_end l₀ l i d h = record { size = d.size; absents = λ x b. d.absents x (omega (arith, d.size)) }

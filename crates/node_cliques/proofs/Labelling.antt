@@ -30,7 +30,7 @@ use Rattle.property_groups.specs.Grouping.{Grouping, Grouped}
 use Rattle.property_groups.proofs.Entries.{forest-same, roots-same}
 use Rattle.property_groups.proofs.Ends.{root-label, all-triples}
 use Rattle.node_cliques.specs.Labels.{or_none, is_label, node_cliques}
-use Rattle.node_cliques.specs.Labelling.{EntriesFilled, FirstProperties, label_of, NodesLabelled, Labelling, SomeProperties}
+use Rattle.node_cliques.specs.Labelling.{EntriesFilled, FirstProperties, label_of, NodesLabelled, Labelling}
 use Rattle.node_cliques.proofs.Fills.{other-plain}
 
 -- ── one code ──
@@ -41,10 +41,6 @@ label-absent none l c q = rw (eq-eqb (get_or l c 0) absent q)
 label-present : (none : ℕ) (l : List ℕ) (c : ℕ) → (get_or l c 0 ≡ absent → ⊥) → root l (get_or l c 0) ≡ label_of none l c
 unfolding label_of
 label-present none l c q = rw (ne_eqb (get_or l c 0) absent q)
-
-pub labelling-start : (A : ℕ → Bool) (roster : List ℕ) (none : ℕ) (l : List ℕ) → FirstProperties A roster l → Labelling A roster none l l 0
-labelling-start A roster none l f =
-    record { start = f; state = record { size = refl; forest = f.forest; roots = λ x a. refl; done = λ c h u. absurd (omega arith); rest = λ c h u. refl } }
 
 module _ (A : ℕ → Bool) (roster : List ℕ) (none : ℕ) (l₀ l : List ℕ) (i : ℕ) (L : Labelling A roster none l₀ l i) (h : i < length roster) where
   S : NodesLabelled A roster none l₀ l i
@@ -147,9 +143,6 @@ module _ (v : Vocabulary) (table roster : List ℕ) (e : Side) (R : Right v rost
         marked = G.marked;
         held = λ c h u. ⊎_elim (λ z. inl z) (λ x. inr (G.first c (get_or l c 0) x).1) (G.held c h u);
       }
-
-  pub some-properties : SomeProperties roster l
-  some-properties = record { A = g.active; start = properties }
 
   module _ (l₁ : List ℕ) (N : (A : ℕ → Bool) → FirstProperties A roster l → NodesLabelled A roster v.instance l l₁ (length roster)) where
     M : NodesLabelled g.active roster v.instance l l₁ (length roster)

@@ -1,6 +1,6 @@
 -- Entries of a list: lists that agree on a forest, and the loops that make entries absent.
 -- Assumes nothing.
-use Prim.Native.Nat.{ℕ, ◌+◌, ◌<◌, ◌≤◌}
+use Prim.Native.Nat.{ℕ, ◌+◌, ◌<◌}
 use mathlib.Core.Path.{◌≡◌, refl, sym, ◌∙◌, ap}
 use mathlib.Core.Bool.{Bool, true, false}
 use mathlib.Core.List.{List}
@@ -30,20 +30,8 @@ module _ (A : ℕ → Bool) (l l' : List ℕ) (f : Forest A l) (same : (y : ℕ)
       (λ y h a. root_top l' y (omega (arith, same y a)) ∙ sym (root_top l y h))
       (λ y h k a. root-up l' y (omega (arith, same y a)) ∙ ap (root l') (same y a) ∙ k (f.links y a) ∙ sym (root-up l y h))
 
--- ── a property seen for the first time ──
--- ── a property linked at a node ──
-module _ (l : List ℕ) (n p i a q : ℕ) (e : i ≡ n) (h : get_or l i 0 ≡ absent → ⊥) (r : a ≡ get_or l i 0) (s : q ≡ p) where
-  there : a ≡ get_or l n 0
-  there = r ∙ ap (λ (j : ℕ). get_or l j 0) e
-
-  named : get_or l n 0 ≡ absent → ⊥
-  named z = h (ap (λ (j : ℕ). get_or l j 0) e ∙ z)
-
 -- ── the entries of unmarked codes absent ──
 module _ (roster : List ℕ) where
-  pub cleared-start : (l : List ℕ) → NodesCleared roster l l 0
-  cleared-start l = record { size = refl; nodes = λ x h u. absurd (omega arith); rest = λ x m. refl }
-
   plain : (i : ℕ) → get_or roster i 0 ≡ 0 → unmarked roster i ≡ true
   unfolding unmarked
   plain i h = eq-eqb (get_or roster i 0) 0 h
@@ -66,6 +54,3 @@ module _ (roster : List ℕ) where
       nodes = λ x b v. let n : x ≡ i → ⊥ = λ q. not_both v (ap (unmarked roster) q ∙ other i u) in d.nodes x (omega arith) v;
       rest = d.rest;
     })
-
-    pub cleared-end : length l₀ ≤ i → NodesCleared roster l₀ l (length l₀)
-    cleared-end h = record { size = d.size; nodes = λ x b v. d.nodes x (omega arith) v; rest = d.rest }

@@ -1,7 +1,7 @@
 -- Numerals, digit by digit from the last.
 -- Assumes nothing.
 use Prim.Native.Nat.{ℕ, zero, suc, ◌+◌, ◌-◌, ◌*◌, ◌/◌, ◌%◌, ◌<◌, ◌≤◌}
-use mathlib.Core.Path.{◌≡◌, refl, sym, ◌∙◌, ap}
+use mathlib.Core.Path.{◌≡◌, sym, ◌∙◌, ap}
 use mathlib.Core.List.{List, [], ◌∷◌, ◌++◌}
 use native.Mathlib.Omega.{arith}
 use lib.ListN.{length, set, length-append}
@@ -31,9 +31,6 @@ one-longer n h = ap length (last-digit n h) ∙ length-append (numeral (n / 10))
 pub record Counting (v count rest : ℕ) : Type 0 where
   pub counts : count + length (numeral rest) ≡ length (numeral v) + 1
   pub small : count + rest ≤ v + 1
-
-pub count-start : (v : ℕ) → Counting v 1 v
-count-start v = record { counts = omega arith; small = omega arith }
 
 pub count-step : (v count rest : ℕ) → Counting v count rest → 10 ≤ rest → Counting v (count + 1) (rest / 10)
 count-step v count rest h g = record { counts = omega (arith, h.counts, one-longer rest g); small = omega (arith, h.small) }
@@ -72,9 +69,6 @@ pub record Numbering (l₀ : List ℕ) (at v : ℕ) (l : List ℕ) (rest i : ℕ
   pub size : length l ≡ length l₀
 
 module _ (l₀ : List ℕ) (at v : ℕ) where
-  pub numeral-start : (i k : ℕ) → k ≡ length (numeral v) → i ≡ at + k → Numbering l₀ at v l₀ v i
-  numeral-start i k e f = record { place = omega arith; gives = refl; size = refl }
-
   module _ (l : List ℕ) (rest i : ℕ) (h : Numbering l₀ at v l rest i) where
     pub some_left : 10 ≤ rest → 1 ≤ i
     some_left g = omega (arith, h.place, one-longer rest g)

@@ -1,17 +1,13 @@
 -- Bytes stored from a place on.
 -- Assumes nothing.
-use Prim.Native.Nat.{ℕ, suc, ◌+◌, ◌<◌, ◌≤◌}
-use mathlib.Core.Path.{◌≡◌, refl, sym, ◌∙◌, ap}
+use Prim.Native.Nat.{ℕ, suc, ◌+◌}
+use mathlib.Core.Path.{◌≡◌, sym, ◌∙◌, ap}
 use mathlib.Core.List.{List, [], ◌∷◌, ◌++◌, append_assoc}
-use native.Mathlib.Numerals.{add-one}
 use native.Mathlib.Omega.{arith}
-use lib.ListN.{length, drop, get_or, set, length-set, length-append, drop_of_length-le}
-use lib.Seq.{sets, length-sets, set_comm, set_out, drop-cons}
+use lib.ListN.{length, drop, set, length-set, length-append}
+use lib.Seq.{sets, length-sets, set_comm}
 use Rattle.site_bytes.specs.declared.Page.{Page}
 use Rattle.site_bytes.specs.Calls.{Room, Put, HasRoom, Wrote}
-
-pub outside : (l : List ℕ) (i b : ℕ) → length l ≤ i → l ≡ set l i b
-outside l i b h = sym (set_out l i b h)
 
 pub set-size : (l m : List ℕ) (i b : ℕ) → m ≡ set l i b → length m ≡ length l
 set-size l m i b e = ap length e ∙ length-set l i b
@@ -78,22 +74,3 @@ room-on-new p f xs h = omega arith
 pub record Putting (l₀ : List ℕ) (at : ℕ) (w l : List ℕ) (i : ℕ) : Type 0 where
   pub gives : sets l (at + i) (drop i w) ≡ sets l₀ at w
   pub size : length l ≡ length l₀
-
-module _ (l₀ : List ℕ) (at : ℕ) (w : List ℕ) where
-  pub bytes-start : Putting l₀ at w l₀ 0
-  bytes-start = let e : at + 0 ≡ at = omega arith in record { gives = ap (λ (k : ℕ). sets l₀ k w) e; size = refl }
-
-  module _ (l : List ℕ) (i : ℕ) (h : Putting l₀ at w l i) where
-    pub bytes-step : i < length w → (m : List ℕ) → m ≡ set l (at + i) (get_or w i 0) → Putting l₀ at w m (i + 1)
-    bytes-step k m e =
-        let f : at + (i + 1) ≡ suc (at + i) = omega arith in
-        record {
-          gives =
-              (λ j. sets (e j) (f j) (drop (add-one i j) w))
-              ∙ ap (sets l (at + i)) (sym (drop-cons w i 0 k))
-              ∙ h.gives;
-          size = set-size l m (at + i) (get_or w i 0) e ∙ h.size;
-        }
-
-    pub bytes-end : length w ≤ i → Put l₀ at w l (at + length w)
-    bytes-end k = record { list = ap (sets l (at + i)) (sym (drop_of_length-le w k)) ∙ h.gives; next = refl }

@@ -14,6 +14,7 @@ use query::{End, Pattern};
 use site_tokens::{Read, line_end, number_after, word};
 
 // The line `(site N)`.
+#[tactic(auto, using(crate::proofs::Forms::site_parts))]
 pub fn site_line(text: &[u8], at: usize) -> Option<Read<u32>>
     ensures { step result ≡ site_reader text.now at }
 {
@@ -26,6 +27,7 @@ pub fn site_line(text: &[u8], at: usize) -> Option<Read<u32>>
 }
 
 // Three numbers with single spaces between them, the first behind the bytes w, and the line's end; as a triple.
+#[tactic(auto, using(crate::proofs::Forms::three_parts))]
 fn three_numbers(text: &[u8], at: usize, w: &[u8]) -> Option<Read<Triple>>
     ensures { step result ≡ three_in w.now triple text.now at }
 {
@@ -42,6 +44,7 @@ fn three_numbers(text: &[u8], at: usize, w: &[u8]) -> Option<Read<Triple>>
 }
 
 // A line `(t S P O)`.
+#[tactic(auto, unfolding(site_tokens::specs::Steps::three_in, site_form::specs::Reading::triple_reader))]
 pub fn triple_line(text: &[u8], at: usize) -> Option<Read<Triple>>
     ensures { step result ≡ triple_reader text.now at }
 {
@@ -49,6 +52,7 @@ pub fn triple_line(text: &[u8], at: usize) -> Option<Read<Triple>>
 }
 
 // The line `(words A B C D E)`.
+#[tactic(auto, using(crate::proofs::Forms::words_parts))]
 pub fn words_line(text: &[u8], at: usize) -> Option<Read<Vocabulary>>
     ensures { step result ≡ words_reader text.now at }
 {
@@ -69,6 +73,7 @@ pub fn words_line(text: &[u8], at: usize) -> Option<Read<Vocabulary>>
 }
 
 // The number of an end: behind the bytes w, and with a closing bracket.
+#[tactic(auto, using(crate::proofs::Forms::end_parts))]
 fn end_number(text: &[u8], at: usize, w: &[u8]) -> Option<Read<u32>>
     ensures { (make : ℕ → End) → mapped make (step result) ≡ end_in w.now make text.now at }
 {
@@ -92,6 +97,7 @@ fn code_end(text: &[u8], at: usize) -> Option<Read<End>>
 }
 
 // An end `(v K)` or `(c CODE)`.
+#[tactic(auto, using(crate::proofs::Forms::either_end))]
 fn pattern_end(text: &[u8], at: usize) -> Option<Read<End>>
     ensures { step result ≡ end_reader text.now at }
 {
@@ -105,6 +111,7 @@ fn pattern_end(text: &[u8], at: usize) -> Option<Read<End>>
 }
 
 // An end behind the bytes w.
+#[tactic(auto, using(site_tokens::proofs::Steps::behind_parts))]
 fn end_after(text: &[u8], at: usize, w: &[u8]) -> Option<Read<End>>
     ensures { step result ≡ end_after w.now text.now at }
 {
@@ -112,6 +119,7 @@ fn end_after(text: &[u8], at: usize, w: &[u8]) -> Option<Read<End>>
 }
 
 // A pattern `(END P END)`.
+#[tactic(auto, using(crate::proofs::Forms::pattern_parts))]
 fn pattern_form(text: &[u8], at: usize) -> Option<Read<Pattern>>
     ensures { step result ≡ pattern_reader text.now at }
 {
@@ -128,6 +136,7 @@ fn pattern_form(text: &[u8], at: usize) -> Option<Read<Pattern>>
 }
 
 // A pattern with the space before it.
+#[tactic(auto, using(site_tokens::proofs::Steps::behind_parts), unfolding(site_form::specs::Reading::next_reader))]
 pub fn next_pattern(text: &[u8], at: usize) -> Option<Read<Pattern>>
     ensures { step result ≡ next_reader text.now at }
 {

@@ -33,7 +33,7 @@ use Rattle.site_tokens.specs.Steps.{step, items, standing, behind}
 use Rattle.site_reader.specs.Queries.{ask_lines, AsksFrom}
 use Rattle.site_reader.specs.Calls.{some_words, WordsFrom, triple_lines, LinesFrom, FormsRead, ReadCall}
 use Rattle.site_tokens.proofs.Steps.{then_got}
-use Rattle.site_reader.proofs.Many.{many-got, items-few}
+use Rattle.site_reader.proofs.Many.{many-got}
 use Rattle.site_reader.proofs.Triples.{all-length, all_listed}
 
 -- ── the reserved codes ──
@@ -65,9 +65,6 @@ module _ (text : List ℕ) (at : ℕ) (d : Read Vocabulary) (ev : d.value ≡ rd
 pub nothing : (q : Query) (v : Vocabulary) → v ≡ rdfs → q ≡ query_of [] → record { size = 0; words = v; count = 0; asks = 0; queries = replicate 16 q } ≡ site_of no_forms
 unfolding site_of queries_of
 nothing q v ev e = λ i. record { size = 0; words = ev i; count = 0; asks = 0; queries = replicate 16 (e i) }
-
-pub lines_fit : (text : List ℕ) (from : ℕ) (l : List ℕ) (r : Read ℕ) (l' : List ℕ) → LinesFrom text from l r l' → 3 * r.value < 18446744073709551616
-lines_fit text from l r l' h = omega (arith, h.count, items-few triple_reader text most_lines from)
 
 -- which refusal a missing form makes
 pub refused_as : {T : Type 0} {r : Refusal} (o : Answer T) → o ≡ None → (x : Refusal) → ◌≡◌ {A = Result T Refusal} (Err x) (ok_or o r) → x ≡ r

@@ -1,4 +1,3 @@
 pub mod Numbers
 pub mod Words
 pub mod Steps
-pub mod Ends

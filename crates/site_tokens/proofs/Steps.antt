@@ -1,10 +1,9 @@
 -- One reader after another, by what each answers.
 -- Assumes nothing.
 use Prim.Native.Nat.{ℕ}
-use mathlib.Core.Path.{◌≡◌, refl, ◌∙◌}
+use mathlib.Core.Path.{◌≡◌, refl}
 use mathlib.Core.List.{List}
 use Rattle.site_form.specs.Reading.{Step, bad, got, Reader, and_then, ◌>>=◌, ◌>>◌, word}
-use Rattle.site_form.proofs.Readers.{fails}
 
 module _ {A B : Type 0} (r : Reader A) (k : A → Reader B) (text : List ℕ) (at : ℕ) where
   pub then_got : (x : A) (i : ℕ) → r text at ≡ got x i → (r >>= k) text at ≡ k x text i
@@ -17,12 +16,11 @@ and_then_twice (got x i) f g = refl
 
 -- bytes, and a form behind them
 module _ {A B : Type 0} (w : List ℕ) (r : Reader A) (k : A → Reader B) (text : List ℕ) (at : ℕ) where
-  grouped : (word w >> (r >>= k)) text at ≡ ((word w >> r) >>= k) text at
+  pub grouped : (word w >> (r >>= k)) text at ≡ ((word w >> r) >>= k) text at
   unfolding ◌>>=◌
   grouped = and_then_twice (word w text at) (λ u i. r text i) (λ x i. k x text i)
 
-  pub after-bad : (word w >> r) text at ≡ bad → (word w >> (r >>= k)) text at ≡ bad
-  after-bad e = grouped ∙ fails (word w >> r) k text at e
-
-  pub after-got : (x : A) (i : ℕ) → (word w >> r) text at ≡ got x i → (word w >> (r >>= k)) text at ≡ k x text i
-  after-got x i e = grouped ∙ then_got (word w >> r) k text at x i e
+-- a form behind bytes
+pub behind_parts : {A : Type 0} (w : List ℕ) (r : Reader A) (text : List ℕ) (at : ℕ) → (word w >> r) text at ≡ and_then (word w text at) (λ u i. r text i)
+unfolding ◌>>=◌
+behind_parts w r text at = refl

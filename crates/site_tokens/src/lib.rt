@@ -59,6 +59,7 @@ pub fn word(text: &[u8], at: usize, w: &[u8]) -> Option<usize>
 }
 
 // A number behind the bytes w.
+#[tactic(auto, using(crate::proofs::Steps::behind_parts))]
 pub fn number_after(text: &[u8], at: usize, w: &[u8]) -> Option<Read<u32>>
     ensures { step result ≡ number_after w.now text.now at }
 {
@@ -66,6 +67,7 @@ pub fn number_after(text: &[u8], at: usize, w: &[u8]) -> Option<Read<u32>>
 }
 
 // The end of a line.
+#[tactic(auto, unfolding(site_form::specs::Reading::line_end))]
 pub fn line_end(text: &[u8], at: usize) -> Option<usize>
     ensures { place_step result ≡ line_end text.now at }
 {
@@ -73,6 +75,7 @@ pub fn line_end(text: &[u8], at: usize) -> Option<usize>
 }
 
 // The end of the text.
+#[tactic(auto, unfolding(site_form::specs::Reading::text_end))]
 pub fn text_end(text: &[u8], at: usize) -> Option<usize>
     ensures { place_step result ≡ text_end text.now at }
 {

@@ -6,10 +6,8 @@ use mathlib.Core.Bool.{true, false}
 use mathlib.Core.List.{List, [], ◌∷◌, ◌++◌}
 use native.Mathlib.Numerals.{add-one}
 use native.Mathlib.Omega.{arith}
-use lib.Dec.{eqb}
 use lib.ListN.{length, length-append}
 use lib.Seq.{sets}
-use borrow.Author.Tests.{eq-eqb, ne_eqb}
 use Rattle.model.specs.declared.Triple.{Triple}
 use Rattle.model.specs.declared.Vocabulary.{Vocabulary}
 use Rattle.model.specs.Codes.{rdfs}
@@ -86,29 +84,6 @@ module _ (l : List ℕ) (from : ℕ) (v : Vocabulary) (h : Room from (words_line
                 (put_then_two d m (bytes " ") _ e n _ out r u z))))
 
 module _ (v : Vocabulary) where
-  pub plain_not_0 : (v.instance ≡ 0 → ⊥) → false ≡ same_words v rdfs
-  unfolding same_words
-  plain_not_0 n = rw (ne_eqb _ _ n)
-
-  module _ (e0 : v.instance ≡ 0) where
-    pub plain_not_1 : (v.subclass ≡ 1 → ⊥) → false ≡ same_words v rdfs
-    unfolding same_words
-    plain_not_1 n = rw (eq-eqb _ _ e0, ne_eqb _ _ n)
-
-    module _ (e1 : v.subclass ≡ 1) where
-      pub plain_not_2 : (v.subproperty ≡ 2 → ⊥) → false ≡ same_words v rdfs
-      unfolding same_words
-      plain_not_2 n = rw (eq-eqb _ _ e0, eq-eqb _ _ e1, ne_eqb _ _ n)
-
-      module _ (e2 : v.subproperty ≡ 2) where
-        pub plain_not_3 : (v.domain ≡ 3 → ⊥) → false ≡ same_words v rdfs
-        unfolding same_words
-        plain_not_3 n = rw (eq-eqb _ _ e0, eq-eqb _ _ e1, eq-eqb _ _ e2, ne_eqb _ _ n)
-
-        pub plain-last : v.domain ≡ 3 → eqb v.range 4 ≡ same_words v rdfs
-        unfolding same_words
-        plain-last e3 = rw (eq-eqb _ _ e0, eq-eqb _ _ e1, eq-eqb _ _ e2, eq-eqb _ _ e3)
-
   pub line-none : same_words v rdfs ≡ true → words_text (line_of v) ≡ []
   unfolding line_of words_text
   line-none e = rw e

@@ -19,7 +19,7 @@ use Rattle.model.specs.Codes.{rdfs, wrong_words, smallest_size}
 use Rattle.model.specs.Lists.{any, collect, zeros, padded}
 use Rattle.model.specs.Triples.{triples}
 use Rattle.model.specs.Roster.{wrong_codes}
-use Rattle.model.specs.Outcomes.{Outcome, refused, accepted, refusal_number, decided, left, zeroed, wrong_size, wrong_length, outcome_by, outcome_of}
+use Rattle.model.specs.Outcomes.{Outcome, refused, accepted, refusal_number, decided, left, zeroed, wrong_size, wrong_length, outcome_by}
 use Rattle.theory.proofs.Tests.{or_left, or_right, or_neither, neither_right}
 use Rattle.theory.proofs.Lists.{length-tabulate}
 use Rattle.theory.specs.Tables.{AllBelow}

@@ -4,7 +4,7 @@ use Rattle.std.specs.declared.result.Result.{Result}
 use Rattle.model.specs.declared.Refusal.{Refusal}
 use Rattle.std.specs.Prelude.{ℕ, ◌≡◌, List}
 use Rattle.model.specs.declared.Vocabulary.{Vocabulary}
-use Rattle.model.specs.Outcomes.{outcome_by, outcome_of}
+use Rattle.model.specs.Outcomes.{outcome_of}
 use Rattle.site_form.specs.Writing.{write_outcome, write_list}
 
 -- what the call returns and leaves

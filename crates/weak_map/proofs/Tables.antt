@@ -50,9 +50,6 @@ module _ (v : Vocabulary) where
     }
 
     -- ── one triple more ──
-    pub place_inside : 3 * count ≤ length table → (i : ℕ) → i < count → 3 * i + 2 < length table
-    place_inside h i k = omega arith
-
     seen-has : (a b : ℕ) → a ≤ count → b ≤ count → (e : Side) (n p : ℕ) → Seen v table roster a b e n p → Has v roster (In ts) e n p
     seen-has a b ha hb e n p h = has-map v roster (λ t m. wide e t m) h
       where

@@ -1,8 +1,5 @@
-use Rattle.site_reader.proofs.Queries.{asks-start, asks-step, asks_stop, asks-full}
+use Rattle.site_reader.proofs.Queries.{asks-step, asks_stop, asks-full}
 use Rattle.site_reader.proofs.ask_lines.Goals as goal
-
-pub loop-count-init : goal.loop-count-init
-loop-count-init c = asks-start _ _ _ c.blank_query-queries.ensures
 
 pub returns-in_default : goal.returns-in_default
 returns-in_default c = asks_stop _ _ _ _ _ c.loop-count.invariant c.in_default.ensures

@@ -1,5 +1,4 @@
-use Rattle.std.proofs.Common.{arith, sym, ap}
-use Rattle.query.specs.declared.Query.{Query}
+use Rattle.std.proofs.Common.{sym}
 use Rattle.site_reader.proofs.Queries.{empty-short, patterns_start, patterns_step, patterns_stop, patterns_full}
 use Rattle.site_reader.proofs.more_patterns.Goals as goal
 
@@ -12,9 +11,6 @@ loop-value-init c = patterns_start _ _ _ _ c.args.first c.blank_query.ensures c.
 pub returns-in_default : goal.returns-in_default
 returns-in_default c = patterns_stop _ _ _ _ c.args.first c.blank_query.ensures c.with_pattern-value.ensures _ _ c.loop-value.invariant
     (sym c.in_default.ensures)
-
-pub loop-value-smaller : goal.loop-value-smaller
-loop-value-smaller c = let e = ap (λ (q : Query). q.count) c.with_pattern-value-in-loop-value.ensures in omega arith
 
 pub loop-value-preserved : goal.loop-value-preserved
 loop-value-preserved c = patterns_step _ _ _ _ _ c.loop-value.invariant c.loop-value-test.true _ _

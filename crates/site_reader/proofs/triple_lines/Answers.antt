@@ -1,9 +1,6 @@
 use Rattle.std.proofs.Common.{sym}
-use Rattle.site_reader.proofs.Triples.{lines_start, lines_step, lines_stop, lines-full}
+use Rattle.site_reader.proofs.Triples.{lines_step, lines_stop, lines-full}
 use Rattle.site_reader.proofs.triple_lines.Goals as goal
-
-pub loop-count-init : goal.loop-count-init
-loop-count-init c = lines_start _ _ _
 
 pub returns-in_default : goal.returns-in_default
 returns-in_default c = lines_stop _ _ _ _ _ _ c.loop-count.invariant (sym c.in_default.ensures)
