@@ -19,6 +19,7 @@ fn known_rising(table: &[u32], count: u32) -> bool
 }
 
 // Whether some choice of nodes for the variables puts every counted pattern in the table.
+#[tactic(auto, unfolding(query::specs::Ask::ask_outcome, query::specs::Ask::ask_checks, query::specs::Ask::says_maybe, model::specs::Outcomes::decided, model::specs::Outcomes::outcome_by, model::specs::Outcomes::refusal_number))]
 pub fn ask(words: Vocabulary, table: &[u32], map: &[u32], q: Query) -> Result<Asked, Refusal>
     ensures { asked result ≡ ask_outcome words table.now map.now q }
 {

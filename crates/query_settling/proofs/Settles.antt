@@ -1,14 +1,14 @@
 -- The thorough search, branch by branch.
 -- Assumes nothing.
-use Prim.Native.Nat.{ℕ, ◌+◌, ◌-◌, ◌*◌, ◌/◌, ◌<◌, ◌≤◌}
-use native.Mathlib.Nat.{eq-or-lt_of_le, mul-le-mul}
+use Prim.Native.Nat.{ℕ, ◌+◌, ◌-◌, ◌*◌, ◌<◌, ◌≤◌}
+use native.Mathlib.Nat.{eq-or-lt_of_le}
 use native.Mathlib.Omega.{arith}
 use mathlib.Core.Path.{◌≡◌, refl, sym, ◌∙◌}
 use mathlib.Core.Bool.{Bool, true, false, true≢false}
 use mathlib.Core.List.{List}
 use mathlib.Core.Logic.{⊎_elim}
-use lib.ListN.{length, get_or, set, length-set, length-replicate}
-use Rattle.std.specs.Prelude.{Option, Some, None, IfSome}
+use lib.ListN.{length, get_or, set}
+use Rattle.std.specs.Prelude.{Option, Some, None, Ok, IfSome}
 use Rattle.model.specs.Codes.{absent}
 use Rattle.model.specs.Lists.{First}
 use Rattle.model.specs.Triples.{triples}
@@ -16,7 +16,7 @@ use Rattle.lists.proofs.Compare.{Cmp, lt, eq, gt, cmp}
 use Rattle.query.specs.declared.Query.{Query}
 use Rattle.query.specs.Ask.{unbound, search, wrong_query}
 use Rattle.query.specs.Choices.{Puts, CanPut, CodesBelow, Present}
-use Rattle.query.proofs.Steps.{some_pattern, set_agrees, unset_agrees}
+use Rattle.query.proofs.Steps.{set_agrees}
 use Rattle.query.proofs.Exact.{search-exact, nodes-present}
 use Rattle.query_rows.specs.Rows.{in_row, Within, RowCopied}
 use Rattle.query_rows.proofs.Rows.{sized_as, allows-row, allows-short}
@@ -25,7 +25,7 @@ use Rattle.query_order.specs.Order.{first_patterns, Arranged}
 use Rattle.query_order.proofs.Arranged.{to_arranged, from_arranged, arranged_right, first-right}
 use Rattle.query_components.specs.Parts.{Apart, PartEnd}
 use Rattle.query_components.proofs.TwoParts.{parts-joined}
-use Rattle.query_search.specs.Search.{Sure, Sought}
+use Rattle.query_search.specs.Search.{Sought}
 use Rattle.query_settling.specs.Settling.{Searchable, SettleNeeds, Settled, RowsKept, KeptFor, MaySettle, NextFixed}
 
 -- ── what the search needs ──
@@ -35,10 +35,6 @@ ends-present table map q rising f = nodes-present (triples table) (length map) f
 module _ (table map d : List ℕ) (q : Query) (k : ℕ) (b : List ℕ) (rising : Bool) (f : SettleNeeds table map d q k b rising) where
   pub needs_rows : (d' : List ℕ) → length d' ≡ length d → SettleNeeds table map d' q k b rising
   needs_rows d' e = record { whole = f.whole; counted = f.counted; sized = sized_as _ _ e f.sized; bound = f.bound }
-
-  pub needs_fixed : (d' : List ℕ) → length d' ≡ length d → (v x : ℕ) → SettleNeeds table map d' q k (set b v x) rising
-  needs_fixed d' e v x =
-      record { whole = f.whole; counted = f.counted; sized = sized_as _ _ e f.sized; bound = length-set b v x ∙ f.bound }
 
   pub needs_part : (d' : List ℕ) → length d' ≡ length d → (r : Query) → Arranged k q r → (j z : ℕ) → PartEnd b r k j z
       → SettleNeeds table map d' (first_patterns r z) j b rising
@@ -61,27 +57,6 @@ settle_falls n e = omega arith
 
 pub each-falls : (n : ℕ) {t : ℕ} → 3 * (3 - n) + 1 ≡ t → 3 * (3 - n) < t
 each-falls n e = omega arith
-
-pub parts_fall : (n : ℕ) {t : ℕ} → 3 * (3 - n) ≡ t → n < 3 → 3 * (3 - (n + 1)) + 2 < t
-parts_fall n e l = omega arith
-
--- ── the limit of steps ──
-pub steps-left : (s : ℕ) → 0 < s → s ≡ 0 → ⊥
-steps-left s l e = omega arith
-
-pub product_most : (p t : ℕ) → p ≤ 8 → t ≤ 1048576 → p * t ≤ 8388608
-product_most p t h l = mul-le-mul h l
-
-pub quick_most : (p l : ℕ) → p ≤ 8 → l ≤ 3145728 → 2 * p * (l / 3) ≤ 16777216
-quick_most p l h m =
-    let o : 2 * p ≤ 16 = omega arith in
-    let n : l / 3 ≤ 1048576 = omega arith in
-    mul-le-mul o n
-
-pub limit_most : (p t n : ℕ) → p ≤ 8 → t ≤ 1048576 → n ≤ 65536 → p * t * (16 + n / 4) ≤ 137573171200
-limit_most p t n h l m =
-    let o : 16 + n / 4 ≤ 16400 = omega arith in
-    mul-le-mul (product_most p t h l) o
 
 -- ── the variable to fix ──
 -- its row is one of the thirteen
@@ -117,9 +92,13 @@ module _ (table map d d' : List ℕ) (q : Query) (k : ℕ) (b : List ℕ) {x : B
   pub unsupported : x ≡ false → Settled table map q k b false
   unsupported n = settled-none table map q k b (λ σ p l. true≢false (sym (w.some σ p) ∙ n))
 
-  module _ (limited : Bool) (s₀ s : ℕ) {y : Bool} (t : Sought table map d' q k b limited s₀ s y) where
-    pub none_within : y ≡ false → Sure limited s → Settled table map q k b false
-    none_within n sure = settled-none table map q k b (λ σ p l. true≢false (sym (t.complete sure σ p (w.within σ p)) ∙ n))
+  module _ (before steps : Option ℕ) {y : Bool} (t : Sought table map d' q k b before steps (Ok y)) where
+    pub answered : Settled table map q k b y
+    answered = go y t
+      where
+        go : (z : Bool) → Sought table map d' q k b before steps (Ok z) → Settled table map q k b z
+        go true u = settled-some table map q k b (u.sound refl)
+        go false u = settled-none table map q k b (λ σ p l. u.complete refl σ p (w.within σ p))
 
   -- the row of the variable to be fixed, copied to row u
   module _ (d'' : List ℕ) (u fixed : ℕ) (long : 13 ≤ length d') (few : fixed < 8) (c : RowCopied d' d'' u fixed) where
@@ -133,13 +112,7 @@ pub record NoneFixed (table map d₀ : List ℕ) (q : Query) (k : ℕ) (b : List
   pub none : (σ : ℕ → ℕ) → Puts (triples table) map q k b σ → CodesBelow (length map) σ → σ fixed < x → ⊥
 
 module _ (table map d₀ : List ℕ) (q : Query) (k : ℕ) (b : List ℕ) (u fixed : ℕ) where
-  pub fix_start : NoneFixed table map d₀ q k b u fixed d₀ 0
-  fix_start = record { rows = rows_same d₀ (u + 1); none = λ σ p l m. omega arith }
-
   module _ (few : fixed < 8) (d : List ℕ) (x : ℕ) (h : NoneFixed table map d₀ q k b u fixed d x) where
-    pub fix_end : length map ≤ x → Settled table map q k b false
-    fix_end l = settled-none table map q k b (λ σ p m. h.none σ p m (omega (arith, m fixed few)))
-
     module _ (l : 10 ≤ u) (kept : KeptFor table map d₀ q k b u fixed) (y : ℕ) (w : First (in_row d u) x (length map) y) where
       -- no choice has a node before y
       skip : (σ : ℕ → ℕ) → Puts (triples table) map q k b σ → CodesBelow (length map) σ → σ fixed < y → ⊥
@@ -167,11 +140,6 @@ module _ (table map d₀ : List ℕ) (q : Query) (k : ℕ) (b : List ℕ) (u fix
               (λ e. skip σ p m e)
               (eq-or-lt_of_le {n = σ fixed} {m = y} (omega arith));
         }
-
-        pub fix_found : r ≡ true → Settled table map q k b true
-        fix_found e =
-            let f = s.sound e in
-            settled-some table map q k b (f.0, record { agrees = unset_agrees f.0 b fixed y free f.1.agrees; puts = f.1.puts })
 
 -- ── all patterns first ──
 module _ (table map d d' : List ℕ) (q : Query) (k : ℕ) (b : List ℕ) {x : Bool} (w : MaySettle table map d d' q k b x) where
@@ -226,10 +194,6 @@ module _ (table map d₀ : List ℕ) (q r : Query) (k : ℕ) (b : List ℕ) (a :
 
 -- ── the whole query ──
 module _ (table map : List ℕ) (q : Query) (rising : Bool) (f : Searchable table map q rising) where
-  pub needs_whole : (d : List ℕ) → (13 ≤ length d) × (length d ≤ 13312) → SettleNeeds table map d q 0 unbound rising
-  needs_whole d l =
-      record { whole = f; counted = some_pattern (length map) q f.right; sized = l; bound = length-replicate 8 absent }
-
   abbrev Exactly : Bool → Type 0
   Exactly r = r ≡ search (triples table) map q.patterns q.count 0 unbound
 
@@ -237,13 +201,13 @@ module _ (table map : List ℕ) (q : Query) (rising : Bool) (f : Searchable tabl
   within-short : (d : List ℕ) → length d < 13 → (σ : ℕ → ℕ) → Within d σ
   within-short d l σ v m = sym (allows-short d _ (σ v) v refl l)
 
-  module _ (d : List ℕ) (short : length d < 13) (limited : Bool) (s₀ s : ℕ) {r : Bool} (t : Sought table map d q 0 unbound limited s₀ s r) where
-    pub quick_found : r ≡ true → Exactly true
-    quick_found e = search-exact (triples table) map q f.right (ends-present table map q rising f) (λ z. t.sound e) (λ σ p n. refl)
-
-    pub quick_none : r ≡ false → Sure limited s → Exactly false
-    quick_none e sure = search-exact (triples table) map q f.right (ends-present table map q rising f) (λ z. absurd (true≢false (sym z)))
-        (λ σ p n. absurd (true≢false (sym (t.complete sure σ p (within-short d short σ)) ∙ e)))
+  pub quick-exact : (d : List ℕ) → length d < 13 → (before steps : Option ℕ) {r : Bool} → Sought table map d q 0 unbound before steps (Ok r) → Exactly r
+  quick-exact d short before steps {r} t = go r t
+    where
+      go : (z : Bool) → Sought table map d q 0 unbound before steps (Ok z) → Exactly z
+      go true u = search-exact (triples table) map q f.right (ends-present table map q rising f) (λ e. u.sound refl) (λ σ p n. refl)
+      go false u = search-exact (triples table) map q f.right (ends-present table map q rising f) (λ e. absurd (true≢false (sym e)))
+          (λ σ p n. absurd (u.complete refl σ p (within-short d short σ)))
 
   pub settled-exact : {r : Bool} → Settled table map q 0 unbound r → Exactly r
   settled-exact s = search-exact (triples table) map q f.right (ends-present table map q rising f) s.sound

@@ -2,7 +2,7 @@
 // fixed while a cycle is left. The quick run before it.
 #![tactic(auto)]
 
-ghost use Rattle.std.specs.Prelude.{◌≡◌, false, ◌+◌, ◌<◌, ◌≤◌, length, get_or, IfSome};
+ghost use Rattle.std.specs.Prelude.{◌≡◌, false, ◌+◌, ◌<◌, ◌≤◌, length, get_or, is_some, IfSome};
 ghost use Rattle.model.specs.Codes.{absent};
 ghost use Rattle.model.specs.Triples.{triples};
 ghost use Rattle.query.specs.Ask.{search, unbound, wrong_query};
@@ -18,15 +18,14 @@ use query_order::arrange;
 use query_rows::{copy_row, next_in_row, nodes_in};
 use query_search::try_pattern;
 
-// The steps that the search within the domains may take before a variable is fixed; the more nodes that one has, the more.
-fn step_limit(rows: &[u64], fixed: Option<usize>, patterns: usize, triples: usize) -> usize
+// The steps that the search within the domains may take before a variable is fixed; the more nodes that one has, the more. No limit
+// where there is none to fix.
+fn step_limit(rows: &[u64], fixed: Option<usize>, patterns: usize, triples: usize) -> Option<usize>
     requires { Sized rows.now × (patterns ≤ 8) × (triples ≤ 1048576) × IfSome fixed (λ v. v < 13) }
+    ensures { is_some result ≡ is_some fixed }
 {
-    let Some(v) = fixed else {
-        return 0;
-    };
-    let nodes = nodes_in(rows, v);
-    4096 + patterns * triples * (16 + nodes / 4)
+    let nodes = nodes_in(rows, fixed?);
+    Some(4096 + patterns * triples * (16 + nodes / 4))
 }
 
 // The variable to fix, if there is a cycle and not three are fixed already.
@@ -60,17 +59,15 @@ fn settle(
         return false;
     }
     let fixed = next_fixed(q, k, bindings, depth);
-    let limited = fixed.is_some();
-    let mut left = step_limit(rows, fixed, q.count as usize - k, table.len() / 3);
-    if try_pattern(table, map, rows, q, bindings, k, rising, limited, &mut left) {
-        return true;
+    let mut steps = step_limit(rows, fixed, q.count as usize - k, table.len() / 3);
+    let first = try_pattern(table, map, rows, q, bindings, k, rising, &mut steps);
+    if let Ok(found) = first {
+        return found;
     }
+    // a search with no limit does not give up
     let Some(fixed) = fixed else {
         return false;
     };
-    if 0 < left {
-        return false;
-    }
     copy_row(rows, 10 + depth, fixed);
     settle_each(table, map, rows, q, k, bindings, rising, depth, fixed)
 }
@@ -167,25 +164,17 @@ pub fn some_choice(table: &[u32], map: &[u32], q: Query, rising: bool) -> bool
     ensures { result ≡ search (triples table.now) map.now q.patterns q.count 0 unbound }
 {
     let count = q.count as usize;
-    let limited = 1 < count;
-    let mut steps = 2048 + 2 * count * (table.len() / 3);
-    if try_pattern(
-        table,
-        map,
-        &[],
-        q,
-        [Code::ABSENT; 8],
-        0,
-        rising,
-        limited,
-        &mut steps,
-    ) {
-        return true;
-    }
-    if !limited || 0 < steps {
-        return false;
+    let mut steps = if 1 < count {
+        Some(2048 + 2 * count * (table.len() / 3))
+    } else {
+        None
+    };
+    let unbound = [Code::ABSENT; 8];
+    let quick = try_pattern(table, map, &[], q, unbound, 0, rising, &mut steps);
+    if let Ok(found) = quick {
+        return found;
     }
     // 13 rows of 64 words: 4,096 bits a variable
     let mut rows = [0u64; 832];
-    settle_parts(table, map, &mut rows, q, 0, [Code::ABSENT; 8], rising, 0)
+    settle_parts(table, map, &mut rows, q, 0, unbound, rising, 0)
 }

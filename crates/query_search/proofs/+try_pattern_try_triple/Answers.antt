@@ -1,19 +1,13 @@
-use Prim.Native.Nat.{◌+◌, ◌-◌, ◌/◌, ◌<◌}
 use native.Mathlib.Omega.{arith}
-use lib.ListN.{length}
+use mathlib.Core.Path.{ap, ◌∙◌}
+use Rattle.std.specs.Prelude.{Ok}
 use Rattle.query.proofs.Steps.{few_patterns, right-subject, right-object}
-use Rattle.query_search.proofs.Tries.{gave_up, one_fewer, falls-next, subject-outside, object-outside, subject_unfit, object_unfit, next-long, all-put, next_sought, try_start, try_end, none_left, found_here, try_step}
+use Rattle.query_search.proofs.Tries.{subject-outside, object-outside, subject_unfit, object_unfit, all-put, next_sought, try_end, none_left, try_step}
 use Rattle.query_search.proofs.+try_pattern_try_triple.Goals as goal
-use Rattle.query_search.proofs.+try_pattern_try_triple.Goals.{try_pattern-then-spend-via-then-spend, try_pattern-then-spend-via-else-spend+then-i-n, try_triple-then-not-allowed-via-then-not-allowed, try_triple-then-not-allowed-via-else-not-allowed+then-not-allowed-2}
+use Rattle.query_search.proofs.+try_pattern_try_triple.Goals.{try_triple-then-not-allowed-via-then-not-allowed, try_triple-then-not-allowed-via-else-not-allowed+then-not-allowed-2}
 
 pub try_pattern-bounds-q-k : goal.try_pattern-bounds-q-k
 try_pattern-bounds-q-k t c = omega (arith, few_patterns _ _ c.requires.0)
-
-pub try_pattern-loop-from-init : goal.try_pattern-loop-from-init
-try_pattern-loop-from-init t c =
-    let x = c.args in
-    let h = c.requires in
-    try_start x.table.now x.map.now x.rows.now x.q h.0 x.k h.1 x.bindings h.5 x.limited _
 
 pub try_pattern-first_fit-first-requires : goal.try_pattern-first_fit-first-requires
 try_pattern-first_fit-first-requires t c =
@@ -21,47 +15,26 @@ try_pattern-first_fit-first-requires t c =
     let h = c.requires in
     (right-subject _ x.q h.0 x.k h.1, right-object _ x.q h.0 x.k h.1, omega arith, omega arith, h.2)
 
-pub try_pattern-returns-then-spend : goal.try_pattern-returns-then-spend
-try_pattern-returns-then-spend t c =
+pub try_pattern-returns-then-i-n : goal.try_pattern-returns-then-i-n
+try_pattern-returns-then-i-n t c =
     let x = c.args in
     let h = c.requires in
-    elim c.then-spend.branch [
-      | try_pattern-then-spend-via-then-spend w ↦ gave_up x.table.now x.map.now x.rows.now x.q h.0 x.k h.1 x.bindings h.5 x.limited _ _ _
-          c.loop-from.invariant _ c.first_fit-first.ensures _ _ c.spend.ensures w.if-spend.true
-      | try_pattern-then-spend-via-else-spend+then-i-n w ↦ none_left x.table.now x.map.now x.rows.now x.q h.0 x.k h.1 x.bindings h.5 x.limited _ _ _
-          c.loop-from.invariant _ c.first_fit-first.ensures _ _ c.spend.ensures w.if-i-n.true
-    ]
-
-pub try_pattern-try_triple-requires : goal.try_pattern-try_triple-requires
-try_pattern-try_triple-requires t c =
-    let x = c.args in
-    let h = c.requires in
-    let w = c.first_fit-first.ensures in
-    let m : c.first_fit-first.result.place < length x.table.now / 3 = omega (arith, w.high) in (
-      omega (arith, one_fewer x.q.count x.k (length x.table.now / 3 + 1) h.1),
-      (h.0, h.1, omega arith, w.has m, h.2, h.3, h.4, h.5),
-    )
-
-pub try_pattern-returns-then-try_triple : goal.try_pattern-returns-then-try_triple
-try_pattern-returns-then-try_triple t c =
-    let x = c.args in
-    let h = c.requires in
-    found_here x.table.now x.map.now x.rows.now x.q h.0 x.k h.1 x.bindings h.5 x.limited _ _ _
-    c.loop-from.invariant _ c.first_fit-first.ensures _ _ c.spend.ensures _ c.try_triple.ensures c.if-try_triple.true
+    none_left x.table.now x.map.now x.rows.now x.q h.0 x.k h.1 x.bindings h.5 _ _ _
+    c.loop-from.invariant _ c.first_fit-first.ensures _ _ c.spend.ensures c.if-i-n.true
 
 pub try_pattern-loop-from-preserved : goal.try_pattern-loop-from-preserved
 try_pattern-loop-from-preserved t c =
     let x = c.args in
     let h = c.requires in
     let w = c.first_fit-first.ensures in
-    try_step x.table.now x.map.now x.rows.now x.q h.0 x.k h.1 x.bindings h.5 x.limited _ _ _
-    c.loop-from.invariant _ w _ _ c.spend.ensures _ c.try_triple.ensures (omega (arith, w.high)) c.if-try_triple.false
+    try_step x.table.now x.map.now x.rows.now x.q h.0 x.k h.1 x.bindings h.5 _ _ _
+    c.loop-from.invariant _ w _ _ c.spend.ensures _ c.try_triple.ensures (omega (arith, w.high)) (c.in_ok-try_triple.was ∙ ap Ok c.if-branch.false)
 
 pub try_pattern-returns : goal.try_pattern-returns
 try_pattern-returns t c =
     let x = c.args in
     let h = c.requires in
-    try_end x.table.now x.map.now x.rows.now x.q h.0 x.k h.1 x.bindings h.5 x.limited _ _ _ c.loop-from.invariant
+    try_end x.table.now x.map.now x.rows.now x.q h.0 x.k h.1 x.bindings h.5 _ _ _ c.loop-from.invariant
     c.loop-from-test.false
 
 pub try_triple-bounds-q-k : goal.try_triple-bounds-q-k
@@ -73,12 +46,10 @@ try_triple-returns-then-not-allowed t c =
     let h = c.requires in
     elim c.then-not-allowed.branch [
       | try_triple-then-not-allowed-via-then-not-allowed w ↦
-          subject-outside x.table.now x.map.now x.rows.now x.q h.0 x.k h.1 x.bindings h.7 h.5 x.i h.2 h.3
-          x.limited _ _ c.triple_at-triple.ensures
+          subject-outside x.table.now x.map.now x.rows.now x.q h.0 x.k h.1 x.bindings h.7 h.5 x.i h.2 h.3 _ _ c.triple_at-triple.ensures
           c.allowed.ensures w.if-not-allowed.true
       | try_triple-then-not-allowed-via-else-not-allowed+then-not-allowed-2 w ↦
-          object-outside x.table.now x.map.now x.rows.now x.q h.0 x.k h.1 x.bindings h.7 h.5 x.i h.2 h.3
-          x.limited _ _ c.triple_at-triple.ensures
+          object-outside x.table.now x.map.now x.rows.now x.q h.0 x.k h.1 x.bindings h.7 h.5 x.i h.2 h.3 _ _ c.triple_at-triple.ensures
           w.allowed-else-not-allowed.ensures w.if-not-allowed-2.true
     ]
 
@@ -92,8 +63,7 @@ pub try_triple-returns-in_default : goal.try_triple-returns-in_default
 try_triple-returns-in_default t c =
     let x = c.args in
     let h = c.requires in
-    subject_unfit x.table.now x.map.now x.rows.now x.q h.0 x.k h.1 x.bindings h.7 h.5 x.i h.2 h.3
-    x.limited _ _ c.triple_at-triple.ensures c.in_default.ensures
+    subject_unfit x.table.now x.map.now x.rows.now x.q h.0 x.k h.1 x.bindings h.7 h.5 x.i h.2 h.3 _ _ c.triple_at-triple.ensures c.in_default.ensures
 
 pub try_triple-fit_end-requires-2 : goal.try_triple-fit_end-requires-2
 try_triple-fit_end-requires-2 t c =
@@ -105,39 +75,20 @@ pub try_triple-returns-in_default-fit_end : goal.try_triple-returns-in_default-f
 try_triple-returns-in_default-fit_end t c =
     let x = c.args in
     let h = c.requires in
-    object_unfit x.table.now x.map.now x.rows.now x.q h.0 x.k h.1 x.bindings h.7 h.5 x.i h.2 h.3
-    x.limited _ _ c.triple_at-triple.ensures _ c.in-Some.ensures c.in_default-fit_end.ensures
+    object_unfit x.table.now x.map.now x.rows.now x.q h.0 x.k h.1 x.bindings h.7 h.5 x.i h.2 h.3 _ _ c.triple_at-triple.ensures _ c.in-Some.ensures c.in_default-fit_end.ensures
 
 pub try_triple-returns-then-k-count : goal.try_triple-returns-then-k-count
 try_triple-returns-then-k-count t c =
     let x = c.args in
     let h = c.requires in
-    all-put x.table.now x.map.now x.rows.now x.q h.0 x.k h.1 x.bindings h.7 h.5 x.i h.2 h.3 x.limited _
+    all-put x.table.now x.map.now x.rows.now x.q h.0 x.k h.1 x.bindings h.7 h.5 x.i h.2 h.3 _
     _ c.triple_at-triple.ensures
     _ c.in-Some.ensures _ c.in-Some-fit_end.ensures c.if-k-count.true
-
-pub try_triple-try_pattern-requires : goal.try_triple-try_pattern-requires
-try_triple-try_pattern-requires t c =
-    let x = c.args in
-    let h = c.requires in (
-      falls-next (x.q.count - (x.k + 1)) (length x.table.now) x.i c.decreases h.2,
-      (
-        h.0,
-        omega (arith, h.1),
-        h.4,
-        h.5,
-        h.6,
-        next-long x.table.now x.map.now x.rows.now x.q h.0 x.k h.1 x.bindings h.7 h.5 x.i h.2 h.3
-            x.limited 0 _ c.triple_at-triple.ensures
-            _ c.in-Some.ensures _ c.in-Some-fit_end.ensures,
-      ),
-    )
 
 pub try_triple-returns : goal.try_triple-returns
 try_triple-returns t c =
     let x = c.args in
     let h = c.requires in
-    next_sought x.table.now x.map.now x.rows.now x.q h.0 x.k h.1 x.bindings h.7 h.5 x.i h.2 h.3
-    x.limited _ _ c.triple_at-triple.ensures
+    next_sought x.table.now x.map.now x.rows.now x.q h.0 x.k h.1 x.bindings h.7 h.5 x.i h.2 h.3 _ _ c.triple_at-triple.ensures
     _ c.in-Some.ensures _ c.in-Some-fit_end.ensures _
     c.try_pattern.ensures

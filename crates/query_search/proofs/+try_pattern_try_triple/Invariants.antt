@@ -13,7 +13,7 @@ abbrev pub decreases-try_triple : goal.decreases-try_triple
 decreases-try_triple l = falling (l.q.count - (l.k + 1)) (length l.table.now) (length l.table.now / 3 - l.i)
 
 abbrev pub invariant-try_pattern-loop-from : goal.invariant-try_pattern-loop-from
-invariant-try_pattern-loop-from l = NoneSoFar l.table l.map l.rows l.q l.k l.bindings l.limited l.initial.steps l.steps l.from
+invariant-try_pattern-loop-from l = NoneSoFar l.table l.map l.rows l.q l.k l.bindings l.initial.steps l.steps l.from
 
 abbrev pub decreases-try_pattern-loop-from : goal.decreases-try_pattern-loop-from
 decreases-try_pattern-loop-from l = l.n - l.from

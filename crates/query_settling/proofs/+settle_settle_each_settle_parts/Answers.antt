@@ -1,15 +1,15 @@
 use Prim.Native.Nat.{◌+◌}
 use native.Mathlib.Omega.{arith}
-use mathlib.Core.Path.{sym, ap, ◌∙◌}
-use mathlib.Core.Bool.{true≢false}
-use Rattle.std.specs.Option.{is_some}
+use mathlib.Core.Path.{◌∙◌}
+use Rattle.std.specs.Prelude.{Ok}
 use Rattle.query.proofs.Steps.{few_patterns}
 use Rattle.query_rows.proofs.Rows.{sized_as}
 use Rattle.query_order.proofs.Arranged.{arranged_right}
+use Rattle.query_search.specs.Search.{Sought}
 use Rattle.query_settling.specs.Settling.{NextFixed}
-use Rattle.query_settling.proofs.Settles.{fixed_row, ends-present, needs_rows, needs_fixed, needs_part, settle_falls, each-falls, parts_fall, steps-left}
-use Rattle.query_settling.proofs.Settles.{rows-fewer, rows_more, may_rows, cannot_settle, swept-rows, unsupported, none_within, fixed_kept}
-use Rattle.query_settling.proofs.Settles.{fix_start, none_left, fix_found, fix_step, fix_end, parts-start, part-missing, part-put, parts-end}
+use Rattle.query_settling.proofs.Settles.{fixed_row, ends-present, needs_rows, needs_part, settle_falls, each-falls}
+use Rattle.query_settling.proofs.Settles.{rows-fewer, rows_more, may_rows, cannot_settle, swept-rows, unsupported, answered, fixed_kept}
+use Rattle.query_settling.proofs.Settles.{none_left, fix_step, parts-start, part-missing, part-put, parts-end}
 use Rattle.query_settling.proofs.+settle_settle_each_settle_parts.Goals as goal
 
 pub settle-returns-then-not-sweep_all : goal.settle-returns-then-not-sweep_all
@@ -26,13 +26,13 @@ settle-next_fixed-fixed-requires t c =
     let f = c.requires.0 in
     few_patterns _ _ f.whole.right
 
-pub settle-step_limit-left-requires : goal.settle-step_limit-left-requires
-settle-step_limit-left-requires t c =
+pub settle-step_limit-steps-requires : goal.settle-step_limit-steps-requires
+settle-step_limit-steps-requires t c =
     let f = c.requires.0 in
     (sized_as _ _ c.sweep_all.ensures.size f.sized, omega (arith, few_patterns _ _ f.whole.right), omega (arith, f.whole.short), fixed_row _ _ _ c.next_fixed-fixed.ensures)
 
-pub settle-try_pattern-requires : goal.settle-try_pattern-requires
-settle-try_pattern-requires t c =
+pub settle-try_pattern-first-requires : goal.settle-try_pattern-first-requires
+settle-try_pattern-first-requires t c =
     let x = c.args in
     let f = c.requires.0 in (
       f.whole.right,
@@ -43,23 +43,12 @@ settle-try_pattern-requires t c =
       f.bound,
     )
 
-pub settle-returns-in_default : goal.settle-returns-in_default
-settle-returns-in_default t c =
+pub settle-returns-in-Ok : goal.settle-returns-in-Ok
+settle-returns-in-Ok t c =
     let x = c.args in
-    let w = c.sweep_all.ensures in (
-      none_within x.table.now x.map.now _ _ x.q x.k x.bindings w _ _ _ c.try_pattern.ensures
-          c.if-try_pattern.false (λ e z. true≢false (sym e ∙ c.is_some-limited.ensures ∙ ap is_some c.in_default.is)),
-      swept-rows x.table.now x.map.now _ _ x.q x.k x.bindings w _,
-    )
-
-pub settle-returns-then-left-gt0 : goal.settle-returns-then-left-gt0
-settle-returns-then-left-gt0 t c =
-    let x = c.args in
-    let w = c.sweep_all.ensures in (
-      none_within x.table.now x.map.now _ _ x.q x.k x.bindings w _ _ _ c.try_pattern.ensures c.if-try_pattern.false
-          (λ e z. steps-left _ c.if-left-gt0.true z),
-      swept-rows x.table.now x.map.now _ _ x.q x.k x.bindings w _,
-    )
+    let w = c.sweep_all.ensures in
+    let s : Sought x.table.now x.map.now c.sweep_all.new.rows x.q x.k x.bindings _ _ (Ok c.in-Ok.found) = rw c.in-Ok.is at c.try_pattern-first.ensures in
+    (answered x.table.now x.map.now _ _ x.q x.k x.bindings w _ _ s, swept-rows x.table.now x.map.now _ _ x.q x.k x.bindings w _)
 
 pub settle-settle_each-requires : goal.settle-settle_each-requires
 settle-settle_each-requires t c =
@@ -80,9 +69,6 @@ settle-settle_each-requires t c =
       ),
     )
 
-pub settle_each-loop-x-init : goal.settle_each-loop-x-init
-settle_each-loop-x-init t c = (fix_start _ _ _ _ _ _ _ _, omega arith)
-
 pub settle_each-returns-then-node-n : goal.settle_each-returns-then-node-n
 settle_each-returns-then-node-n t c =
     let x = c.args in
@@ -91,29 +77,6 @@ settle_each-returns-then-node-n t c =
       none_left x.table.now x.map.now x.rows.now x.q x.k x.bindings (10 + x.depth) x.fixed h.2 _ _ i (omega arith) h.4
           _ c.next_in_row-node.ensures c.if-node-n.true,
       rows-fewer _ _ _ _ (omega arith) i.rows,
-    )
-
-pub settle_each-settle_parts-requires : goal.settle_each-settle_parts-requires
-settle_each-settle_parts-requires t c =
-    let x = c.args in
-    let f = c.requires.0 in (
-      parts_fall _ c.decreases c.requires.1,
-      (
-        needs_fixed x.table.now x.map.now x.rows.now x.q x.k x.bindings x.rising f _ c.loop-x.invariant.0.rows.size _ _,
-        omega (arith, c.requires.1),
-      ),
-    )
-
-pub settle_each-returns-then-settle_parts : goal.settle_each-returns-then-settle_parts
-settle_each-returns-then-settle_parts t c =
-    let x = c.args in
-    let f = c.requires.0 in
-    let h = c.requires in
-    let i = c.loop-x.invariant.0 in
-    let s = c.settle_parts.ensures in (
-      fix_found x.table.now x.map.now x.rows.now x.q x.k x.bindings (10 + x.depth) x.fixed h.2 _ _ i (omega arith) h.4
-          _ c.next_in_row-node.ensures f.bound h.3 s.0 c.if-settle_parts.true,
-      rows-fewer _ _ _ _ (omega arith) (rows_more _ _ _ _ _ (omega arith) i.rows s.1),
     )
 
 pub settle_each-loop-x-preserved : goal.settle_each-loop-x-preserved
@@ -127,15 +90,6 @@ settle_each-loop-x-preserved t c =
       fix_step x.table.now x.map.now x.rows.now x.q x.k x.bindings (10 + x.depth) x.fixed h.2 _ _ i (omega arith) h.4 _
           w f.bound h.3 s.0 _ (rows-fewer _ _ _ _ (omega arith) s.1) c.if-settle_parts.false,
       omega (arith, w.high),
-    )
-
-pub settle_each-returns : goal.settle_each-returns
-settle_each-returns t c =
-    let x = c.args in
-    let i = c.loop-x.invariant.0 in (
-      fix_end x.table.now x.map.now x.rows.now x.q x.k x.bindings (10 + x.depth) x.fixed c.requires.2 _ _ i
-          c.loop-x-test.false,
-      rows-fewer _ _ _ _ (omega arith) i.rows,
     )
 
 pub settle_parts-returns-then-not-may_settle : goal.settle_parts-returns-then-not-may_settle
