@@ -1,7 +1,7 @@
 -- The readers of a query and of the queries, pattern by pattern and line by line.
 -- Assumes nothing.
 use Prim.Native.Nat.{ℕ, suc, ◌+◌, ◌-◌, ◌<◌, ◌≤◌}
-use mathlib.Core.Path.{◌≡◌, refl, sym, ◌∙◌, ap, subst}
+use mathlib.Core.Path.{◌≡◌, sym, ◌∙◌, ap, subst}
 use mathlib.Core.List.{List, [], ◌∷◌, ◌++◌, map}
 use native.Mathlib.Numerals.{add-one}
 use native.Mathlib.Omega.{arith}
@@ -138,14 +138,6 @@ pub record Asking (text : List ℕ) (at : ℕ) (queries : List Query) (count i :
   pub ends : after (many (16 - count) ask_reader text i) ≡ after (ask_lines text at)
 
 module _ (text : List ℕ) (at : ℕ) where
-  pub asks-start : (q : Query) → q ≡ query_of [] → Asking text at (replicate 16 q) 0 at
-  asks-start q e = record {
-    few = omega arith;
-    counts = omega arith;
-    gives = ap (λ (x : Query). sets (replicate 16 x) 0 (map query_of (items (ask_lines text at)))) e;
-    ends = refl;
-  }
-
   module _ (queries : List Query) (count i : ℕ) (h : Asking text at queries count i) where
     done : items (many (16 - count) ask_reader text i) ≡ [] → after (many (16 - count) ask_reader text i) ≡ i → AsksFrom text at (record { value = record { count = count; queries = queries }; next = i })
     unfolding queries_of
