@@ -11,7 +11,7 @@ use Rattle.query.specs.declared.End.TheVariants.{Var, Code}
 use Rattle.site_form.specs.Text.{bytes}
 use Rattle.site_form.specs.Reading.{Step, bad, got, and_then, or_else, ◌>>=◌, ◌>>◌, give, ◌or◌, word, number, line_end, site_reader, words_reader, end_in, end_reader, pattern, pattern_reader}
 use Rattle.site_tokens.specs.Steps.{mapped, number_after, end_after, three_in}
-use Rattle.site_tokens.proofs.Steps.{grouped}
+use Rattle.site_tokens.proofs.Steps.{grouped, mapped_then}
 
 pub site_parts : (text : List ℕ) (at : ℕ) → site_reader text at ≡ and_then (number_after (bytes "(site ") text at) (λ n i. and_then (line_end text i) (λ u j. got n j))
 unfolding site_reader give ◌>>=◌
@@ -35,10 +35,6 @@ module _ {A : Type 0} (make : ℕ → ℕ → ℕ → A) (w text : List ℕ) (at
       second a i =
           grouped (bytes " ") number (λ b. word (bytes " ") >> (number >>= (λ c. line_end >> give (make a b c)))) text i
           ∙ (λ t. and_then (number_after (bytes " ") text i) (λ b j. third a b j t))
-
-mapped_then : {A B C : Type 0} (f : B → C) (s : Step A) (k : A → ℕ → Step B) → mapped f (and_then s k) ≡ and_then s (λ x i. mapped f (k x i))
-mapped_then f bad k = refl
-mapped_then f (got x i) k = refl
 
 -- what is made of the three numbers, by the triple of them
 pub three_made : {A : Type 0} (make : ℕ → ℕ → ℕ → A) (w text : List ℕ) (at : ℕ) → mapped (λ (t : Triple). make t.subject t.property t.object) (three_in w triple text at) ≡ three_in w make text at

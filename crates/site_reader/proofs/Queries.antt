@@ -1,7 +1,7 @@
 -- The readers of a query and of the queries, pattern by pattern and line by line.
 -- Assumes nothing.
 use Prim.Native.Nat.{ℕ, suc, ◌+◌, ◌-◌, ◌<◌, ◌≤◌}
-use mathlib.Core.Path.{◌≡◌, refl, sym, ◌∙◌, ap, subst}
+use mathlib.Core.Path.{◌≡◌, sym, ◌∙◌, ap, subst}
 use mathlib.Core.List.{List, [], ◌∷◌, ◌++◌, map}
 use native.Mathlib.Numerals.{add-one}
 use native.Mathlib.Omega.{arith}
@@ -11,12 +11,10 @@ use Rattle.query.specs.declared.Pattern.{Pattern}
 use Rattle.query.specs.declared.Query.{Query}
 use Rattle.query.specs.Ask.{blank}
 use Rattle.site_form.specs.Text.{bytes, most_patterns}
-use Rattle.site_form.specs.Reading.{Step, bad, got, ◌>>=◌, give, many, word, line_end, next_reader, ask_reader, query_of, queries_of}
-use Rattle.site_form.proofs.Readers.{fails}
-use Rattle.site_tokens.specs.declared.Read.{Read}
+use Rattle.site_form.specs.Reading.{Step, bad, got, and_then, ◌>>=◌, give, many, word, line_end, next_reader, ask_reader, query_of, queries_of}
 use Rattle.site_tokens.specs.Steps.{mapped, items, after}
 use Rattle.site_reader.specs.Queries.{with_pattern, more_patterns, PatternsFrom, ask_lines, AsksFrom}
-use Rattle.site_tokens.proofs.Steps.{then_got}
+use Rattle.site_tokens.proofs.Steps.{mapped_then}
 use Rattle.site_reader.proofs.Many.{many-got, items-none, after_none, items_stop, after_stop, items-on, after_on, items-few, mapped-bad, mapped-got, sets_front}
 
 -- ── patterns ──
@@ -109,28 +107,27 @@ module _ (text : List ℕ) (at : ℕ) (q₀ : Query) where
           }
 
 -- ── a line ──
-module _ (text : List ℕ) (at : ℕ) where
-  pub ask-bad : word (bytes "(ask") text at ≡ bad → mapped query_of (ask_reader text at) ≡ bad
-  unfolding ask_reader
-  ask-bad e = ap (mapped query_of) (fails _ _ text at e)
+-- the reader of a line, by what its parts answer
+pub ask_parts : (text : List ℕ) (at : ℕ) → mapped query_of (ask_reader text at)
+    ≡ and_then (word (bytes "(ask") text at) (λ u i. and_then (next_reader text i) (λ p j.
+    and_then (line_end text (after (more_patterns text j))) (λ v k. got (query_of (p ∷ items (more_patterns text j))) k)))
+unfolding ask_reader give ◌>>=◌
+ask_parts text at =
+    mapped_then query_of (word (bytes "(ask") text at) (λ u i. and_then (next_reader text i) (λ p j. rest p j))
+    ∙ (λ t. and_then (word (bytes "(ask") text at) (λ u i. mapped_then query_of (next_reader text i) (λ p j. rest p j) t))
+    ∙ (λ t. and_then (word (bytes "(ask") text at) (λ u i. and_then (next_reader text i) (λ p j. last p j t)))
+  where
+    ended : Pattern → List Pattern → ℕ → Step (List Pattern)
+    ended p ps k = and_then (line_end text k) (λ v l. got (p ∷ ps) l)
 
-  module _ (u : Unit {0}) (i : ℕ) (e : word (bytes "(ask") text at ≡ got u i) where
-    pub ask-bad-first : next_reader text i ≡ bad → mapped query_of (ask_reader text at) ≡ bad
-    unfolding ask_reader
-    ask-bad-first f = ap (mapped query_of) (then_got _ _ text at u i e ∙ fails _ _ text i f)
+    rest : Pattern → ℕ → Step (List Pattern)
+    rest p j = and_then (more_patterns text j) (λ ps k. ended p ps k)
 
-    module _ (p : Pattern) (j : ℕ) (f : next_reader text i ≡ got p j) (r : Read Query) (h : PatternsFrom text j p r) where
-      behind : ask_reader text at ≡ (line_end >>= λ v. give (p ∷ items (more_patterns text j))) text (after (more_patterns text j))
-      unfolding ask_reader
-      behind = then_got _ _ text at u i e ∙ then_got _ _ text i p j f ∙ then_got _ _ text j _ _ (many-got next_reader text 7 j)
-
-      closed : (s : Step (Unit {0})) → line_end text (after (more_patterns text j)) ≡ s → mapped query_of (ask_reader text at) ≡ mapped (λ v. query_of (p ∷ items (more_patterns text j))) s
-      unfolding give
-      closed bad g = ap (mapped query_of) (behind ∙ fails _ _ text _ g)
-      closed (got v k) g = ap (mapped query_of) (behind ∙ then_got _ _ text _ v k g)
-
-      pub ask-is : (s : Step (Unit {0})) → s ≡ line_end text r.next → mapped (λ v. r.value) s ≡ mapped query_of (ask_reader text at)
-      ask-is s g = sym (closed s (ap (line_end text) (sym h.next) ∙ sym g) ∙ ap (λ (q : Query). mapped (λ v. q) s) (sym h.query))
+    last : (p : Pattern) (j : ℕ) → mapped query_of (rest p j)
+        ≡ and_then (line_end text (after (more_patterns text j))) (λ v k. got (query_of (p ∷ items (more_patterns text j))) k)
+    last p j =
+        ap (λ (s : Step (List Pattern)). mapped query_of (and_then s (λ ps k. ended p ps k))) (many-got next_reader text 7 j)
+        ∙ mapped_then query_of (line_end text (after (more_patterns text j))) (λ v l. got (p ∷ items (more_patterns text j)) l)
 
 -- ── the lines ──
 -- what is left to read gives the rest of the queries
@@ -141,14 +138,6 @@ pub record Asking (text : List ℕ) (at : ℕ) (queries : List Query) (count i :
   pub ends : after (many (16 - count) ask_reader text i) ≡ after (ask_lines text at)
 
 module _ (text : List ℕ) (at : ℕ) where
-  pub asks-start : (q : Query) → q ≡ query_of [] → Asking text at (replicate 16 q) 0 at
-  asks-start q e = record {
-    few = omega arith;
-    counts = omega arith;
-    gives = ap (λ (x : Query). sets (replicate 16 x) 0 (map query_of (items (ask_lines text at)))) e;
-    ends = refl;
-  }
-
   module _ (queries : List Query) (count i : ℕ) (h : Asking text at queries count i) where
     done : items (many (16 - count) ask_reader text i) ≡ [] → after (many (16 - count) ask_reader text i) ≡ i → AsksFrom text at (record { value = record { count = count; queries = queries }; next = i })
     unfolding queries_of

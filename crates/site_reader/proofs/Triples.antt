@@ -76,9 +76,6 @@ pub record Storing (text : List ℕ) (at : ℕ) (l₀ l : List ℕ) (count i : �
   pub size : length l ≡ length l₀
 
 module _ (text : List ℕ) (at : ℕ) (l₀ : List ℕ) where
-  pub lines_start : Storing text at l₀ l₀ 0 at
-  lines_start = record { few = omega arith; counts = omega arith; gives = refl; ends = refl; size = refl }
-
   module _ (l : List ℕ) (count i : ℕ) (h : Storing text at l₀ l count i) where
     done : items (many (most_lines - count) triple_reader text i) ≡ [] → after (many (most_lines - count) triple_reader text i) ≡ i → LinesFrom text at l₀ (record { value = count; next = i }) l
     unfolding stored_all

@@ -70,6 +70,7 @@ fn more_patterns(text: &[u8], at: usize, first: Pattern) -> Read<Query>
 }
 
 // A line `(ask PATTERN ...)`.
+#[tactic(auto, using(crate::proofs::Queries::ask_parts))]
 fn ask_line(text: &[u8], at: usize) -> Option<Read<Query>>
     ensures { step result ≡ mapped query_of (ask_reader text.now at) }
 {

@@ -3,6 +3,7 @@
 use Prim.Native.Nat.{ℕ}
 use mathlib.Core.Path.{◌≡◌, refl}
 use mathlib.Core.List.{List}
+use Rattle.site_tokens.specs.Steps.{mapped}
 use Rattle.site_form.specs.Reading.{Step, bad, got, Reader, and_then, ◌>>=◌, ◌>>◌, word}
 
 module _ {A B : Type 0} (r : Reader A) (k : A → Reader B) (text : List ℕ) (at : ℕ) where
@@ -24,3 +25,7 @@ module _ {A B : Type 0} (w : List ℕ) (r : Reader A) (k : A → Reader B) (text
 pub behind_parts : {A : Type 0} (w : List ℕ) (r : Reader A) (text : List ℕ) (at : ℕ) → (word w >> r) text at ≡ and_then (word w text at) (λ u i. r text i)
 unfolding ◌>>=◌
 behind_parts w r text at = refl
+
+pub mapped_then : {A B C : Type 0} (f : B → C) (s : Step A) (k : A → ℕ → Step B) → mapped f (and_then s k) ≡ and_then s (λ x i. mapped f (k x i))
+mapped_then f bad k = refl
+mapped_then f (got x i) k = refl
