@@ -1,6 +1,6 @@
 -- What the functions of this crate and of weak_map require and ensure.
 -- Assumes nothing.
-use Rattle.std.specs.Prelude.{ℕ, ◌*◌, ◌<◌, ◌≤◌, ◌≡◌, Bool, true, false, not, ◌&&◌, List, eqb, length, get_or, set}
+use Rattle.std.specs.Prelude.{ℕ, ◌*◌, ◌<◌, ◌≤◌, ◌≡◌, Bool, true, false, not, ◌&&◌, List, eqb, length, get_or, set, Option, Some, IfSome, MatchOption}
 use Rattle.model.specs.declared.Triple.{Triple}
 use Rattle.model.specs.declared.Vocabulary.{Vocabulary}
 use Rattle.model.specs.Codes.{absent}
@@ -25,17 +25,16 @@ pub record SlotLinked (map work map' work' : List ℕ) (k n : ℕ) : Type 0 wher
 unfoldable pub bare : List ℕ → List ℕ → List ℕ → ℕ → Bool
 bare roster map work i = not (eqb (get_or map i 0) absent) && (unmarked roster i && eqb (get_or work i 0) absent)
 
-pub record BareJoinable (roster map work : List ℕ) (first i : ℕ) : Type 0 where
+pub record BareJoinable (roster map work : List ℕ) (first : Option ℕ) (i : ℕ) : Type 0 where
   pub in_roster : i < length roster
   pub in_map : i < length map
   pub in_work : i < length work
-  pub small : length map ≤ absent
-  pub pair : bare roster map work i ≡ true → (first ≡ absent → ⊥) → ActivePair map first i
+  pub pair : bare roster map work i ≡ true → IfSome first (λ f. ActivePair map f i)
 
-pub record BareJoined (roster map work : List ℕ) (first i r : ℕ) (map' : List ℕ) : Type 0 where
+-- `first` is the first one so far, and r the first one afterwards
+pub record BareJoined (roster map work : List ℕ) (first : Option ℕ) (i : ℕ) (r : Option ℕ) (map' : List ℕ) : Type 0 where
   pub skipped : bare roster map work i ≡ false → (r ≡ first) × (map' ≡ map)
-  pub opened : bare roster map work i ≡ true → first ≡ absent → (r ≡ i) × (map' ≡ map)
-  pub joined : bare roster map work i ≡ true → (first ≡ absent → ⊥) → (r ≡ first) × United map map' first i
+  pub joined : bare roster map work i ≡ true → MatchOption first ((r ≡ Some i) × (map' ≡ map)) (λ f. (r ≡ first) × United map map' f i)
 
 module _ (v : Vocabulary) where
   -- ── an end of a triple ──

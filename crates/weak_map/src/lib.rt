@@ -11,7 +11,7 @@ ghost use Rattle.lists.specs.Flat.{at};
 ghost use Rattle.node_links.specs.Linking.{Started, AllSeen};
 ghost use Rattle.node_links.specs.Calls.{bare, BareJoinable, BareJoined, Ready, Complete};
 
-use lists::{Code, clear, empty, narrow, triple_at, wide};
+use lists::{Code, clear, empty, triple_at};
 use model::{Side, Vocabulary};
 use node_links::{link_end, open_nodes};
 use union_find::{flatten, union};
@@ -44,19 +44,27 @@ fn is_bare(roster: &[u8], map: &[u32], work: &[u32], i: usize) -> bool
     !Code(map[i]).is_absent() && roster[i] == 0 && Code(work[i]).is_absent()
 }
 
-// A data node without a data triple joins the class of the first such node. The result is the first one so far, or absent.
-fn join_bare_at(roster: &[u8], map: &mut [u32], work: &[u32], first: u32, i: usize) -> u32
+// A data node without a data triple joins the class of the first such node. The result is the first one so far.
+fn join_bare_at(
+    roster: &[u8],
+    map: &mut [u32],
+    work: &[u32],
+    first: Option<usize>,
+    i: usize,
+) -> Option<usize>
     requires { BareJoinable roster.now map.old work.now first i }
     ensures { BareJoined roster.now map.old work.now first i result map.new }
 {
     if !is_bare(roster, map, work, i) {
         return first;
     }
-    if Code(first).is_absent() {
-        return narrow(i);
+    match first {
+        None => Some(i),
+        Some(node) => {
+            union(map, node, i);
+            first
+        }
     }
-    union(map, wide(first), i);
-    first
 }
 
 // The data nodes without data triples become one class.
@@ -64,7 +72,7 @@ fn join_bare(roster: &[u8], map: &mut [u32], work: &[u32])
     requires { Ready roster.now map.old work.now }
     ensures { (v : Vocabulary) (ts : List Triple) → AllSeen v roster.now ts map.old work.now → Complete v roster.now ts map.new }
 {
-    let mut first = Code::ABSENT;
+    let mut first = None;
     for i in 0..map.len() {
         first = join_bare_at(roster, map, work, first, i);
     }

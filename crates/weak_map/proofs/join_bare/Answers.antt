@@ -1,10 +1,9 @@
 use native.Mathlib.Omega.{arith}
-use mathlib.Core.Path.{refl}
 use Rattle.weak_map.proofs.Bares.{joining_start, bare_joinable, joining_step, joining_end}
 use Rattle.weak_map.proofs.join_bare.Goals as goal
 
 pub loop-i-init : goal.loop-i-init
-loop-i-init c = λ v ts s. joining_start v _ ts _ _ s _ refl
+loop-i-init c = λ v ts s. joining_start v _ ts _ _ s
 
 pub join_bare_at-first-requires : goal.join_bare_at-first-requires
 join_bare_at-first-requires c = bare_joinable _ _ c.requires.ts _ _ c.requires.state _ _ _ (c.loop-i.invariant c.requires.words c.requires.ts c.requires.state)
