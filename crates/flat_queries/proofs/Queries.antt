@@ -5,7 +5,7 @@ use mathlib.Core.Path.{◌≡◌, refl, sym, ◌∙◌, ap}
 use mathlib.Core.List.{List, [], ◌∷◌}
 use native.Mathlib.Numerals.{add-one}
 use native.Mathlib.Omega.{arith}
-use lib.ListN.{length, get_or, set, length-set, length-append, replicate}
+use lib.ListN.{length, get_or, set, length-append, replicate}
 use lib.Seq.{sets, length-sets}
 use Rattle.model.specs.Lists.{collect, tabulate}
 use Rattle.query.specs.declared.End.{End}
@@ -13,15 +13,10 @@ use Rattle.query.specs.declared.End.TheVariants.{Var, Code}
 use Rattle.query.specs.declared.Pattern.{Pattern}
 use Rattle.query.specs.declared.Query.{Query}
 use Rattle.query.specs.Ask.{blank, pattern_at}
-use Rattle.flat_queries.specs.Flat.{end_of, pattern_from, flat_pattern, flat_query, end_numbers, pattern_numbers, query_numbers, query_at, flat_queries}
+use Rattle.flat_queries.specs.Flat.{flat_pattern, flat_query, end_numbers, pattern_numbers, query_numbers, query_at, flat_queries}
 use Rattle.flat_queries.proofs.Blocks.{sets_append, sets_whole, blocks, length-blocks, blocks_step}
 
 -- ── a pattern and a query from numbers ──
-pub pattern-made : (l : List ℕ) (i : ℕ) (s o : End) → s ≡ end_of (get_or l i 0) (get_or l (i + 1) 0) → o ≡ end_of (get_or l (i + 3) 0) (get_or l (i + 4) 0)
-    → ◌≡◌ {A = Pattern} (record { subject = s; property = get_or l (i + 2) 0; object = o }) (pattern_from l i)
-unfolding pattern_from
-pattern-made l i s o p q = λ j. record { subject = p j; property = get_or l (i + 2) 0; object = q j }
-
 abbrev query_with : ℕ → List Pattern → Query
 query_with n ps = record { patterns = ps; count = n }
 
@@ -54,14 +49,6 @@ module _ (l : List ℕ) where
       (h.list ∙ ap (λ (n : ℕ). sets (replicate 8 blank) 0 (blocks one (flat_pattern l) n)) e)
 
 -- ── an end and a pattern to numbers ──
-pub variable-put : (l : List ℕ) (i v : ℕ) (e : End) → e ≡ Var v → set (set l i 0) (i + 1) v ≡ sets l i (end_numbers e)
-unfolding end_numbers
-variable-put l i v e h = ap (λ (k : ℕ). set (set l i 0) k v) (add-one i) ∙ sym (ap (λ (x : End). sets l i (end_numbers x)) h)
-
-pub code_put : (l : List ℕ) (i v : ℕ) (e : End) → e ≡ Code v → set (set l i 1) (i + 1) v ≡ sets l i (end_numbers e)
-unfolding end_numbers
-code_put l i v e h = ap (λ (k : ℕ). set (set l i 1) k v) (add-one i) ∙ sym (ap (λ (x : End). sets l i (end_numbers x)) h)
-
 length-end : (e : End) → length (end_numbers e) ≡ 2
 unfolding end_numbers
 length-end (Var v) = refl
@@ -77,9 +64,6 @@ module _ (l a : List ℕ) (i : ℕ) (p : Pattern) (h : a ≡ sets l i (end_numbe
   subject-length : length a ≡ length l
   subject-length = ap length h ∙ length-sets l i (end_numbers p.subject)
 
-  pub object-room : i + 4 < length l → i + 3 + 1 < length (set a (i + 2) p.property)
-  object-room k = omega (arith, subject-length, length-set a (i + 2) p.property)
-
   pub pattern-put : (m : List ℕ) → m ≡ sets (set a (i + 2) p.property) (i + 3) (end_numbers p.object) → m ≡ sets l i (pattern_numbers p)
   unfolding pattern_numbers
   pattern-put m k =
@@ -88,9 +72,6 @@ module _ (l a : List ℕ) (i : ℕ) (p : Pattern) (h : a ≡ sets l i (end_numbe
       k
       ∙ (λ j. sets (set (h j) (e j) p.property) (f j) (end_numbers p.object))
       ∙ sym (sets_append l i (end_numbers p.subject) (p.property ∷ end_numbers p.object))
-
-  pub pattern-length : (m : List ℕ) → m ≡ sets (set a (i + 2) p.property) (i + 3) (end_numbers p.object) → length m ≡ length l
-  pattern-length m k = ap length (pattern-put m k) ∙ length-sets l i (pattern_numbers p)
 
 -- ── a query and sixteen queries to numbers ──
 -- the first j patterns of a query are stored; at is where they begin
@@ -104,9 +85,6 @@ module _ (l₀ : List ℕ) (at : ℕ) (q : Query) where
   putting_start = record { few = omega arith; list = refl }
 
   module _ (l : List ℕ) (j : ℕ) (h : PuttingPatterns l₀ at q l j) where
-    pub putting_length : length l ≡ length l₀
-    putting_length = ap length h.list ∙ length-sets l₀ at (blocks pattern_numbers (pattern_at q) j)
-
     pub putting_step : j < 8 → (m : List ℕ) → m ≡ sets l (at + 5 * j) (pattern_numbers (pattern_at q j)) → PuttingPatterns l₀ at q m (j + 1)
     putting_step k m e = record {
       few = omega arith;
@@ -135,9 +113,6 @@ module _ (l₀ : List ℕ) (qs : List Query) where
   queries-start = record { few = omega arith; list = refl }
 
   module _ (l : List ℕ) (k : ℕ) (h : PuttingQueries l₀ qs l k) where
-    pub queries-length : length l ≡ length l₀
-    queries-length = ap length h.list ∙ length-sets l₀ 0 (blocks query_numbers (query_at qs) k)
-
     pub queries-step : k < 16 → (m : List ℕ) → m ≡ sets l (41 * k) (query_numbers (query_at qs k)) → PuttingQueries l₀ qs m (k + 1)
     queries-step lt m e = record {
       few = omega arith;

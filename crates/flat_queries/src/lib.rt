@@ -27,6 +27,7 @@ fn end_of(kind: u32, value: u32) -> End
 }
 
 // The pattern at place k of a flat query.
+#[tactic(auto, unfolding(crate::specs::Flat::pattern_from))]
 fn flat_pattern(query: &[u32], k: usize) -> Pattern
     requires { (length query.now ≡ 41) × (k < 8) }
     ensures { result ≡ flat_pattern query.now k }
@@ -55,6 +56,7 @@ pub fn query_of(query: &[u32]) -> Query
 }
 
 // Stores an end's two numbers.
+#[tactic(auto, unfolding(crate::specs::Flat::end_numbers))]
 fn put_end(list: &mut [u32], i: usize, e: End)
     requires { i + 1 < length list.old }
     ensures { list.new ≡ sets list.old i (end_numbers e) }

@@ -8,15 +8,10 @@ use native.Mathlib.Omega.{arith}
 use native.Mathlib.Nat.{zero-add}
 use lib.ListN.{length}
 use mir.Val.{bool_byte}
-use Rattle.std.specs.declared.result.Result.TheVariants.{Ok, Err}
 use Rattle.model.specs.declared.Triple.{Triple}
-use Rattle.model.specs.declared.Found.{Found}
-use Rattle.model.specs.declared.Found.TheVariants.{Yes, No}
-use Rattle.model.specs.declared.Refusal.TheVariants.{Length}
 use Rattle.model.specs.Lists.{any, how_many, tabulate}
 use Rattle.model.specs.Triples.{triples, before, same, holds, place}
-use Rattle.model.specs.Outcomes.{Outcome, refused, accepted, Answer, answer, refusal_number, found, decided, wrong_length, outcome_by, outcome_of, seen}
-use Rattle.model.specs.Calls.{look_up_outcome}
+use Rattle.model.specs.Outcomes.{answer}
 use Rattle.theory.proofs.Tests.{byte_of}
 use Rattle.theory.proofs.Lists.{many-le, length-tabulate}
 use Rattle.theory.proofs.Runs.{run-one, run-parts, many-one, many-parts}
@@ -63,17 +58,3 @@ module _ (t : Triple) (l : List ℕ) where
 
     pub seen_end : (b : Bool) → f ≡ b → answer b k ≡ answer (holds t (triples l)) (place t (triples l))
     seen_end b h = λ j. answer ((sym h ∙ S.found_is ∙ ap (holds t) all) j) ((S.place_is ∙ ap (place t) all) j)
-
--- ── the answers ──
-module _ (l : List ℕ) (t : Triple) where
-  outcome-is : {a : Bool} → wrong_length (length l) ≡ a → look_up_outcome l t ≡ cond a (refused 1) (accepted (answer (holds t (triples l)) (place t (triples l))))
-  unfolding look_up_outcome decided
-  outcome-is p = λ i. cond (p i) (refused 1) (accepted (answer (holds t (triples l)) (place t (triples l))))
-
-  pub by_length : wrong_length (length l) ≡ true → found (Err Length) ≡ look_up_outcome l t
-  unfolding outcome_by refusal_number
-  by_length p = sym (outcome-is p)
-
-  pub by_place : wrong_length (length l) ≡ false → (f : Found) → seen f ≡ answer (holds t (triples l)) (place t (triples l)) → found (Ok f) ≡ look_up_outcome l t
-  unfolding outcome_by
-  by_place p f e = ap (λ (x : Answer Bool). accepted x) e ∙ sym (outcome-is p)

@@ -32,6 +32,7 @@ fn seen_in(list: &[u32], t: Triple) -> Found
     }
 }
 
+#[tactic(auto, unfolding(model::specs::Calls::look_up_outcome, model::specs::Outcomes::decided, model::specs::Outcomes::outcome_by, model::specs::Outcomes::refusal_number))]
 pub fn look_up(list: &[u32], t: Triple) -> Result<Found, Refusal>
     ensures { found result ≡ look_up_outcome list.now t }
 {

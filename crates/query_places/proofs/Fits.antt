@@ -99,14 +99,6 @@ module _ (f : ℕ → Triple) (s p a b i : ℕ) (w : Bound f a b (triple s p 0) 
 
 -- ── the whole triple ──
 module _ (f : ℕ → Triple) (t : Triple) (a b i : ℕ) (R : RisingPart f a b) (w : Bound f a b t i) where
-  pub same_here : same t (f i) ≡ true → FirstSame f t a b i
-  same_here h = record {
-    low = w.low;
-    high = w.high;
-    others = λ j x y e. let z : j ≡ i = at_bound f a b t i R w j x (omega (arith, w.high)) e in omega arith;
-    has = λ z. same-eq t (f i) h;
-  }
-
   nowhere : ((j : ℕ) → a ≤ j → j < b → t ≡ f j → ⊥) → FirstSame f t a b b
   nowhere none = record { low = omega (arith, w.low, w.high); high = omega arith; others = none; has = λ z. absurd (omega arith) }
 

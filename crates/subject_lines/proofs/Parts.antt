@@ -108,12 +108,6 @@ module _ (c : ℕ) (summary table map : List ℕ) (r : Part) where
   unfolding subject_part
   by-own b e = ap (λ (x : Bool). part_in x c (cond x summary table)) e
 
-  pub of_summary : is_own c map ≡ true → r ≡ part_in true c summary → r ≡ subject_part c summary table map
-  of_summary e h = h ∙ sym (by-own true e)
-
-  pub of_table : is_own c map ≡ false → r ≡ part_in false c table → r ≡ subject_part c summary table map
-  of_table e h = h ∙ sym (by-own false e)
-
   module _ (h : r ≡ subject_part c summary table map) where
     pub own_is : r.own ≡ is_own c map
     unfolding subject_part
@@ -131,12 +125,6 @@ module _ (c : ℕ) (summary table map : List ℕ) (r : Part) where
         (omega (arith, start-le c l), omega (arith, end-le c l))
 
 -- ── the part that is handed back ──
--- the range of a slice
-pub between_is : (x r : Bor (List ℕ)) (a b : ℕ) → r.now ≡ take (b - a) (drop a x.now) → r.ref_ptr ≡ (x.ref_ptr.0, a * 4 + x.ref_ptr.1) → Between x a b r
-between_is x r a b e q =
-    let k : a * 4 + x.ref_ptr.1 ≡ 4 * a + x.ref_ptr.1 = omega arith in
-    record { place = q ∙ (λ i. (x.ref_ptr.0, k i)); numbers = e }
-
 pub part_of : (c : ℕ) (own : Bool) (p : Part) (x r : Bor (List ℕ)) → p ≡ part_in own c x.now → Between x p.start p.end r → PartOf c x r
 part_of c own p x r h w =
     let s = ap (λ (z : Part). z.start) h in

@@ -69,6 +69,7 @@ fn is_own(map: &[u32], code: u32) -> bool
 }
 
 // Which list the lines are in, and where.
+#[tactic(auto, unfolding(crate::specs::Lines::subject_part))]
 pub fn subject_part(code: u32, summary: &[u32], table: &[u32], map: &[u32]) -> Part
     ensures { result ≡ subject_part code summary.now table.now map.now }
 {

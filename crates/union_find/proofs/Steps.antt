@@ -168,9 +168,6 @@ pub record Done (l₀ l : List ℕ) (i : ℕ) : Type 0 where
   pub others : (A : ℕ → Bool) → Apart A l₀ → (y : ℕ) → A y ≡ false → get_or l y 0 ≡ get_or l₀ y 0
   pub rest : (y : ℕ) → i ≤ y → get_or l y 0 ≡ get_or l₀ y 0
 
-pub done-start : (l : List ℕ) → Done l l 0
-done-start l = record { len = refl; roots = λ A s y h a. absurd (omega arith); others = λ A s y a. refl; rest = λ y h. refl }
-
 module _ (l₀ l : List ℕ) (i : ℕ) (d : Done l₀ l i) (h : i < length l) where
   at_i : get_or l i 0 ≡ get_or l₀ i 0
   at_i = d.rest i (omega arith)

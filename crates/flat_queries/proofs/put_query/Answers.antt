@@ -1,14 +1,10 @@
-use mathlib.Core.Path.{refl, ◌∙◌}
-use native.Mathlib.Omega.{arith}
+use mathlib.Core.Path.{refl}
 use lib.ListN.{length-set}
-use Rattle.flat_queries.proofs.Queries.{putting_start, putting_length, putting_step, query-put}
+use Rattle.flat_queries.proofs.Queries.{putting_start, putting_step, query-put}
 use Rattle.flat_queries.proofs.put_query.Goals as goal
 
 pub loop-j-init : goal.loop-j-init
 loop-j-init c = (simp length-set c.requires.0, refl, putting_start _ _ _)
-
-pub put_pattern-requires : goal.put_pattern-requires
-put_pattern-requires c = omega (arith, putting_length _ _ _ _ _ c.loop-j.invariant.2)
 
 pub loop-j-preserved : goal.loop-j-preserved
 loop-j-preserved c = (
@@ -17,9 +13,6 @@ loop-j-preserved c = (
   putting_step _ _ _ _ _ c.loop-j.invariant.2 c.loop-j-test.true _
       c.put_pattern.ensures,
 )
-
-pub shape_of-list : goal.shape_of-list
-shape_of-list c = putting_length _ _ _ _ _ c.loop-j.invariant.2 ∙ simp length-set
 
 pub returns : goal.returns
 returns c = query-put _ _ _ _ _ c.loop-j.invariant.2 c.loop-j-test.false

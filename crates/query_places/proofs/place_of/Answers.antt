@@ -1,13 +1,9 @@
 use mathlib.Core.Path.{sym, ap, ◌∙◌}
 use Rattle.model.specs.Triples.{same}
 use Rattle.lists.proofs.Derived.{eq_same}
-use Rattle.query_places.proofs.Fits.{same_here, same-other, same-past}
+use Rattle.query_places.proofs.Fits.{same-other, same-past}
 use Rattle.query_places.proofs.place_of.Goals as goal
 use Rattle.query_places.proofs.place_of.Goals.{else-i-to-via-then-i-to+else-eq, else-i-to-via-else-i-to}
-
-pub returns-then-eq : goal.returns-then-eq
-returns-then-eq c = same_here _ _ _ _ _ c.requires.2 (c.lower_bound-i.ensures.bound c.requires.2)
-    (sym (ap (same c.args.t) c.triple_at.ensures) ∙ sym (c.eq.ensures ∙ eq_same _ _) ∙ c.if-eq.true)
 
 pub returns : goal.returns
 returns c = let bound = c.lower_bound-i.ensures.bound c.requires.2 in

@@ -1,16 +1,7 @@
 use native.Mathlib.Omega.{arith}
 use lib.ListN.{length-set}
-use Rattle.union_find.proofs.Steps.{walk_of, walk_start, walk_step, walk_end, walk-bounds, up-less}
+use Rattle.union_find.proofs.Steps.{walk_of, walk_step, walk_end, walk-bounds, up-less}
 use Rattle.union_find.proofs.find.Goals as goal
-
-pub offset_bounds-parent-x : goal.offset_bounds-parent-x
-offset_bounds-parent-x c = let s = c.requires in omega (arith, s.forest.inside _ s.active)
-
-pub bounds-parent-x : goal.bounds-parent-x
-bounds-parent-x c = let s = c.requires in s.forest.inside _ s.active
-
-pub loop-p-init : goal.loop-p-init
-loop-p-init c = walk_start _ _ _ c.wide-p.ensures
 
 pub offset_bounds-parent-p : goal.offset_bounds-parent-p
 offset_bounds-parent-p c = let w = walk_of c.requires c.loop-p.invariant in
@@ -28,10 +19,6 @@ pub bounds-parent-x-in-loop-p : goal.bounds-parent-x-in-loop-p
 bounds-parent-x-in-loop-p c = let w = walk_of c.requires c.loop-p.invariant in
     omega (arith, walk-bounds _ _ _ _ _ _ w)
 
-pub offset_bounds-parent-x-in-loop-p-2 : goal.offset_bounds-parent-x-in-loop-p-2
-offset_bounds-parent-x-in-loop-p-2 c = let w = walk_of c.requires c.loop-p.invariant in
-    omega (arith, walk-bounds _ _ _ _ _ _ w, c.wide-x.ensures)
-
 pub bounds-parent-x-in-loop-p-2 : goal.bounds-parent-x-in-loop-p-2
 bounds-parent-x-in-loop-p-2 c = let w = walk_of c.requires c.loop-p.invariant in
     simp length-set (omega (arith, walk-bounds _ _ _ _ _ _ w, c.wide-x.ensures))
@@ -42,9 +29,6 @@ loop-p-smaller c = let w = walk_of c.requires c.loop-p.invariant in
 
 pub loop-p-preserved : goal.loop-p-preserved
 loop-p-preserved c = walk_step _ _ _ _ _ c.loop-p.invariant c.loop-p-test.true _ _ c.wide-x.ensures c.wide-p-in-loop-p.ensures
-
-pub shape_of-parent : goal.shape_of-parent
-shape_of-parent c = (walk_of c.requires c.loop-p.invariant).kept.len
 
 pub returns : goal.returns
 returns c = walk_end _ _ _ _ _ c.requires c.loop-p.invariant c.loop-p-test.false

@@ -1,12 +1,9 @@
 use native.Mathlib.Omega.{arith}
 use Prim.Native.Nat.{◌<◌}
 use lib.ListN.{length}
-use Rattle.union_find.proofs.Steps.{done-start, done-set, done_keep, done_end}
+use Rattle.union_find.proofs.Steps.{done-set, done_keep, done_end}
 use Rattle.union_find.proofs.flatten.Goals as goal
 use Rattle.union_find.proofs.flatten.Goals.{then-p-i, else-p-i}
-
-pub loop-i-init : goal.loop-i-init
-loop-i-init c = done-start _
 
 pub loop-i-preserved : goal.loop-i-preserved
 loop-i-preserved c = let d = c.loop-i.invariant in

@@ -2,7 +2,6 @@ use mathlib.Core.Bool.{Bool, true}
 use mathlib.Core.Path.{◌≡◌}
 use Prim.Native.Nat.{ℕ}
 use native.Mathlib.Omega.{arith}
-use lib.ListN.{length-set}
 use Rattle.union_find.specs.Roots.{Forest}
 use Rattle.union_find.proofs.Steps.{Both, both, both-bounds, link, link-flip, link-none}
 use Rattle.union_find.proofs.union.Goals as goal
@@ -42,14 +41,8 @@ offset_bounds-parent-x c = omega (arith, both-bounds _ _ _ _ _ _ _ (here (goal.a
 pub bounds-parent-x : goal.bounds-parent-x
 bounds-parent-x c = omega (arith, both-bounds _ _ _ _ _ _ _ (here (goal.at.bounds-parent-x c).After-find-y))
 
-pub shape_of-parent-then-x-y : goal.shape_of-parent-then-x-y
-shape_of-parent-then-x-y c = simp length-set (here (goal.at.shape_of-parent-then-x-y c).After-find-y).kept.len
-
 pub returns-then-x-y : goal.returns-then-x-y
 returns-then-x-y c = record { keeps = λ A f p q. link A _ _ _ _ _ _ (found (goal.at.returns-then-x-y c).After-find-y A f p q) _ c.narrow.ensures c.if-x-y.true }
-
-pub shape_of-parent-then-y-x : goal.shape_of-parent-then-y-x
-shape_of-parent-then-y-x c = simp length-set (here (goal.at.shape_of-parent-then-y-x c).After-find-y).kept.len
 
 pub returns-then-y-x : goal.returns-then-y-x
 returns-then-y-x c = record { keeps = λ A f p q. link-flip A _ _ _ _ _ _ (found (goal.at.returns-then-y-x c).After-find-y A f p q) _ c.narrow-then-y-x.ensures c.if-y-x.true }
