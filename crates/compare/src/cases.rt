@@ -178,7 +178,8 @@ impl Case<'_> {
     fn gives(&self, rt: &impl Print, tally: &mut Tally) -> io::Result<()> {
         let zeros = [0u32; 42];
         let length = self.count.min(42);
-        let list = &self.row[..length];
+        let row = self.row;
+        let list = &row[..length];
         self.just(rt, tally, Call::Strong, length)?;
         let held = leaves(self.site, list);
         tally.check(rt, Call::Strong, 0, "expected", held)?;
@@ -200,8 +201,9 @@ impl Case<'_> {
 
     fn ask(&self, rt: &impl Print, tally: &mut Tally, map: &[u32]) -> io::Result<()> {
         let Site { words, table, .. } = self.site;
-        let got = calls::ask(rt, tally, 0, words, table, map, &self.row[1..])?;
-        small(rt, Call::Ask, self.name, self.row[0], got)
+        let row = self.row;
+        let got = calls::ask(rt, tally, 0, words, table, map, &row[1..])?;
+        small(rt, Call::Ask, self.name, row[0], got)
     }
 
     fn work(&self, rt: &impl Print, tally: &mut Tally, kind: Kind) -> io::Result<()> {

@@ -16,7 +16,7 @@ use Rattle.model.specs.declared.Vocabulary.{Vocabulary}
 use Rattle.model.specs.Codes.{codes}
 use Rattle.model.specs.Lists.{any, zeros, collect, tabulate}
 use Rattle.model.specs.Triples.{slots}
-use Rattle.model.specs.Outcomes.{Outcome, refused, accepted, refusal_number, decided, left, zeroed, outcome_by, outcome_of}
+use Rattle.model.specs.Outcomes.{Outcome, refused, accepted, refusal_number, decided, left, zeroed, outcome_by, outcome_of as answer_outcome}
 use Rattle.model.specs.Intake.{State, open_leaves}
 use Rattle.intake_opening.specs.Opening.{Opens}
 use Rattle.query.specs.Ask.{ask_outcome}
@@ -137,7 +137,7 @@ module _ (v : Vocabulary) where
     ask-passed h = sym (ap (λ (b : Bool). cond (not b) (refused 1) (ask_outcome v table map (flat_query query))) (eq-eqb (length query) 41 h))
 
   -- ── opening ──
-  pub open_status : (roster : List ℕ) (s : State) (d : Result (Unit {0}) Refusal) (status : ℕ) (after : State) → Opens v roster s (outcome_of d) after → status ≡ status_of (outcome_of d)
+  pub open_status : (roster : List ℕ) (s : State) (d : Result (Unit {0}) Refusal) (status : ℕ) (after : State) → Opens v roster s (answer_outcome d) after → status ≡ status_of (answer_outcome d)
       → OpenStatus v roster s status after
   open_status roster s d status after o e = record {
     answer = e ∙ ap status_of o.answer;
