@@ -13,16 +13,15 @@ use Rattle.std.specs.declared.result.Result.{Result}
 use Rattle.model.specs.declared.Refusal.{Refusal}
 use Rattle.model.specs.declared.Refusal.TheVariants.{Length}
 use Rattle.model.specs.declared.Vocabulary.{Vocabulary}
-use Rattle.model.specs.Codes.{codes}
+use Rattle.model.specs.Codes.{codes, rdfs}
 use Rattle.model.specs.Lists.{any, zeros, collect, tabulate}
 use Rattle.model.specs.Triples.{slots}
-use Rattle.model.specs.Outcomes.{Outcome, refused, accepted, refusal_number, decided, left, zeroed, outcome_by, outcome_of as answer_outcome}
+use Rattle.model.specs.Outcomes.{Outcome, refused, accepted, refusal_number, decided, left, zeroed, outcome_of as answer_outcome}
 use Rattle.model.specs.Intake.{State, open_leaves}
 use Rattle.intake_opening.specs.Opening.{Opens}
 use Rattle.query.specs.Ask.{ask_outcome}
 use Rattle.site_form.specs.declared.Site.{Site}
 use Rattle.std.specs.Prelude.{Result, Ok, Err}
-use Rattle.std.specs.Result.{result_unwrap_or}
 use Rattle.model.specs.declared.Refusal.{Refusal}
 use Rattle.site_form.specs.Reading.{Forms, query_of, queries_of, site_of, no_forms, read_forms, outcome_of, read_outcome, answered, site_in, read_site, read_list}
 use Rattle.site_reader.specs.Calls.{ReadCall}
@@ -36,11 +35,6 @@ status_is : (a : Result Site Refusal) → form_status a ≡ status_of (answered 
 unfolding form_status status_of
 status_is (Ok site) = refl
 status_is (Err r) = refl
-
--- the site of an answer, or that of no text
-pub site_or : (a : Result Site Refusal) (d : Site) → d ≡ site_of no_forms → (s : Site) → s ≡ result_unwrap_or a d → s ≡ site_in (answered a)
-site_or (Ok site) d e s f = f
-site_or (Err r) d e s f = f ∙ e
 
 module _ (text : List ℕ) (s : ReadLent) where
   pub wrong-queries : (length s.queries ≡ 656 → ⊥) → right_lengths s ≡ false
@@ -84,10 +78,29 @@ module _ (text : List ℕ) (s : ReadLent) where
           ∙ sym (ap leaves_of h);
     }
 
+-- what a text that was read leaves, and one that was refused
+pub is_ok : (a : Result Site Refusal) (site : Site) → a ≡ Ok site → site ≡ site_in (answered a)
+is_ok a site e = sym (ap (λ (x : Result Site Refusal). site_in (answered x)) e)
+
+pub status_ok : (a : Result Site Refusal) (site : Site) → a ≡ Ok site → 0 ≡ form_status a
+unfolding form_status
+status_ok a site e = sym (ap form_status e)
+
+pub is_err : (a : Result Site Refusal) (r : Refusal) → a ≡ Err r → site_of no_forms ≡ site_in (answered a)
+is_err a r e = sym (ap (λ (x : Result Site Refusal). site_in (answered x)) e)
+
+pub status_err : (a : Result Site Refusal) (r : Refusal) (n : ℕ) → a ≡ Err r → n ≡ refusal_number r → n ≡ form_status a
+unfolding form_status
+status_err a r n e h = h ∙ sym (ap form_status e)
+
 -- ── a refused text ──
-no-queries : flat_queries (site_of no_forms).queries ≡ zeros 656
+pub no-queries : flat_queries (site_of no_forms).queries ≡ zeros 656
 unfolding flat_queries site_of queries_of query_of query_numbers pattern_numbers end_numbers collect tabulate zeros
 no-queries = refl
+
+pub no-words : codes rdfs ≡ codes (site_of no_forms).words
+unfolding site_of
+no-words = refl
 
 -- nothing of a text is left
 record Nothing (list : List ℕ) (o : Outcome Site) (after : List ℕ) : Type 0 where

@@ -21,12 +21,12 @@ use flat_queries::{QUERIES_NUMBERS, QUERY_NUMBERS, put_queries, query_of};
 use intake_feeding::feed_lists;
 use intake_opening::open_counts;
 use intake_removing::remove_lists;
+use lists::rdfs_words;
 use look_up::look_up;
 use model::{Refusal, Triple, refusal_number};
 use roster::own_roster;
 use saturate::saturate;
-use site_form::Site;
-use site_reader::{no_site, read};
+use site_reader::read;
 use site_writer::write;
 use subject_lines::subject_part;
 use summarise::summarise;
@@ -316,17 +316,6 @@ pub extern "C" fn ws_write(
     counted_status(write(loaded, n, table, out), count)
 }
 
-// The status of a text that was read.
-#[tactic(auto, unfolding(crate::specs::Calls::form_status))]
-fn form_status(answer: Result<Site, Refusal>) -> u32
-    ensures { result ≡ form_status answer }
-{
-    match answer {
-        Ok(_) => 0,
-        Err(refusal) => refusal_number(refusal),
-    }
-}
-
 // Reads a text: its triples into the list, its queries into 16 flat ones, its reserved codes into five numbers, and N, the number of
 // triples and that of queries. Refused with 1 where there are not 656 numbers for the queries or not 5 for the codes. A query past those
 // of the text, and all that is lent after 8 and 5, is zero; the codes are then 0 to 4.
@@ -349,13 +338,22 @@ pub extern "C" fn ws_read(
         return refusal_number(Refusal::Length);
     }
     let answer = read(text, list);
-    let site = answer.unwrap_or(no_site());
-    *n = site.size;
-    *count = site.count;
-    *asks = site.asks;
-    let read_queries = site.queries;
-    put_queries(queries, read_queries);
-    let read_words = site.words;
-    put_words(words, read_words);
-    form_status(answer)
+    match &answer {
+        Ok(site) => {
+            *n = site.size;
+            *count = site.count;
+            *asks = site.asks;
+            put_queries(queries, site.queries);
+            put_words(words, site.words);
+            0
+        }
+        Err(refusal) => {
+            *n = 0;
+            *count = 0;
+            *asks = 0;
+            queries.fill(0);
+            put_words(words, rdfs_words());
+            refusal_number(*refusal)
+        }
+    }
 }

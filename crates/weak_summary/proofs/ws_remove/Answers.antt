@@ -1,6 +1,6 @@
 use mathlib.Core.Path.{refl}
 use Rattle.call_numbers.proofs.Words.{one, by-wrong, by_right}
-use Rattle.model.specs.Outcomes.{replied, outcome_by, outcome_of, reply}
+use Rattle.model.specs.Outcomes.{replied}
 use Rattle.weak_summary.proofs.ws_remove.Goals as goal
 
 pub returns-then-words-ne-WORDS_NUMBERS : goal.returns-then-words-ne-WORDS_NUMBERS
