@@ -106,7 +106,7 @@ extern "C" {
  * memcpy and memset when they are first called uses more at that time.
  */
 #define WS_STACK_ASK 24576     /* ws_ask */
-#define WS_STACK_READ 12288    /* ws_read */
+#define WS_STACK_READ 10240    /* ws_read */
 #define WS_STACK_SORTING 8192  /* ws_saturate, ws_summarise, ws_summarise_strong, ws_feed, ws_remove */
 #define WS_STACK_OTHERS 512    /* each other call */
 

@@ -49,30 +49,15 @@ fn chain(first: Triple, second: Triple, p: u32, q: u32, r: u32) -> Option<Triple
     )
 }
 
-// What a first and a second triple give by each rule.
-fn conclusions(words: Words, first: Triple, second: Triple) -> [Option<Triple>; 10] {
-    let subclass = words.subclass;
-    let subproperty = words.subproperty;
-    let domain = words.domain;
-    let range = words.range;
-    [
-        rdfs2(words, first, second),
-        rdfs3(words, first, second),
-        rdfs7(words, first, second),
-        rdfs9(words, first, second),
-        // Rule 3: a subproperty b, b subproperty c gives a subproperty c. Rule 6: the same with subclass.
-        chain(first, second, subproperty, subproperty, subproperty),
-        chain(first, second, subclass, subclass, subclass),
-        // Rule 7: a subproperty b, b domain c gives a domain c. Rule 9: a domain c, c subclass d gives a domain d.
-        chain(first, second, subproperty, domain, domain),
-        chain(first, second, domain, subclass, domain),
-        // Rule 8: a subproperty b, b range c gives a range c. Rule 10: a range c, c subclass d gives a range d.
-        chain(first, second, subproperty, range, range),
-        chain(first, second, range, subclass, range),
-    ]
+// Adds what a rule gives, if it gives something; how many triples there are then.
+fn add_some(list: &mut [u32], count: usize, given: Option<Triple>) -> Result<usize, Refusal> {
+    match given {
+        Some(t) => add(list, count, t),
+        None => Ok(count),
+    }
 }
 
-// Adds what two triples give by all rules.
+// Adds what a first and a second triple give by each rule.
 fn apply(
     words: Words,
     list: &mut [u32],
@@ -80,10 +65,31 @@ fn apply(
     first: Triple,
     second: Triple,
 ) -> Result<usize, Refusal> {
-    conclusions(words, first, second)
-        .into_iter()
-        .flatten()
-        .try_fold(count, |so_far, t| add(list, so_far, t))
+    let subclass = words.subclass;
+    let subproperty = words.subproperty;
+    let domain = words.domain;
+    let range = words.range;
+    let mut all = add_some(list, count, rdfs2(words, first, second))?;
+    all = add_some(list, all, rdfs3(words, first, second))?;
+    all = add_some(list, all, rdfs7(words, first, second))?;
+    all = add_some(list, all, rdfs9(words, first, second))?;
+    // Rule 3: a subproperty b, b subproperty c gives a subproperty c. Rule 6: the same with subclass.
+    all = add_some(
+        list,
+        all,
+        chain(first, second, subproperty, subproperty, subproperty),
+    )?;
+    all = add_some(
+        list,
+        all,
+        chain(first, second, subclass, subclass, subclass),
+    )?;
+    // Rule 7: a subproperty b, b domain c gives a domain c. Rule 9: a domain c, c subclass d gives a domain d.
+    all = add_some(list, all, chain(first, second, subproperty, domain, domain))?;
+    all = add_some(list, all, chain(first, second, domain, subclass, domain))?;
+    // Rule 8: a subproperty b, b range c gives a range c. Rule 10: a range c, c subclass d gives a range d.
+    all = add_some(list, all, chain(first, second, subproperty, range, range))?;
+    add_some(list, all, chain(first, second, range, subclass, range))
 }
 
 // One round over all pairs of the first `count` triples; how many there are then.

@@ -6,6 +6,9 @@ use super::words;
 use super::words::{free_code, plain_words, word_at};
 use model::Vocabulary;
 
+// The own roster of the paper's example, with N 14.
+pub const SIX_ROSTER: [u8; 14] = [0, 0, 0, 0, 0, 2, 2, 2, 1, 1, 0, 0, 0, 0];
+
 // N: mostly 8 to 24, now and then less.
 pub fn size(seed: u64) -> usize
     ensures { result ≤ 24 }

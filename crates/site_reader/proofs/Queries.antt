@@ -1,11 +1,11 @@
 -- The readers of a query and of the queries, pattern by pattern and line by line.
 -- Assumes nothing.
 use Prim.Native.Nat.{ℕ, suc, ◌+◌, ◌-◌, ◌<◌, ◌≤◌}
-use mathlib.Core.Path.{◌≡◌, sym, ◌∙◌, ap, subst}
+use mathlib.Core.Path.{◌≡◌, refl, sym, ◌∙◌, ap, subst}
 use mathlib.Core.List.{List, [], ◌∷◌, ◌++◌, map}
 use native.Mathlib.Numerals.{add-one}
 use native.Mathlib.Omega.{arith}
-use lib.ListN.{length, set, replicate, length-map}
+use lib.ListN.{length, set, replicate, length-map, length-replicate}
 use lib.Seq.{sets}
 use Rattle.query.specs.declared.Pattern.{Pattern}
 use Rattle.query.specs.declared.Query.{Query}
@@ -137,9 +137,28 @@ pub record Asking (text : List ℕ) (at : ℕ) (queries : List Query) (count i :
   pub gives : sets queries count (map query_of (items (many (16 - count) ask_reader text i))) ≡ sets (replicate 16 (query_of [])) 0 (map query_of (items (ask_lines text at)))
   pub ends : after (many (16 - count) ask_reader text i) ≡ after (ask_lines text at)
 
+-- the blank queries of no text
+no-queries : queries_of [] ≡ replicate 16 (query_of [])
+unfolding queries_of
+no-queries = refl
+
+pub sixteen : (queries : List Query) → queries ≡ queries_of [] → length queries ≡ 16
+sixteen queries e = ap length (e ∙ no-queries) ∙ length-replicate 16 (query_of [])
+
+pub blank-queries : (q : Query) → q ≡ query_of [] → replicate 16 q ≡ queries_of []
+blank-queries q e = ap (replicate 16) e ∙ sym no-queries
+
 module _ (text : List ℕ) (at : ℕ) where
+  pub asks_start : (queries : List Query) → queries ≡ queries_of [] → Asking text at queries 0 at
+  asks_start queries e = record {
+    few = omega arith;
+    counts = let e : 0 + length (items (ask_lines text at)) ≡ length (items (ask_lines text at)) = omega arith in e;
+    gives = ap (λ (qs : List Query). sets qs 0 (map query_of (items (ask_lines text at)))) (e ∙ no-queries);
+    ends = refl;
+  }
+
   module _ (queries : List Query) (count i : ℕ) (h : Asking text at queries count i) where
-    done : items (many (16 - count) ask_reader text i) ≡ [] → after (many (16 - count) ask_reader text i) ≡ i → AsksFrom text at (record { value = record { count = count; queries = queries }; next = i })
+    done : items (many (16 - count) ask_reader text i) ≡ [] → after (many (16 - count) ask_reader text i) ≡ i → AsksFrom text at (record { value = count; next = i }) queries
     unfolding queries_of
     done e f =
         let qs = items (ask_lines text at) in
@@ -155,16 +174,16 @@ module _ (text : List ℕ) (at : ℕ) where
               ∙ ap (λ (n : ℕ). map query_of qs ++ replicate (16 - n) (query_of [])) l;
         }
 
-    pub asks-full : 16 ≤ count → AsksFrom text at (record { value = record { count = 16; queries = queries }; next = i })
+    pub asks-full : 16 ≤ count → AsksFrom text at (record { value = 16; next = i }) queries
     asks-full e =
         let z : 16 - count ≡ 0 = omega arith in
         let k : count ≡ 16 = omega (arith, h.few) in
-        subst (λ (n : ℕ). AsksFrom text at (record { value = record { count = n; queries = queries }; next = i })) k
+        subst (λ (n : ℕ). AsksFrom text at (record { value = n; next = i }) queries) k
         (done
         (ap (λ (k : ℕ). items (many k ask_reader text i)) z ∙ items-none ask_reader text i)
         (ap (λ (k : ℕ). after (many k ask_reader text i)) z ∙ after_none ask_reader text i))
 
-    pub asks_stop : bad ≡ mapped query_of (ask_reader text i) → AsksFrom text at (record { value = record { count = count; queries = queries }; next = i })
+    pub asks_stop : bad ≡ mapped query_of (ask_reader text i) → AsksFrom text at (record { value = count; next = i }) queries
     asks_stop e =
         let b = mapped-bad query_of (ask_reader text i) e in
         done (items_stop ask_reader text i b (16 - count)) (after_stop ask_reader text i b (16 - count))

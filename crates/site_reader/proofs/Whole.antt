@@ -27,7 +27,6 @@ use Rattle.site_form.specs.Reading.{Step, bad, got, Reader, ◌>>=◌, give, opt
 use Rattle.site_form.specs.Reading.{Forms, forms, forms_reader, value, read_forms, query_of, queries_of, site_of, outcome_of, read_outcome}
 use Rattle.site_form.specs.Reading.{no_forms, site_in, read_site, read_list}
 use Rattle.site_form.proofs.Readers.{fails}
-use Rattle.site_reader.specs.declared.Asks.{Asks}
 use Rattle.site_tokens.specs.declared.Read.{Read}
 use Rattle.site_tokens.specs.Steps.{step, items, standing, behind}
 use Rattle.site_reader.specs.Queries.{ask_lines, AsksFrom}
@@ -77,7 +76,7 @@ module _ (text : List ℕ) where
   no_site e = ap value (fails _ _ text 0 e)
 
   module _ (n i : ℕ) (e : site_reader text 0 ≡ got n i) (r : Read Vocabulary) (hw : WordsFrom text i r) (l l' : List ℕ) (lines : Read ℕ)
-      (hl : LinesFrom text r.next l lines l') (asks : Read Asks) (ha : AsksFrom text lines.next asks) where
+      (hl : LinesFrom text r.next l lines l') (asks : Read ℕ) (qs : List Query) (ha : AsksFrom text lines.next asks qs) where
     abbrev said : Forms
     said = forms n (standing (some_words text i)) (items (triple_lines text r.next)) (items (ask_lines text lines.next))
 
@@ -127,26 +126,26 @@ module _ (text l : List ℕ) where
   read-no-site e = by_form text l (no_site text e) l refl
 
   module _ (n i : ℕ) (e : site_reader text 0 ≡ got n i) (w : Read Vocabulary) (hw : WordsFrom text i w) (l' : List ℕ) (lines : Read ℕ)
-      (hl : LinesFrom text w.next l lines l') (asks : Read Asks) (ha : AsksFrom text lines.next asks) where
+      (hl : LinesFrom text w.next l lines l') (asks : Read ℕ) (qs : List Query) (ha : AsksFrom text lines.next asks qs) where
     same_size : length l' ≡ length l
     same_size = ap length hl.list ∙ all-length l 0 (items (triple_lines text w.next))
 
     pub read_not_ended : text_end text asks.next ≡ bad → FormsRead text l (Err form-refusal) l'
-    read_not_ended h = by_form text l (not_ended text n i e w hw l l' lines hl asks ha h) l' same_size
+    read_not_ended h = by_form text l (not_ended text n i e w hw l l' lines hl asks qs ha h) l' same_size
 
     module _ (u : Unit {0}) (j : ℕ) (h : text_end text asks.next ≡ got u j) where
       pub read-no-slots : length l' / 3 < lines.value → FormsRead text l (Err slots-refusal) l'
       unfolding slots
       read-no-slots s =
           let z = same_size in
-          by_slots text l _ (ended text n i e w hw l l' lines hl asks ha u j h) (omega (arith, hl.count)) l' same_size
+          by_slots text l _ (ended text n i e w hw l l' lines hl asks qs ha u j h) (omega (arith, hl.count)) l' same_size
 
       pub read_all : lines.value ≤ length l' / 3 → (m : List ℕ) → Cleared l' m (3 * lines.value) (length l')
-          → FormsRead text l (Ok (record { size = n; words = w.value; count = lines.value; asks = asks.value.count; queries = asks.value.queries })) m
+          → FormsRead text l (Ok (record { size = n; words = w.value; count = lines.value; asks = asks.value; queries = qs })) m
       unfolding slots site_of
       read_all s m c =
           let z = same_size in
-          by_read text l _ (ended text n i e w hw l l' lines hl asks ha u j h) (omega (arith, hl.count)) _
+          by_read text l _ (ended text n i e w hw l l' lines hl asks qs ha u j h) (omega (arith, hl.count)) _
           (λ k. record { size = n; words = hw.words k; count = hl.count k; asks = ha.count k; queries = ha.queries k }) m
           (all_listed l l' m (items (triple_lines text w.next)) lines.value hl.count (omega arith) hl.list c)
           (c.size ∙ same_size)

@@ -44,7 +44,7 @@ pub record FormsRead (text l : List ℕ) (r : Result Site Refusal) (l' : List �
   pub list : OnOk r (l' ≡ read_list text l)
   pub size : length l' ≡ length l
 
--- what the call returns and leaves; on a refusal there is no site, for which `read_site` has that of no forms
+-- what the call returns and leaves. The site is what the code's `site_in` takes from the answer; with a refusal that is the site of no forms.
 pub record ReadCall (text l : List ℕ) (r : Result Site Refusal) (l' : List ℕ) : Type 0 where
   pub outcome : answered r ≡ read_outcome text l
   pub site : site_in (answered r) ≡ read_site text l

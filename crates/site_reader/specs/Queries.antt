@@ -5,7 +5,6 @@ use Rattle.query.specs.declared.Pattern.{Pattern}
 use Rattle.query.specs.declared.Query.{Query}
 use Rattle.site_form.specs.Text.{most_asks}
 use Rattle.site_form.specs.Reading.{Step, many, next_reader, ask_reader, query_of, queries_of}
-use Rattle.site_reader.specs.declared.Asks.{Asks}
 use Rattle.site_tokens.specs.declared.Read.{Read}
 use Rattle.site_tokens.specs.Steps.{items, after}
 
@@ -24,7 +23,7 @@ pub record PatternsFrom (text : List ℕ) (at : ℕ) (first : Pattern) (r : Read
 abbrev pub ask_lines : List ℕ → ℕ → Step (List (List Pattern))
 ask_lines text at = many most_asks ask_reader text at
 
-pub record AsksFrom (text : List ℕ) (at : ℕ) (r : Read Asks) : Type 0 where
-  pub count : r.value.count ≡ length (items (ask_lines text at))
+pub record AsksFrom (text : List ℕ) (at : ℕ) (r : Read ℕ) (left : List Query) : Type 0 where
+  pub count : r.value ≡ length (items (ask_lines text at))
   pub next : r.next ≡ after (ask_lines text at)
-  pub queries : r.value.queries ≡ queries_of (items (ask_lines text at))
+  pub queries : left ≡ queries_of (items (ask_lines text at))

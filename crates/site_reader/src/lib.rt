@@ -2,7 +2,7 @@
 #![tactic(auto)]
 
 ghost use Rattle.std.specs.Prelude.{◌≡◌, ◌<◌, []};
-ghost use Rattle.site_form.specs.Reading.{ask_reader, query_of, site_of, no_forms};
+ghost use Rattle.site_form.specs.Reading.{ask_reader, query_of, queries_of, site_of, no_forms, answered, site_in};
 ghost use Rattle.site_tokens.specs.Steps.{step, mapped};
 ghost use Rattle.site_reader.specs.Queries.{with_pattern, PatternsFrom, AsksFrom};
 ghost use Rattle.site_reader.specs.Calls.{WordsFrom, stored, LinesFrom, FormsRead, ReadCall};
@@ -12,13 +12,6 @@ use query::{Pattern, Query, blank_pattern};
 use site_form::{MOST_ASKS, MOST_LINES, Site};
 use site_parts::{next_pattern, site_line, triple_line, words_line};
 use site_tokens::{Read, line_end, text_end, word};
-
-// The queries of a text, and how many they are.
-#[derive(Clone, Copy)]
-pub struct Asks {
-    pub count: usize,
-    pub queries: [Query; MOST_ASKS],
-}
 
 // A query without patterns.
 fn blank_query() -> Query
@@ -84,25 +77,23 @@ fn ask_line(text: &[u8], at: usize) -> Option<Read<Query>>
     })
 }
 
-// The lines of queries that follow one another, up to 16.
-fn ask_lines(text: &[u8], at: usize) -> Read<Asks>
-    ensures { AsksFrom text.now at result }
+// The lines of queries that follow one another, up to 16: how many they are. The queries stand in the lent list, which is blank before.
+fn ask_lines(text: &[u8], at: usize, queries: &mut [Query]) -> Read<usize>
+    requires { queries.old ≡ queries_of [] }
+    ensures { AsksFrom text.now at result queries.new }
 {
-    let mut queries = [blank_query(); MOST_ASKS];
     let mut next = at;
     for count in 0..MOST_ASKS {
         let Some(line) = ask_line(text, next) else {
-            let value = Asks { count, queries };
-            return Read { value, next };
+            return Read { value: count, next };
         };
         queries[count] = line.value;
         next = line.next;
     }
-    let value = Asks {
-        count: MOST_ASKS,
-        queries,
-    };
-    Read { value, next }
+    Read {
+        value: MOST_ASKS,
+        next,
+    }
 }
 
 // The reserved codes: those of the line that stands here, or else 0 to 4.
@@ -149,19 +140,19 @@ fn read_forms(text: &[u8], list: &mut [u32]) -> Result<Site, Refusal>
     let size = site_line(text, 0).ok_or(Refusal::Form)?;
     let words = some_words(text, size.next);
     let lines = triple_lines(text, words.next, list);
-    let asks = ask_lines(text, lines.next);
+    let mut queries = [blank_query(); MOST_ASKS];
+    let asks = ask_lines(text, lines.next, &mut queries);
     text_end(text, asks.next).ok_or(Refusal::Form)?; // bytes behind the last form
     let n = list.len();
     if n / 3 < lines.value {
         return Err(Refusal::Slots);
     }
     lists::clear(list, 3 * lines.value, n);
-    let queries = asks.value.queries;
     Ok(Site {
         size: size.value,
         words: words.value,
         count: lines.value,
-        asks: asks.value.count,
+        asks: asks.value,
         queries,
     })
 }
@@ -176,4 +167,11 @@ pub fn read(text: &[u8], list: &mut [u32]) -> Result<Site, Refusal>
         list.fill(0);
     }
     answer
+}
+
+// The site of an answer: where it is a refusal, that of no text.
+pub fn site_in(answer: Result<Site, Refusal>) -> Site
+    ensures { result ≡ site_in (answered answer) }
+{
+    answer.unwrap_or(no_site())
 }

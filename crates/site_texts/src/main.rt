@@ -9,7 +9,7 @@ use printer::print_site;
 use query::{End, Pattern, Query};
 use read_full::read_full;
 use site_form::Site;
-use site_reader::{no_site, read};
+use site_reader::{read, site_in};
 use std::io;
 
 // The most triples that are shown of a text.
@@ -101,7 +101,7 @@ fn show_words(rt: &impl Print, words: Vocabulary) -> io::Result<()> {
 // triples and the queries.
 fn show_read(rt: &impl Print, text: &[u8], list: &mut [u32]) -> io::Result<()> {
     let answer = read(text, list);
-    let site = answer.unwrap_or(no_site());
+    let site = site_in(answer);
     let refused = match answer {
         Ok(_) => 0,
         Err(refusal) => long(refusal_number(refusal)),
