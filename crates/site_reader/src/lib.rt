@@ -173,5 +173,8 @@ pub fn read(text: &[u8], list: &mut [u32]) -> Result<Site, Refusal>
 pub fn site_in(answer: Result<Site, Refusal>) -> Site
     ensures { result ≡ site_in (answered answer) }
 {
-    answer.unwrap_or(no_site())
+    match answer {
+        Ok(site) => site,
+        Err(_) => no_site(),
+    }
 }
